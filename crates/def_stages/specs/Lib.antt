@@ -1,0 +1,6 @@
+-- Document 01, "Numbers and bounds", "Merging" and stages 1 to 5: what the records of a tree say.
+pub mod Component
+pub mod Concatenation
+pub mod Overall
+pub mod Ranges
+pub mod Text
