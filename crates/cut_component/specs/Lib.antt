@@ -1,0 +1,2 @@
+-- Stages 1 and 2 of a literal and of its pieces: stated in Statement, proved beside it.
+pub mod Statement

@@ -1,0 +1,2 @@
+-- Cutting a literal changes nothing: what is claimed stands in Statement, the proof and the witnesses beside it.
+pub mod Statement
