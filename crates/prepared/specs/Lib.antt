@@ -3,5 +3,6 @@ pub mod Bits
 pub mod Bytes
 pub mod Groups
 pub mod Lists
+pub mod Records
 pub mod Statement
 pub mod Tests
