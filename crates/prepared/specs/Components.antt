@@ -11,11 +11,11 @@ use Rattle.def_image.specs.Check.{sparesZero, checkIn, checkComponents}
 use Rattle.def_image.specs.Tree.{Node, recsOf, allRecs, textOf, literalsOf, packed, soundForest, depth, soundNode}
 use Rattle.prepared.specs.Statement.{entriesFrom, placedFrom}
 use Rattle.prepared.specs.Tests.{by-test, and-iff, leb-iff, eqb-apart, tested}
-use Rattle.prepared.specs.Lists.{length-tab, tab-add, append-split}
+use Rattle.prepared.specs.Lists.{length-tab, tab-add, append-split, all-append}
 use Rattle.prepared.specs.Bytes.{Holds, holds-left, holds-right, holds-getD}
 use Rattle.prepared.specs.Bits.{Bits, length-packed, packed-spare, bitsAt-holds}
 use Rattle.prepared.specs.Groups.{textOf-append, entries-append, length-entries, check-forest}
-use Rattle.prepared.specs.Records.{recs-read}
+use Rattle.prepared.specs.Records.{goodRec, recs-read, flat-good}
 
 abbrev pub lengths : List Node → List ℕ
 lengths = map (λ n. length (recsOf n))
@@ -43,6 +43,15 @@ sound-cons n ns h =
     let (a, b) = (and-iff (soundNode n) (all soundNode ns)) .0 h in
     (sound-parts n a, b)
 
+-- the records of sound nodes, m of them at most, are good
+pub recs-good : (m : ℕ) (ns : List Node) → all soundNode ns ≡ true → length (allRecs ns) ≤ m → all (goodRec m) (allRecs ns) ≡ true
+unfolding joined all
+recs-good m [] g l = refl
+recs-good m (n ∷ ns) g l =
+    let (g₁, g₂) = sound-cons n ns g in
+    let e = length-append (recsOf n) (allRecs ns) in
+    rw (all-append, flat-good (n .forest) m (g₁ .forest) (omega arith), recs-good m ns g₂ (omega arith))
+
 -- the entries of a first part, and of the rest
 pub entries-split : (f : ℕ → Entry) (r base : ℕ) (a b : List Rec) → tab f r (length (a ++ b)) ≡ entriesFrom base (a ++ b)
     → (tab f r (length a) ≡ entriesFrom base a) × (tab f (r + length a) (length b) ≡ entriesFrom (base + length (textOf a)) b)
@@ -52,7 +61,7 @@ entries-split f r base a b h =
     (sym (tab-add f r (length a) (length b)) ∙ ap (tab f r) (sym (length-append a b)) ∙ h ∙ entries-append base a b)
 
 -- records that begin at text start `base`
-start-read : (s : List ℕ) (r base : ℕ) (rs : List Rec) → 1 ≤ length rs → tab (entryAt s) r (length rs) ≡ entriesFrom base rs → startAt s r ≡ base
+pub start-read : (s : List ℕ) (r base : ℕ) (rs : List Rec) → 1 ≤ length rs → tab (entryAt s) r (length rs) ≡ entriesFrom base rs → startAt s r ≡ base
 unfolding tab entriesFrom
 start-read s r base [] l h = absurd (omega arith)
 start-read s r base (x ∷ rs) l h = ap (λ (es : List Entry). (getD es 0 (entryAt s r)) .start) h

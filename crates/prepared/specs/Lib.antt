@@ -5,6 +5,7 @@ pub mod Components
 pub mod Groups
 pub mod Layout
 pub mod Lists
+pub mod Prepared
 pub mod Records
 pub mod Statement
 pub mod Tables
