@@ -1,17 +1,18 @@
 -- The image of a tree that fits passes the check and reads back as the tree.
 use mathlib.Core.Path.{_≡_, refl, sym, ap, _∙_}
-use Prim.Native.Nat.{ℕ, zero, suc, _+_, _*_, _^_, _≤_, _<_}
-use native.Mathlib.Nat.{zero-add, add-zero}
+use Prim.Native.Nat.{ℕ, _+_, _*_, _^_, _≤_}
+use native.Mathlib.Nat.{add-zero}
 use native.Mathlib.Omega.{arith}
-use lib.ListN.{length-map, length-append}
+use lib.ListN.{length-map}
 use mathlib.Core.List.{map-map}
-use Rattle.def_numbers.specs.Prelude.{Bool, true, List, [], _∷_, _++_, map, length, getD, leb, ltb}
+use Rattle.def_numbers.specs.Prelude.{true, List, [], _∷_, map, length, getD, leb}
 use Rattle.def_numbers.specs.Basics.{ok, sum, all, joined, tab}
-use Rattle.def_image.specs.Image.{Rec, u32At, tablesFor, counts, tables, bytesAt, bytesFor, componentCount, recordCount, literalWidth, startAt, entryAt, componentsFrom, treeOf}
+use Rattle.def_numbers.specs.Limits.{limits}
+use Rattle.def_image.specs.Image.{Rec, kinds, u32At, tablesFor, counts, tables, bytesFor, componentCount, recordCount, literalWidth, startAt, entryAt, componentsFrom, treeOf}
 use Rattle.def_image.specs.Check.{countsRight, offsetsRight, entriesRight, sparesZero, checkComponents, checkImage}
-use Rattle.def_image.specs.Tree.{Tree, Node, recsOf, allRecs, textOf, literalsOf, packed, u32, imageOf, fits, soundNode}
-use Rattle.prepared.specs.Statement.{Bytes, entriesFrom, placedFrom, placedTree, ReadsBack, PassesCheck, ReadBack}
-use Rattle.prepared.specs.Tests.{leb-iff, eqb-iff, tested}
+use Rattle.def_image.specs.Tree.{end, word, group, flat, soundForest, depth, fits, Tree, Node, recsOf, allRecs, textOf, literalsOf, packed, u32, imageOf, soundNode}
+use Rattle.prepared.specs.Statement.{entriesFrom, placedFrom, placedTree, PassesCheck, ReadBack}
+use Rattle.prepared.specs.Tests.{leb-iff, tested}
 use Rattle.prepared.specs.Lists.{length-joined, all-map, all-of, all-parts, joined-some}
 use Rattle.prepared.specs.Bytes.{Holds, holds-left, holds-right, bytesAt-holds, u32At-holds}
 use Rattle.prepared.specs.Bits.{length-packed}
@@ -21,6 +22,7 @@ use Rattle.prepared.specs.Components.{lengths, widths, sound-parts, recs
 use Rattle.prepared.specs.Layout.{Fits, fits-parts, concatenationRow, componentRow, tablesOf, Layout, layout}
 use Rattle.prepared.specs.Written.{image-bytes}
 
+-- of a tree within the limits, and a byte string laid out as its image
 module _ (t : Tree) (f : Fits t) (s : List ℕ) (at : Layout t s) where
   -- ---- the header
 
@@ -47,14 +49,23 @@ module _ (t : Tree) (f : Fits t) (s : List ℕ) (at : Layout t s) where
   tables-is : tables s ≡ tablesOf t
   tables-is i = tablesFor (c-is i) (n-is i) (r-is i) (t-is i) (b-is i)
 
+  records-is : (tables s) .records ≡ (tablesOf t) .records
+  records-is = ap (λ tables. tables .records) tables-is
+
+  text-is : (tables s) .text ≡ (tablesOf t) .text
+  text-is = ap (λ tables. tables .text) tables-is
+
+  literals-is : (tables s) .literals ≡ (tablesOf t) .literals
+  literals-is = ap (λ tables. tables .literals) tables-is
+
   -- ---- the tables
 
   -- numbers of components
   sizes-read : tab (componentCount s) 0 (length t) ≡ map length t
   sizes-read =
-      rows-read 4 concatenationRow (λ a. refl) (λ c. leb (length c) 256) s 40 (u32At s) length
-      (λ i a g h. let b = (leb-iff (length a) 256) .0 g in u32At-holds s i (length a) h (omega arith)) 0 t
-      (all-parts (λ m. leb m 256) 256 t (λ m b. (leb-iff m 256) .1 b) (f .components)) (at .concatenations)
+      rows-read 4 concatenationRow (λ a. refl) (λ c. leb (length c) (limits .components)) s 40 (u32At s) length
+      (λ i a g h. let b = (leb-iff (length a) (limits .components)) .0 g in u32At-holds s i (length a) h (omega arith)) 0 t
+      (all-parts (λ m. leb m (limits .components)) (limits .components) t (λ m b. (leb-iff m (limits .components)) .1 b) (f .components)) (at .concatenations)
 
   components-at : Holds s ((tables s) .components + 8 * 0) (joined (map componentRow (joined t)))
   components-at = rw (c-is, add-zero) (at .components)
@@ -62,12 +73,12 @@ module _ (t : Tree) (f : Fits t) (s : List ℕ) (at : Layout t s) where
   -- numbers of records
   lengths-read : tab (recordCount s) 0 (length (joined t)) ≡ lengths (joined t)
   lengths-read =
-      rows-read 8 componentRow (λ a. refl) (λ n. leb (length (recsOf n)) 2048) s ((tables s) .components) (u32At s) (λ n. length (recsOf n))
+      rows-read 8 componentRow (λ a. refl) (λ n. leb (length (recsOf n)) (limits .records)) s ((tables s) .components) (u32At s) (λ n. length (recsOf n))
       (λ i a g h.
-      let b = (leb-iff (length (recsOf a)) 2048) .0 g in
+      let b = (leb-iff (length (recsOf a)) (limits .records)) .0 g in
       u32At-holds s i (length (recsOf a)) (holds-left s i (u32 (length (recsOf a))) (u32 (length (a .bits))) h) (omega arith)) 0 (joined t)
-      (rw (← all-map (λ (x : List Rec). leb (length x) 2048) recsOf (joined t))
-      (all-parts (λ m. leb m 2048) 2048 (map recsOf (joined t)) (λ m b. (leb-iff m 2048) .1 b) (f .records))) components-at
+      (rw (← all-map (λ (x : List Rec). leb (length x) (limits .records)) recsOf (joined t))
+      (all-parts (λ m. leb m (limits .records)) (limits .records) (map recsOf (joined t)) (λ m b. (leb-iff m (limits .records)) .1 b) (f .records))) components-at
 
   -- literal widths
   widths-read : tab (literalWidth s) 0 (length (joined t)) ≡ widths (joined t)
@@ -84,15 +95,15 @@ module _ (t : Tree) (f : Fits t) (s : List ℕ) (at : Layout t s) where
       let b = f .records in
       let b′ = f .text in
       entries-read s ((tablesOf t) .records) ((tablesOf t) .text) (length (allRecs (joined t))) (length (textOf (allRecs (joined t))))
-      (ap (λ tables. tables .records) tables-is) (ap (λ tables. tables .text) tables-is) r-is t-is (omega arith) (omega arith) 0 0 (allRecs (joined t))
+      records-is text-is r-is t-is (omega arith) (omega arith) 0 0 (allRecs (joined t))
       (recs-good (2 ^ 30) (joined t) (f .sound) (omega arith)) (omega arith) (omega arith) (rw add-zero (at .records)) (rw add-zero (at .text))
 
   text-at : Holds s ((tables s) .text) (textOf (allRecs (joined t)))
-  text-at = rw (ap (λ tables. tables .text) tables-is) (at .text)
+  text-at = rw text-is (at .text)
 
   components-are : componentsFrom s 0 0 0 (length (joined t)) ≡ placedFrom 0 (joined t)
   components-are =
-      components-read s ((tablesOf t) .text) ((tablesOf t) .literals) (ap (λ tables. tables .text) tables-is) (ap (λ tables. tables .literals) tables-is)
+      components-read s ((tablesOf t) .text) ((tablesOf t) .literals) text-is literals-is
       0 0 0 0 (joined t) (f .sound) entries-are lengths-read widths-read (rw add-zero (at .text)) (rw add-zero (at .literals))
 
   tree-is : treeOf s ≡ placedTree t
@@ -134,7 +145,7 @@ module _ (t : Tree) (f : Fits t) (s : List ℕ) (at : Layout t s) where
 
   spares-right : sparesZero s 0 (widths (joined t)) ≡ true
   spares-right =
-      spares-zero s ((tablesOf t) .text) ((tablesOf t) .literals) (ap (λ tables. tables .text) tables-is) (ap (λ tables. tables .literals) tables-is)
+      spares-zero s ((tablesOf t) .text) ((tablesOf t) .literals) text-is literals-is
       0 (joined t) (f .sound) (rw add-zero (at .literals))
 
   entries-right : entriesRight s ≡ true
@@ -147,7 +158,7 @@ module _ (t : Tree) (f : Fits t) (s : List ℕ) (at : Layout t s) where
         (
           (
             (((rw all-map (f .some-component), sym (length-joined t)), rw all-map all-some), records),
-            rw all-map (all-of soundNode (λ n. leb (length (n .bits)) 4096) (joined t) (λ n g. (leb-iff (length (n .bits)) 4096) .1 ((sound-parts n g) .width)) (f .sound)),
+            rw all-map (all-of soundNode (λ n. leb (length (n .bits)) (limits .width)) (joined t) (λ n g. (leb-iff (length (n .bits)) (limits .width)) .1 ((sound-parts n g) .width)) (f .sound)),
           ),
           literals,
         ),
@@ -168,6 +179,14 @@ module _ (t : Tree) (f : Fits t) (s : List ℕ) (at : Layout t s) where
       let size = at .size in
       let long : leb 40 (length s) ≡ true = (leb-iff 40 (length s)) .1 (omega arith) in
       rw (long, counts-right, offsets-right, entries-right, start-right) records-right
+
+-- a tree that meets the premise: `a(b)` with the three bits 101
+example : Tree
+example = (record { forest = word (97 ∷ []) (group (kinds .parenthesis) (word (98 ∷ []) end) end); bits = 1 ∷ 0 ∷ 1 ∷ [] } ∷ []) ∷ []
+
+example-fits : fits example ≡ true
+unfolding example fits joined all flat textOf packed sum tab soundForest depth
+example-fits = refl
 
 pub passes-check : PassesCheck
 passes-check t h = let f = fits-parts t h in passes t f (imageOf t) (layout t f)

@@ -1,11 +1,11 @@
 -- The image of a tree is a byte string.
 use mathlib.Core.Path.{_≡_, refl}
-use Prim.Native.Nat.{ℕ, zero, suc, _+_, _^_, _≤_}
+use Prim.Native.Nat.{ℕ, _+_, _^_}
 use native.Mathlib.Omega.{arith}
-use Rattle.def_numbers.specs.Prelude.{Bool, true, List, [], _∷_, _++_, map, length, leb, ltb}
+use Rattle.def_numbers.specs.Prelude.{true, List, [], _∷_, _++_, map, length, leb}
 use Rattle.def_numbers.specs.Basics.{all, joined}
 use Rattle.def_image.specs.Image.{Rec}
-use Rattle.def_image.specs.Tree.{Tree, Node, recsOf, allRecs, textOf, literalsOf, packed, u32, recordBytes, imageOf, soundNode}
+use Rattle.def_image.specs.Tree.{Tree, recsOf, allRecs, textOf, literalsOf, packed, u32, recordBytes, imageOf, soundNode}
 use Rattle.prepared.specs.Statement.{Bytes}
 use Rattle.prepared.specs.Tests.{tested}
 use Rattle.prepared.specs.Lists.{all-append}
