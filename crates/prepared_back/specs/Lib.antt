@@ -1,0 +1,3 @@
+-- Every image that passes the check is the image of a tree that fits: the proof of Statement's EveryImage, by topics.
+pub mod Answers
+pub mod Groups
