@@ -1,4 +1,5 @@
 -- Prepared images are trees written down: what is claimed stands in Statement, the proofs beside it.
+pub mod Bits
 pub mod Bytes
 pub mod Lists
 pub mod Statement

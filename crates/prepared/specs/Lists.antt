@@ -126,6 +126,14 @@ unfolding sum
 sum-append [] l = sym (zero-add (sum l))
 sum-append (x ∷ k) l = rw (sum-append k l, add-assoc)
 
+pub sum-tab-add : (g : ℕ → ℕ) (from n m : ℕ) → sum (tab g from (n + m)) ≡ sum (tab g from n) + sum (tab g (from + n) m)
+sum-tab-add g from n m = ap sum (tab-add g from n m) ∙ sum-append (tab g from n) (tab g (from + n) m)
+
+pub sum-tab-zero : (g : ℕ → ℕ) (from n : ℕ) → ((i : ℕ) → from ≤ i → g i ≡ 0) → sum (tab g from n) ≡ 0
+unfolding sum tab
+sum-tab-zero g from zero h = refl
+sum-tab-zero g from (suc n) h = rw (h from (omega arith), sum-tab-zero g (suc from) n (λ i l. h i (omega arith)))
+
 -- two lists that are as long in front
 pub append-split : {A : Type 0} (a b c d : List A) → length a ≡ length b → a ++ c ≡ b ++ d → (a ≡ b) × (c ≡ d)
 append-split [] [] c d l e = (refl, e)
