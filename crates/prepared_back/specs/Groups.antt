@@ -5,15 +5,16 @@ use Prim.Native.Nat.{_≤_, _<_}
 use native.Mathlib.Omega.{arith}
 use lib.ListN.{length-take, length-drop, length-map}
 use lib.Seq.{drop-cons, split-at, length-take-le}
+use borrow.Author.Tests.{lt-ltb}
 use Rattle.def_numbers.specs.Prelude.{ℕ, zero, suc, _+_, _-_, max, Bool, true, false, _&&_, not, List, [], _∷_, _++_, map, length, getD, take, drop, leb, ltb, eqb}
-use Rattle.def_numbers.specs.Basics.{Result, ok, _>>=_, isEmpty, all}
+use Rattle.def_numbers.specs.Basics.{Result, ok, _>>=_, if_then_else_, isEmpty, all}
 use Rattle.def_numbers.specs.Limits.{limits}
 use Rattle.def_numbers.specs.Refusals.{need, bad-record, too-deep}
 use Rattle.def_image.specs.Image.{Entry, Rec, kinds, opens, delimiter}
 use Rattle.def_image.specs.Check.{checkIn, noEntry, textRight, delimiterRight, wordRight, insideOf, closerOf, afterOf, openRight, closeRight}
 use Rattle.def_image.specs.Tree.{Forest, end, word, group, flat, soundForest, depth}
 use Rattle.prepared.specs.Statement.{Bytes}
-use Rattle.prepared.specs.Tests.{by-test, and-iff, leb-iff, tested}
+use Rattle.prepared.specs.Tests.{by-test, and-iff, leb-iff, eqb-iff, tested}
 use Rattle.prepared.specs.Lists.{all-getD, all-append, map-append}
 use Rattle.prepared_back.specs.Answers.{bind-ok, need-ok, all-take, all-drop}
 
@@ -21,9 +22,9 @@ use Rattle.prepared_back.specs.Answers.{bind-ok, need-ok, all-take, all-
 abbrev pub recOf : List ℕ → Entry → Rec
 recOf text e = record { kind = e .kind; text = take (e .stop - e .start) (drop (e .start) text); skip = e .skip }
 
--- an entry's byte is the text's byte at its start
+-- an entry that starts in the text has the text's byte there
 abbrev pub byteRight : List ℕ → Entry → Bool
-byteRight text e = eqb (e .byte) (getD text (e .start) 0)
+byteRight text e = if ltb (e .start) (length text) then eqb (e .byte) (getD text (e .start) 0) else true
 
 pub record Built (text : List ℕ) (above : ℕ) (es : List Entry) : Type 0 where
   pub forest : Forest
@@ -63,7 +64,7 @@ in-text text e h = simp tested h
 -- an entry of one byte has that byte for its text
 one-byte : (text : List ℕ) (b : ℕ) (e : Entry) → byteRight text e ≡ true → InText text e → (e .stop ≡ e .start + 1) × (e .byte ≡ b) → (recOf text e) .text ≡ b ∷ []
 one-byte text b e h (q, r) (s, t) =
-    let p : e .byte ≡ getD text (e .start) 0 = simp tested at h in
+    let p = (eqb-iff (e .byte) (getD text (e .start) 0)) .0 (rw (lt-ltb (e .start) (length text) q) at h) in
     let one : e .stop - e .start ≡ 1 = omega arith in
     rw (one, drop-cons text (e .start) 0 q, ← p, t)
 

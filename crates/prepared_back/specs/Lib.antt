@@ -2,4 +2,6 @@
 pub mod Answers
 pub mod Cuts
 pub mod Groups
+pub mod Literals
+pub mod Nodes
 pub mod Texts
