@@ -1,6 +1,7 @@
 -- Prepared images are trees written down: what is claimed stands in Statement, the proofs beside it.
 pub mod Bits
 pub mod Bytes
+pub mod Groups
 pub mod Lists
 pub mod Statement
 pub mod Tests
