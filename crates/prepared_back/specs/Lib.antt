@@ -4,4 +4,6 @@ pub mod Cuts
 pub mod Groups
 pub mod Literals
 pub mod Nodes
+pub mod Tables
 pub mod Texts
+pub mod Whole
