@@ -64,6 +64,9 @@ module _ (image : List ℕ) (c n r t b : ℕ) where
   abbrev pub text : List ℕ
   text = cut image (40 + 4 * c + 8 * n + 12 * r) t
 
+  pub text-size : length image ≡ (tablesFor c n r t b) .stop → length text ≡ t
+  text-size e = length-cut image (40 + 4 * c + 8 * n + 12 * r) t (omega arith)
+
   -- what the check says of them
   pub record Checked : Type 0 where
     pub stop : length image ≡ (tablesFor c n r t b) .stop
@@ -98,9 +101,6 @@ module _ (image : List ℕ) (c n r t b : ℕ) where
   fitting k tree w some sound = rw (w .counts .0, w .counts .1, w .counts .2, w .counts .3, w .counts .4) (simp tested ((((((k .concatenations, some), k .components), k .records .1), k .text-bytes), k .literal-bytes), sound))
 
   module _ (bytes : Bytes image) (k : Checked) where
-    text-size : length text ≡ t
-    text-size = length-cut image (40 + 4 * c + 8 * n + 12 * r) t (let e = k .stop in omega arith)
-
     text-right : Bytes text
     text-right = all-take (λ b. ltb b 256) t (drop (40 + 4 * c + 8 * n + 12 * r) image) (all-drop (λ b. ltb b 256) (40 + 4 * c + 8 * n + 12 * r) image bytes)
 
@@ -110,7 +110,7 @@ module _ (image : List ℕ) (c n r t b : ℕ) where
         (λ i. byte-right image (40 + 4 * c + 8 * n + 12 * r) t (start i)) n 0 0 0 (rw (k .all-literals, k .stop) (omega arith)) (k .passed)
 
     chain : Chained (λ i. u32At image (40 + 4 * c + 8 * n + 12 * i)) start (λ i. u32At image (40 + 4 * c + 8 * n + 12 * i + 8)) (λ i. getD image (40 + 4 * c + 8 * n + 12 * r + start i) 0) r t text 0 r
-    chain = chained _ _ _ _ r t text text-size r 0 (zero-add r) (rw (text-size, k .all-records) at (nodes .texts))
+    chain = chained _ _ _ _ r t text (text-size (k .stop)) r 0 (zero-add r) (rw (text-size (k .stop), k .all-records) at (nodes .texts))
 
     tree : Tree
     tree = parts (tab size 0 c) (nodes .nodes)
@@ -138,7 +138,7 @@ module _ (image : List ℕ) (c n r t b : ℕ) where
     tables-written : Written tree
     tables-written =
         record {
-          counts = (sym (length-map tree length) ∙ ap length all-sizes ∙ length-tab size 0 c, ap length all-nodes ∙ nodes .number, ap length all-recs ∙ length-map (tab entries 0 r) (recOf text) ∙ length-tab entries 0 r, ap length text-written ∙ text-size, ap length literals-written ∙ length-cut image (40 + 4 * c + 8 * n + 12 * r + t) b (let e = k .stop in omega arith));
+          counts = (sym (length-map tree length) ∙ ap length all-sizes ∙ length-tab size 0 c, ap length all-nodes ∙ nodes .number, ap length all-recs ∙ length-map (tab entries 0 r) (recOf text) ∙ length-tab entries 0 r, ap length text-written ∙ text-size (k .stop), ap length literals-written ∙ length-cut image (40 + 4 * c + 8 * n + 12 * r + t) b (let e = k .stop in omega arith));
           concatenations =
               ap joined (sym (map-map u32 length tree) ∙ ap (map u32) all-sizes ∙ map-tab u32 size 0 c) ∙ singles image bytes 40 c (let e = k .stop in omega arith);
           components = rw all-nodes (nodes .table) ∙ pairs image bytes (40 + 4 * c) n (let e = k .stop in omega arith);
