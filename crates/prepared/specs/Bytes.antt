@@ -80,6 +80,10 @@ u32At-holds s i n h b = u32At-drop s i ∙ rw (h .1) (bytes-u32 n b)
 pub u32At-seam : (a : List ℕ) (n : ℕ) (b : List ℕ) (i : ℕ) → length a ≡ i → n < 2 ^ 32 → u32At (a ++ (u32 n ++ b)) i ≡ n
 u32At-seam a n b i e l = u32At-holds (a ++ (u32 n ++ b)) i n (holds-seam a (u32 n) b i e) l
 
+-- a number, and what stands behind it
+pub u32At-next : (s : List ℕ) (i n : ℕ) (rest : List ℕ) → Holds s i (u32 n ++ rest) → n < 2 ^ 32 → (u32At s i ≡ n) × Holds s (i + 4) rest
+u32At-next s i n rest h b = (u32At-holds s i n (holds-left s i (u32 n) rest h) b, holds-right s i (u32 n) rest h)
+
 pub u32-bytes : (n : ℕ) → Bytes (u32 n)
 unfolding all
 u32-bytes n = simp tested (omega arith, (omega arith, (omega arith, (omega arith, refl))))

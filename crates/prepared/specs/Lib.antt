@@ -2,6 +2,9 @@
 pub mod Bits
 pub mod Bytes
 pub mod Groups
+pub mod Layout
 pub mod Lists
+pub mod Records
 pub mod Statement
+pub mod Tables
 pub mod Tests

@@ -1,6 +1,6 @@
 -- Tests that came out true, as facts: conjunctions, and comparisons of numbers.
 use mathlib.Core.Path.{_≡_, refl, ap, subst}
-use mathlib.Core.Logic.{_↔_}
+use mathlib.Core.Logic.{_↔_, _≢_}
 use Prim.Native.Nat.{ℕ, zero, suc, _≤_, _<_}
 use native.Mathlib.Omega.{arith}
 use lib.Dec.{T, leb→le, le→leb, eqb→eq, eqb-refl}
@@ -26,6 +26,9 @@ leb-iff m n = (λ h. leb→le m n (T-of (leb m n) h), λ h. of-T (leb m n) (le�
 
 pub eqb-iff : (m n : ℕ) → (eqb m n ≡ true) ↔ (m ≡ n)
 eqb-iff m n = (λ h. eqb→eq m n (T-of (eqb m n) h), λ h. of-T (eqb m n) (rw h (eqb-refl n)))
+
+pub eqb-false : (m n : ℕ) → m ≢ n → eqb m n ≡ false
+eqb-false m n h = by-test (eqb m n) (λ t. absurd (h ((eqb-iff m n) .0 t))) (λ t. t)
 
 -- a conjunction of comparisons, as the product of what it says
 pub ruleset tested = (and-iff, leb-iff, eqb-iff)
