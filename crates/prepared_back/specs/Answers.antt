@@ -1,7 +1,7 @@
 -- What an answer `ok` says of the steps that gave it, and tests over all of a list.
 use mathlib.Core.Path.{_≡_, refl}
 use native.Mathlib.Omega.{arith}
-use Rattle.def_numbers.specs.Prelude.{ℕ, zero, suc, Bool, true, false, _&&_, List, [], _∷_, take, drop}
+use Rattle.def_numbers.specs.Prelude.{ℕ, zero, suc, Bool, true, false, List, [], _∷_, take, drop}
 use Rattle.def_numbers.specs.Basics.{Result, ok, refused, _>>=_, all, tab}
 use Rattle.def_numbers.specs.Refusals.{Reason, need}
 use Rattle.prepared.specs.Tests.{and-iff}

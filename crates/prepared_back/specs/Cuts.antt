@@ -1,11 +1,11 @@
 -- Parts of a byte string that stand back to back, and tables of equal parts.
-use mathlib.Core.Path.{_≡_, refl, sym, ap, _∙_}
+use mathlib.Core.Path.{_≡_, ap, _∙_}
 use Prim.Native.Nat.{_≤_, _<_}
 use native.Mathlib.Nat.{mul-zero}
 use native.Mathlib.Omega.{arith}
 use lib.ListN.{length-take, length-drop}
 use lib.Seq.{take-add, drop-drop}
-use Rattle.def_numbers.specs.Prelude.{ℕ, zero, suc, _+_, _*_, List, [], _∷_, _++_, length, take, drop}
+use Rattle.def_numbers.specs.Prelude.{ℕ, zero, suc, _+_, _*_, List, _++_, length, take, drop}
 use Rattle.def_numbers.specs.Basics.{joined, tab}
 
 module _ {A : Type 0} where

@@ -1,19 +1,18 @@
 -- Every byte string that passes the image check is the image of a tree that fits.
-use mathlib.Core.Path.{_≡_, refl, sym, ap, _∙_}
+use mathlib.Core.Path.{_≡_, refl}
 use Prim.Native.Nat.{_≤_, _<_}
 use native.Mathlib.Omega.{arith}
 use borrow.Author.Tests.{ne-eqb}
-use Rattle.def_numbers.specs.Prelude.{ℕ, zero, suc, _+_, _*_, _/_, _%_, _^_, Bool, true, false, _&&_, List, [], _∷_, map, length, getD, take, leb, ltb, eqb}
-use Rattle.def_numbers.specs.Basics.{Result, ok, _>>=_, if_then_else_, within, sum, all, joined, tab}
+use Rattle.def_numbers.specs.Prelude.{ℕ, zero, suc, _+_, _/_, _%_, _^_, Bool, true, _&&_, List, [], _∷_, _++_, map, length, getD, take, leb, ltb, eqb}
+use Rattle.def_numbers.specs.Basics.{ok, if_then_else_, within, sum, all, joined, tab}
 use Rattle.def_numbers.specs.Limits.{limits}
 use Rattle.def_numbers.specs.Refusals.{short-image, bad-count, bad-offset, bad-entry, bad-record}
-use Rattle.def_image.specs.Image.{u32At, bytesFor, counts, tables, componentCount, recordCount, literalWidth, startAt, entryAt}
+use Rattle.def_image.specs.Image.{u32At, bytesFor, counts, tables, recordCount, literalWidth, startAt, entryAt}
 use Rattle.def_image.specs.Check.{countsRight, offsetsRight, sparesZero, entriesRight, checkIn, checkComponents, checkImage}
 use Rattle.def_image.specs.Tree.{u32}
 use Rattle.prepared.specs.Statement.{Bytes, EveryImage}
 use Rattle.prepared.specs.Tests.{and-iff, leb-iff, eqb-iff, tested}
 use Rattle.prepared_back.specs.Answers.{bind-ok, need-ok}
-use Rattle.prepared_back.specs.Cuts.{cut, length-cut}
 use Rattle.prepared_back.specs.Nodes.{AllPassed}
 use Rattle.prepared_back.specs.Tables.{singles}
 use Rattle.prepared_back.specs.Whole.{text-size, Checked, built-tree}
@@ -24,14 +23,16 @@ module _ (image : List ℕ) where
       → (0 < w % 8 → getD image ((tables image) .literals + l + w / 8) 0 < 2 ^ (w % 8)) × (sparesZero image (l + bytesFor w) ws ≡ true)
   unfolding sparesZero
   spare-step l w ws h =
-      let (p, rest) = (and-iff (if eqb (w % 8) 0 then true else ltb (getD image ((tables image) .literals + l + w / 8) 0) (2 ^ (w % 8))) (sparesZero image (l + bytesFor w) ws)) .0 h in
-      (λ some. (leb-iff (suc (getD image ((tables image) .literals + l + w / 8) 0)) (2 ^ (w % 8))) .0 (rw (ne-eqb (w % 8) 0 (λ e. omega arith)) at p), rest)
+      let last = getD image ((tables image) .literals + l + w / 8) 0 in
+      let (p, rest) = (and-iff (if eqb (w % 8) 0 then true else ltb last (2 ^ (w % 8))) (sparesZero image (l + bytesFor w) ws)) .0 h in
+      (λ some. (leb-iff (suc last) (2 ^ (w % 8))) .0 (rw (ne-eqb (w % 8) 0 (λ e. omega arith)) at p), rest)
 
   component-step : (r n : ℕ) (ns : List ℕ) → checkComponents image r (n ∷ ns) ≡ ok tt
       → (checkIn ((counts image) .t) n (tab (entryAt image) r n) 0 ≡ ok tt) × (checkComponents image (r + n) ns ≡ ok tt)
   unfolding checkComponents
   component-step r n ns h = let (_, p, q) = bind-ok (checkIn ((counts image) .t) n (tab (entryAt image) r n) 0) _ h in (p, q)
 
+  -- so the check of all components is one of each
   all-passed : (text : List ℕ) → length text ≡ (counts image) .t → (n k r l : ℕ)
       → checkComponents image r (tab (recordCount image) k n) ≡ ok tt → all (leb 1) (tab (recordCount image) k n) ≡ true
       → all (λ w. leb w (limits .width)) (tab (literalWidth image) k n) ≡ true → sparesZero image l (tab (literalWidth image) k n) ≡ true
@@ -39,23 +40,29 @@ module _ (image : List ℕ) where
   unfolding tab all
   all-passed text size zero k r l walk some narrow spares = tt
   all-passed text size (suc n) k r l walk some narrow spares =
-      let (p, walk′) = component-step r (recordCount image k) (tab (recordCount image) (suc k) n) walk in
-      let (q, spares′) = spare-step l (literalWidth image k) (tab (literalWidth image) (suc k) n) spares in
-      let (s, some′) = (and-iff (leb 1 (recordCount image k)) (all (leb 1) (tab (recordCount image) (suc k) n))) .0 some in
-      let (w, narrow′) = (and-iff (leb (literalWidth image k) (limits .width)) (all (λ w. leb w (limits .width)) (tab (literalWidth image) (suc k) n))) .0 narrow in (
-        record { some-records = (leb-iff 1 (recordCount image k)) .0 s; records = rw size p; narrow = (leb-iff (literalWidth image k) (limits .width)) .0 w; spare = q },
-        all-passed text size n (suc k) (r + recordCount image k) (l + bytesFor (literalWidth image k)) walk′ some′ narrow′ spares′,
+      let count = recordCount image k in
+      let width = literalWidth image k in
+      let counts′ = tab (recordCount image) (suc k) n in
+      let widths′ = tab (literalWidth image) (suc k) n in
+      let (p, walk′) = component-step r count counts′ walk in
+      let (q, spares′) = spare-step l width widths′ spares in
+      let (s, some′) = (and-iff (leb 1 count) (all (leb 1) counts′)) .0 some in
+      let (w, narrow′) = (and-iff (leb width (limits .width)) (all (λ w. leb w (limits .width)) widths′)) .0 narrow in (
+        record { some-records = (leb-iff 1 count) .0 s; records = rw size p; narrow = (leb-iff width (limits .width)) .0 w; spare = q },
+        all-passed text size n (suc k) (r + count) (l + bytesFor width) walk′ some′ narrow′ spares′,
       )
 
   -- the header is what its numbers write
-  head-of : Bytes image → 40 ≤ length image → (a b c d e : ℕ) → u32At image 20 ≡ a → u32At image 24 ≡ b → u32At image 28 ≡ c → u32At image 32 ≡ d → u32At image 36 ≡ e
+  head-of : Bytes image → 40 ≤ length image
+      → (a b c d e : ℕ) → u32At image 20 ≡ a → u32At image 24 ≡ b → u32At image 28 ≡ c → u32At image 32 ≡ d → u32At image 36 ≡ e
       → joined (map u32 (u32At image 0 ∷ u32At image 4 ∷ u32At image 8 ∷ u32At image 12 ∷ u32At image 16 ∷ a ∷ b ∷ c ∷ d ∷ e ∷ [])) ≡ take 40 image
   unfolding joined tab
   head-of bytes long a b c d e p q r s t = rw (← p, ← q, ← r, ← s, ← t) (singles image bytes 0 10 long)
 
-counts-say : (c n r t b : ℕ) → (within 1 (limits .concatenations) c && within 1 (limits .components) n && within 1 (limits .records) r && within 1 (limits .text) t && leb b (limits .literal-bytes)) ≡ true
-    → (((((1 ≤ c) × (c ≤ limits .concatenations)) × ((1 ≤ n) × (n ≤ limits .components))) × ((1 ≤ r) × (r ≤ limits .records))) × ((1 ≤ t) × (t ≤ limits .text))) × (b ≤ limits .literal-bytes)
-counts-say c n r t b h = simp tested at h
+-- the three conjunctions of tests, over plain numbers
+counts-say : (c n r t b c′ n′ r′ t′ b′ : ℕ) → (within 1 c′ c && within 1 n′ n && within 1 r′ r && within 1 t′ t && leb b b′) ≡ true
+    → (((((1 ≤ c) × (c ≤ c′)) × ((1 ≤ n) × (n ≤ n′))) × ((1 ≤ r) × (r ≤ r′))) × ((1 ≤ t) × (t ≤ t′))) × (b ≤ b′)
+counts-say c n r t b c′ n′ r′ t′ b′ h = simp tested at h
 
 offsets-say : (a b c d e f a′ b′ c′ d′ e′ f′ : ℕ) → (eqb a a′ && eqb b b′ && eqb c c′ && eqb d d′ && eqb e e′ && eqb f f′) ≡ true
     → (((((a ≡ a′) × (b ≡ b′)) × (c ≡ c′)) × (d ≡ d′)) × (e ≡ e′)) × (f ≡ f′)
@@ -84,14 +91,17 @@ all-tested image h =
     let (f, w) = need-ok (eqb (startAt image 0) 0) bad-record _ h₄ in
     record { long = p; counted = q; placed = o; entered = e; first = f; walked = w }
 
-checked : (image : List ℕ) → Bytes image → Tested image → Checked image ((counts image) .c) ((counts image) .n) ((counts image) .r) ((counts image) .t) ((counts image) .b)
+checked : (image : List ℕ) → Bytes image → Tested image → let h = counts image in Checked image (h .c) (h .n) (h .r) (h .t) (h .b)
 checked image bytes k =
-    let q = counts-say _ _ _ _ _ (k .counted) in
+    let h = counts image in
+    let q = counts-say _ _ _ _ _ _ _ _ _ _ (k .counted) in
     let o = offsets-say _ _ _ _ _ _ _ _ _ _ _ _ (k .placed) in
     let e = entries-say _ _ _ _ _ _ _ _ _ _ (k .entered) in
     record {
       stop = o .1;
-      head = head-of image bytes ((leb-iff 40 (length image)) .0 (k .long)) _ _ _ _ _ (o .0 .0 .0 .0 .0) (o .0 .0 .0 .0 .1) (o .0 .0 .0 .1) (o .0 .0 .1) (o .0 .1);
+      head =
+          head-of image bytes ((leb-iff 40 (length image)) .0 (k .long)) _ _ _ _ _
+          (o .0 .0 .0 .0 .0) (o .0 .0 .0 .0 .1) (o .0 .0 .0 .1) (o .0 .0 .1) (o .0 .1);
       concatenations = q .0 .0 .0 .0;
       components = q .0 .0 .0 .1 .1;
       records = q .0 .0 .1;
@@ -102,10 +112,18 @@ checked image bytes k =
       all-records = e .0 .0 .0 .1;
       all-literals = e .0 .1;
       first = (eqb-iff (startAt image 0) 0) .0 (k .first);
-      passed = all-passed image _ (text-size image ((counts image) .c) ((counts image) .n) ((counts image) .r) ((counts image) .t) ((counts image) .b) (o .1)) ((counts image) .n) 0 0 0 (k .walked) (e .0 .0 .0 .0 .1) (e .0 .0 .1) (e .1);
+      passed =
+          all-passed image _ (text-size image (h .c) (h .n) (h .r) (h .t) (h .b) (o .1)) (h .n) 0 0 0 (k .walked) (e .0 .0 .0 .0 .1) (e .0 .0 .1) (e .1);
     }
 
 pub every-image : EveryImage
-every-image image bytes h =
-    built-tree image ((counts image) .c) ((counts image) .n) ((counts image) .r) ((counts image) .t) ((counts image) .b) bytes
-    (checked image bytes (all-tested image h))
+every-image image bytes passes =
+    let h = counts image in
+    built-tree image (h .c) (h .n) (h .r) (h .t) (h .b) bytes (checked image bytes (all-tested image passes))
+
+-- a byte string that meets the premises: one component `(a)` with a literal of three bits
+witness : let image =
+    joined (map u32 (1 ∷ 1 ∷ 3 ∷ 3 ∷ 1 ∷ 40 ∷ 44 ∷ 52 ∷ 88 ∷ 91 ∷ 1 ∷ 3 ∷ 3 ∷ 2 ∷ 0 ∷ 3 ∷ 0 ∷ 1 ∷ 1 ∷ 5 ∷ 2 ∷ 1 ∷ [])) ++ 40 ∷ 97 ∷ 41 ∷ 5 ∷ [] in
+    Bytes image × (checkImage image ≡ ok tt)
+unfolding joined all tab sum sparesZero checkIn checkComponents checkImage
+witness = (refl, refl)

@@ -1,16 +1,16 @@
 -- A literal's bits, packed again, are its bytes, since its spare bits are zero.
-use mathlib.Core.Path.{_≡_, refl, sym, ap, _∙_}
+use mathlib.Core.Path.{_≡_, sym, ap, _∙_}
 use Prim.Native.Nat.{_≤_, _<_}
 use native.Mathlib.Nat.{zero-add, div-eq-of-lt, pow-le-pow-right, lt-of-lt-of-le}
 use native.Mathlib.Omega.{arith}
 use lib.Seq.{getD-drop}
 use lib.ListN.{List·getD-eq-default}
-use Rattle.def_numbers.specs.Prelude.{ℕ, zero, suc, _+_, _*_, _/_, _%_, _^_, Bool, true, false, List, [], _∷_, length, getD, take, drop, ltb, eqb}
-use Rattle.def_numbers.specs.Basics.{if_then_else_, sum, all, tab}
+use Rattle.def_numbers.specs.Prelude.{ℕ, suc, _+_, _*_, _/_, _%_, _^_, List, length, getD, drop, ltb}
+use Rattle.def_numbers.specs.Basics.{sum}
 use Rattle.def_image.specs.Image.{bytesFor, bitsAt}
 use Rattle.def_image.specs.Tree.{byteOf, packed}
 use Rattle.prepared.specs.Statement.{Bytes}
-use Rattle.prepared.specs.Tests.{by-test, leb-iff, eqb-iff, tested}
+use Rattle.prepared.specs.Tests.{by-test, leb-iff}
 use Rattle.prepared.specs.Lists.{length-tab, getD-tab, tab-shift, tab-ext, tab-getD}
 use Rattle.prepared.specs.Bytes.{byte-at}
 use Rattle.prepared.specs.Bits.{Bits, byte-of-bits}
@@ -52,7 +52,8 @@ module _ (s : List ℕ) (at w : ℕ) (bytes : Bytes s) (fits : at + bytesFor w �
       byte-right : (q : ℕ) → q < bytesFor w → byteOf (bitsAt s at w) q ≡ getD s (at + q) 0
       byte-right q h =
           let b : ℕ = getD s (at + q) 0 in
-          ap sum (tab-ext (λ j. getD (bitsAt s at w) (8 * q + j) 0 * 2 ^ j) (λ j. b / 2 ^ j % 2 * 2 ^ j) 0 8 (λ j _ l. rw (bit-right q j h (omega arith))))
+          ap sum
+          (tab-ext (λ j. getD (bitsAt s at w) (8 * q + j) 0 * 2 ^ j) (λ j. b / 2 ^ j % 2 * 2 ^ j) 0 8 (λ j _ l. rw (bit-right q j h (omega arith))))
           ∙ byte-of-bits b (byte-at s (at + q) bytes (omega arith))
 
 pub bitsAt-bits : (s : List ℕ) (at w : ℕ) → Bits (bitsAt s at w)

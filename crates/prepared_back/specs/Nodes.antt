@@ -1,18 +1,17 @@
 -- The components of an image that passes the check are the nodes of a tree.
-use mathlib.Core.Path.{_≡_, refl, sym, ap, _∙_}
+use mathlib.Core.Path.{_≡_, refl, ap, _∙_}
 use Prim.Native.Nat.{_≤_, _<_}
 use native.Mathlib.Nat.{add-assoc}
 use native.Mathlib.Omega.{arith}
 use lib.ListN.{length-map}
-use lib.Seq.{take-nil}
-use Rattle.def_numbers.specs.Prelude.{ℕ, zero, suc, _+_, _*_, _/_, _%_, _^_, Bool, true, false, _&&_, List, [], _∷_, _++_, map, length, getD, take, drop, leb, ltb, eqb}
-use Rattle.def_numbers.specs.Basics.{Result, ok, if_then_else_, sum, all, joined, tab}
+use Rattle.def_numbers.specs.Prelude.{ℕ, zero, suc, _+_, _/_, _%_, _^_, true, List, [], _∷_, _++_, map, length, getD}
+use Rattle.def_numbers.specs.Basics.{ok, sum, all, joined, tab}
 use Rattle.def_numbers.specs.Limits.{limits}
-use Rattle.def_image.specs.Image.{Entry, Rec, bytesFor, bitsAt}
+use Rattle.def_image.specs.Image.{Entry, bytesFor, bitsAt}
 use Rattle.def_image.specs.Check.{checkIn, textRight}
-use Rattle.def_image.specs.Tree.{Node, recsOf, allRecs, literalsOf, packed, u32, soundForest, depth, soundNode}
+use Rattle.def_image.specs.Tree.{Node, recsOf, allRecs, literalsOf, u32, soundForest, depth, soundNode}
 use Rattle.prepared.specs.Statement.{Bytes}
-use Rattle.prepared.specs.Tests.{and-iff, leb-iff, tested}
+use Rattle.prepared.specs.Tests.{and-iff, tested}
 use Rattle.prepared.specs.Lists.{length-tab, tab-add, all-append, map-append}
 use Rattle.prepared.specs.Bits.{Bits}
 use Rattle.prepared_back.specs.Answers.{all-tab}
@@ -20,10 +19,11 @@ use Rattle.prepared_back.specs.Cuts.{cut, cut-add}
 use Rattle.prepared_back.specs.Groups.{recOf, byteRight, Built, built}
 use Rattle.prepared_back.specs.Literals.{packed-bitsAt, bitsAt-bits}
 
-sound-node : (n : Node) → 1 ≤ length (recsOf n) → soundForest (n .forest) ≡ true → depth (n .forest) ≤ limits .depth → length (n .bits) ≤ limits .width → Bits (n .bits) → soundNode n ≡ true
+sound-node : (n : Node) → 1 ≤ length (recsOf n) → soundForest (n .forest) ≡ true → depth (n .forest) ≤ limits .depth
+    → length (n .bits) ≤ limits .width → Bits (n .bits) → soundNode n ≡ true
 sound-node n c f d w b = simp tested ((((c, f), d), w), b)
 
--- a component table: the number of records and the literal width of each component, the record table's entries, and where the literals begin
+-- components: the number of records and the literal width of each, the record table's entries, and where the literals begin
 module _ (image text : List ℕ) (lit : ℕ) (count width : ℕ → ℕ) (entry : ℕ → Entry) where
   -- what the check says of component k, its first record being r and its first literal byte l
   pub record Passed (k r l : ℕ) : Type 0 where
@@ -40,6 +40,7 @@ module _ (image text : List ℕ) (lit : ℕ) (count width : ℕ → ℕ) (entry 
   abbrev pub row : ℕ → List ℕ
   row k = u32 (count k) ++ u32 (width k)
 
+  -- the nodes of n components from k: their tables are the image's
   pub record Nodes (k r l n : ℕ) : Type 0 where
     pub nodes : List Node
     pub number : length nodes ≡ n
@@ -50,15 +51,19 @@ module _ (image text : List ℕ) (lit : ℕ) (count width : ℕ → ℕ) (entry 
     pub sound : all soundNode nodes ≡ true
 
   module _ (bytes : Bytes image) (text-bytes : Bytes text) (right : (i : ℕ) → byteRight text (entry i) ≡ true) where
-    one : (k r l n : ℕ) → lit + l + bytesFor (width k) ≤ length image → Passed k r l → Nodes (suc k) (r + count k) (l + bytesFor (width k)) n → Nodes k r l (suc n)
+    one : (k r l n : ℕ) → lit + l + bytesFor (width k) ≤ length image → Passed k r l
+        → Nodes (suc k) (r + count k) (l + bytesFor (width k)) n → Nodes k r l (suc n)
     unfolding joined tab sum all
     one k r l n fits p rest =
-        go (built text text-bytes (count k) (tab entry r (count k)) 0 (rw length-tab (omega arith)) (all-tab (byteRight text) entry right r (count k)) (omega arith) (p .records))
+        go
+        (built text text-bytes (count k) (tab entry r (count k)) 0 (rw length-tab (omega arith)) (all-tab (byteRight text) entry right r (count k))
+        (omega arith) (p .records))
       where
         go : Built text 0 (tab entry r (count k)) → Nodes k r l (suc n)
         go b =
             let node : Node = record { forest = b .forest; bits = bitsAt image (lit + l) (width k) } in
-            let c : length (recsOf node) ≡ count k = ap length (b .flat-is) ∙ length-map (tab entry r (count k)) (recOf text) ∙ length-tab entry r (count k) in
+            let c : length (recsOf node) ≡ count k =
+            ap length (b .flat-is) ∙ length-map (tab entry r (count k)) (recOf text) ∙ length-tab entry r (count k) in
             let w : length (node .bits) ≡ width k = length-tab _ 0 (width k) in
             record {
               nodes = node ∷ rest .nodes;
@@ -66,10 +71,13 @@ module _ (image text : List ℕ) (lit : ℕ) (count width : ℕ → ℕ) (entry 
               table = rw (c, w) (ap (λ l. row k ++ l) (rest .table));
               recs = rw (tab-add, map-append, b .flat-is, rest .recs);
               texts = rw (tab-add, all-append) (simp and-iff (b .texts, rest .texts));
-              literals = rw (packed-bitsAt image (lit + l) (width k) bytes fits (p .spare), rest .literals, cut-add, add-assoc lit l (bytesFor (width k)));
+              literals =
+                  rw (packed-bitsAt image (lit + l) (width k) bytes fits (p .spare), rest .literals, cut-add, add-assoc lit l (bytesFor (width k)));
               sound =
-                  (and-iff (soundNode node) (all soundNode (rest .nodes))) .1
-                  (sound-node node (rw c (p .some-records)) (b .sound) (omega arith) (rw w (p .narrow)) (bitsAt-bits image (lit + l) (width k)), rest .sound);
+                  (and-iff (soundNode node) (all soundNode (rest .nodes))) .1 (
+                    sound-node node (rw c (p .some-records)) (b .sound) (omega arith) (rw w (p .narrow)) (bitsAt-bits image (lit + l) (width k)),
+                    rest .sound,
+                  );
             }
 
     pub nodes-of : (n k r l : ℕ) → lit + l + sum (map bytesFor (tab width k n)) ≤ length image → AllPassed k r l n → Nodes k r l n

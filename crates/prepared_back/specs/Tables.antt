@@ -1,11 +1,11 @@
 -- The tables of an image: numbers that are written again as they were read, and a list cut into parts.
-use mathlib.Core.Path.{_≡_, refl, sym, ap, ap₂, _∙_}
+use mathlib.Core.Path.{_≡_, refl, sym, ap₂, _∙_}
 use Prim.Native.Nat.{_≤_, _<_}
 use native.Mathlib.Nat.{mul-zero, add-zero}
 use native.Mathlib.Omega.{arith}
 use lib.ListN.{length-drop, take-append-drop}
 use lib.Seq.{length-take-le}
-use Rattle.def_numbers.specs.Prelude.{ℕ, zero, suc, _+_, _*_, List, [], _∷_, _++_, map, length, take, drop}
+use Rattle.def_numbers.specs.Prelude.{ℕ, zero, suc, _+_, _*_, List, [], _∷_, _++_, map, length, drop}
 use Rattle.def_numbers.specs.Basics.{joined, sum, tab}
 use Rattle.def_image.specs.Image.{u32At, parts}
 use Rattle.def_image.specs.Tree.{u32}

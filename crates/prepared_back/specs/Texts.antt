@@ -1,14 +1,14 @@
 -- The records of an image, their texts one after the other: the text table, and the record table.
-use mathlib.Core.Path.{_≡_, refl, sym, ap, _∙_}
+use mathlib.Core.Path.{_≡_, refl, sym, ap}
 use Prim.Native.Nat.{_≤_, _<_}
 use native.Mathlib.Numerals.{add-one}
 use native.Mathlib.Omega.{arith}
-use lib.ListN.{length-take, length-drop, take-append-drop}
+use lib.ListN.{take-append-drop}
 use lib.Seq.{drop-drop, drop-length}
 use borrow.Author.Tests.{eq-eqb, ne-eqb}
-use Rattle.def_numbers.specs.Prelude.{ℕ, zero, suc, _+_, _-_, Bool, true, false, List, [], _∷_, _++_, map, length, take, drop, eqb}
+use Rattle.def_numbers.specs.Prelude.{ℕ, zero, suc, _+_, _-_, true, List, _++_, map, length, drop, eqb}
 use Rattle.def_numbers.specs.Basics.{if_then_else_, all, joined, tab}
-use Rattle.def_image.specs.Image.{Entry, Rec}
+use Rattle.def_image.specs.Image.{Entry}
 use Rattle.def_image.specs.Check.{textRight}
 use Rattle.def_image.specs.Tree.{textOf, u32, recordBytes}
 use Rattle.prepared.specs.Tests.{and-iff, tested}
