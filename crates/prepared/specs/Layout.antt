@@ -59,7 +59,7 @@ tablesOf t =
     tablesFor (length t) (length (joined t)) (length (allRecs (joined t))) (length (textOf (allRecs (joined t)))) (length (literalsOf (joined t)))
 
 -- "counts, then the offsets of five tables"
-abbrev header : Tree → List ℕ
+abbrev pub header : Tree → List ℕ
 header t =
     let at = tablesOf t in
     length t ∷ length (joined t) ∷ length (allRecs (joined t)) ∷ length (textOf (allRecs (joined t))) ∷ length (literalsOf (joined t))

@@ -20,6 +20,15 @@ use Rattle.prepared.specs.Groups.{nonempty}
 abbrev pub goodRec : ℕ → Rec → Bool
 goodRec m r = ltb (r .kind) 6 && leb (r .skip) m && not (isEmpty (r .text)) && all (λ b. ltb b 256) (r .text)
 
+-- good records have text
+pub text-some : (m : ℕ) (rs : List Rec) → 1 ≤ length rs → all (goodRec m) rs ≡ true → 1 ≤ length (textOf rs)
+unfolding all textOf
+text-some m [] l g = absurd (omega arith)
+text-some m (r ∷ rs) l g =
+    let some = nonempty (r .text) ((simp tested at g) .0 .0 .1) in
+    let e = length-append (r .text) (textOf rs) in
+    omega arith
+
 -- one row of the record table, and what stands behind it
 row-read : (s : List ℕ) (i start : ℕ) (x : Rec) (rs : List Rec) → goodRec (2 ^ 30) x ≡ true → start < 2 ^ 30
     → Holds s i (recordBytes start (x ∷ rs))
