@@ -19,7 +19,6 @@ use Rattle.cut_component.specs.Statement.{bare}
 use Rattle.cut_stages.specs.Statement.{bareTree, early, later, InTurn, CutEarly, CutLater}
 use Rattle.cut_bits.specs.Statement.{SamePlace, HoldsBit}
 
-
 -- what succeeds in a sequence succeeded before
 pub bind-ok : {A B : Type 0} (m : Result A) (f : A → Result B) (b : B) → (m >>= f) ≡ ok b → (a : A) × (m ≡ ok a) × (f a ≡ ok b)
 bind-ok (ok a) f b h = (a, refl, h)

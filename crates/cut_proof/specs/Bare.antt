@@ -63,9 +63,10 @@ erase-run (c ∷ cs) = rw (erase-run cs, map-empty erase ((runEnd cs) .rest)) (g
   where
     both : Below → Below
     both b = record { rest = map erase (b .rest); inRun = map erase (b .inRun) }
+
     go : (t : Bool)
         → _≡_ {A = Below} (if t then record { rest = []; inRun = erase c ∷ map erase ((runEnd cs) .inRun) } else record { rest = erase c ∷ map erase ((runEnd cs) .rest); inRun = map erase ((runEnd cs) .inRun) })
-          (both (if t then record { rest = []; inRun = c ∷ (runEnd cs) .inRun } else record { rest = c ∷ (runEnd cs) .rest; inRun = (runEnd cs) .inRun }))
+        (both (if t then record { rest = []; inRun = c ∷ (runEnd cs) .inRun } else record { rest = c ∷ (runEnd cs) .rest; inRun = (runEnd cs) .inRun }))
     go true = refl
     go false = refl
 

@@ -33,12 +33,11 @@ node-passes p cb l n h ca t =
 
 -- what the parts are proved to be
 module _
-  (passes-check : PassesCheck) (read-back : ReadBack) (erase-stages : EraseStages) (reads-answer : ReadsAnswer)
-  (eraseInit : Option (Placed Part) → Option (Placed Part))
-  (erase-early : (t : List (List (Placed Unparsed))) → early (eraseTree t) ≡ onOk (λ (q : Parsed). record { init = eraseInit (q .init); cc = eraseTree (q .cc) }) (early t))
-  (erase-merge : (cs : List (Placed Component)) → merge (map erase cs) ≡ map erase (merge cs))
-  (in-turn : InTurn) (cut-early : CutEarly) (cut-later : CutLater) (same-place : SamePlace) (holds-bit : HoldsBit) where
-
+    (passes-check : PassesCheck) (read-back : ReadBack) (erase-stages : EraseStages) (reads-answer : ReadsAnswer)
+    (eraseInit : Option (Placed Part) → Option (Placed Part))
+    (erase-early : (t : List (List (Placed Unparsed))) → early (eraseTree t) ≡ onOk (λ (q : Parsed). record { init = eraseInit (q .init); cc = eraseTree (q .cc) }) (early t))
+    (erase-merge : (cs : List (Placed Component)) → merge (map erase cs) ≡ map erase (merge cs))
+    (in-turn : InTurn) (cut-early : CutEarly) (cut-later : CutLater) (same-place : SamePlace) (holds-bit : HoldsBit) where
   abbrev eraseParsed : Parsed → Parsed
   eraseParsed q = record { init = eraseInit (q .init); cc = eraseTree (q .cc) }
 
@@ -51,7 +50,7 @@ module _
   staged : (t : Tree) (mode : ℕ) (a : Answer) → stages mode (placedTree t) ≡ ok a → Staged t mode a
   staged t mode a h =
       let all-bare : (early (bareTree t) >>= later mode) ≡ ok (eraseAnswer a) =
-          sym (in-turn mode (bareTree t)) ∙ ap (stages mode) (sym (erase-placed t)) ∙ erase-stages mode (placedTree t) ∙ ap (onOk eraseAnswer) h in
+      sym (in-turn mode (bareTree t)) ∙ ap (stages mode) (sym (erase-placed t)) ∙ erase-stages mode (placedTree t) ∙ ap (onOk eraseAnswer) h in
       let inv = bind-ok (early (bareTree t)) (later mode) (eraseAnswer a) all-bare in
       record { parsed = inv .0; bare-early = inv .1; bare-later = inv .2 }
 
@@ -148,20 +147,20 @@ module _
     bit-kept i lo hi =
         let here = placeOf oldComponents (length (cut .concatenations-below)) (length (cut .below)) (i - g .a) in
         let value : bitIn (shown (eraseAnswer (accepts .said))) here ≡ some (getD (g .node .bits) i 0) =
-            ap (λ cc. bitIn (shown (eraseAnswer (accepts .said))) (placeOf cc (length (cut .concatenations-below)) (length (cut .below)) (i - g .a))) (sym (cut .old))
-            ∙ holds-bit old (pr .a-tree) (old-stages .parsed) (old-stages .bare-early) (g .mode) (eraseAnswer (accepts .said)) (old-stages .bare-later)
-              (cut .concatenations-below) (cut .below) (cut .above) (cut .concatenations-above) (g .node .bits) (g .a) (g .b)
-              (omega arith) (cut .within-width) (sound .bits) (cut .old) i lo hi in
+        ap (λ cc. bitIn (shown (eraseAnswer (accepts .said))) (placeOf cc (length (cut .concatenations-below)) (length (cut .below)) (i - g .a))) (sym (cut .old))
+        ∙ holds-bit old (pr .a-tree) (old-stages .parsed) (old-stages .bare-early) (g .mode) (eraseAnswer (accepts .said)) (old-stages .bare-later)
+        (cut .concatenations-below) (cut .below) (cut .above) (cut .concatenations-above) (g .node .bits) (g .a) (g .b)
+        (omega arith) (cut .within-width) (sound .bits) (cut .old) i lo hi in
         record {
           at = here;
           old-place =
-            components-bare old (pr .a-tree) (old-stages .parsed) (old-stages .bare-early) (length (g .concatenations-below)) (length (g .below)) (i - g .a)
-            ∙ λ x. placeOf (cut .old x) ((sym (cut .same-concatenations)) x) ((sym (cut .same-components)) x) (i - g .a);
+              components-bare old (pr .a-tree) (old-stages .parsed) (old-stages .bare-early) (length (g .concatenations-below)) (length (g .below)) (i - g .a)
+              ∙ λ x. placeOf (cut .old x) ((sym (cut .same-concatenations)) x) ((sym (cut .same-components)) x) (i - g .a);
           new-place =
-            components-bare (newTree g) (pr .within-limits) (record { init = old-stages .parsed .init; cc = newComponents }) (cut .new)
+              components-bare (newTree g) (pr .within-limits) (record { init = old-stages .parsed .init; cc = newComponents }) (cut .new)
               (length (g .concatenations-below)) (length (g .below) + (pieceAt (g .a) places i) .index) (i - (pieceAt (g .a) places i) .start)
-            ∙ (λ x. let p = pieceAt (g .a) places i in placeOf newComponents ((sym (cut .same-concatenations)) x) ((sym (cut .same-components)) x + p .index) (i - p .start))
-            ∙ same-place (cut .concatenations-below) (cut .below) (cut .above) (cut .concatenations-above) (g .node .bits) (g .a) places (g .b)
+              ∙ (λ x. let p = pieceAt (g .a) places i in placeOf newComponents ((sym (cut .same-concatenations)) x) ((sym (cut .same-components)) x + p .index) (i - p .start))
+              ∙ same-place (cut .concatenations-below) (cut .below) (cut .above) (cut .concatenations-above) (g .node .bits) (g .a) places (g .b)
               (pr .rises) (cut .within-width) (sound .width) i lo hi;
           old-value = ap (λ r. bitIn r here) (old-read) ∙ value;
           new-value = ap (λ r. bitIn r here) (new-read) ∙ value;
