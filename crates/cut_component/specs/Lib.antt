@@ -1,5 +1,6 @@
 -- Stages 1 and 2 of a literal and of its pieces: stated in Statement, proved beside it.
 pub mod Laws
+pub mod Offsets
 pub mod Colons
 pub mod Forests
 pub mod Statement
