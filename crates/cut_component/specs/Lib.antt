@@ -5,4 +5,7 @@ pub mod Fitting
 pub mod Fixed
 pub mod Colons
 pub mod Forests
+pub mod Literals
+pub mod Pieces
+pub mod Proof
 pub mod Statement

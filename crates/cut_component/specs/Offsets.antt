@@ -262,7 +262,7 @@ parse-alike (i ∷ is) =
 
 -- ── What a bracket is read as ──
 
-abbrev rangeIn : List Item → Option Usbr → Usbr
+abbrev pub rangeIn : List Item → Option Usbr → Usbr
 rangeIn is r = elim r [ none ↦ singleBit is | some r′ ↦ r′ ]
 
 -- the range in a bracket around some items
