@@ -2,10 +2,10 @@
 use mathlib.Core.Path.{_≡_, refl, sym, ap, _∙_, subst}
 use mathlib.Core.Bool.{true≢false, false≢true}
 use mathlib.Core.List.{append-nil}
-use Rattle.def_numbers.specs.Prelude.{ℕ, _+_, Bool, true, false, Option, none, some, List, [], _∷_, _++_, length}
-use Rattle.def_numbers.specs.Basics.{if_then_else_, sameBytes}
+use Rattle.def_numbers.specs.Prelude.{ℕ, _+_, Bool, true, false, Option, none, some, List, [], _∷_, length}
+use Rattle.def_numbers.specs.Basics.{if_then_else_}
 use Rattle.def_numbers.specs.Numbers.{char}
-use Rattle.def_image.specs.Image.{Rec, opens}
+use Rattle.def_image.specs.Image.{opens}
 use Rattle.def_image.specs.Tree.{Forest, end, word, group, textOf}
 use Rattle.def_stages.specs.Text.{Item, itemOf, itemsOf, isToken}
 use Rattle.def_stages.specs.Component.{Prefix, beyond, splitColon}
@@ -64,23 +64,23 @@ unfolding atColon splitColon itemsOf chunksOf _⊕_
 colon-agrees at end o = neither
 colon-agrees at (group k inside rest) (o, os) =
     subst (Agrees (group k inside rest) (onPrefix (group k inside) (atColon rest)))
-      (sym (colon-later (itemOf at (groupChunk k inside)) (itemsOf (behindGroup at k inside) (chunksOf rest)) (colon-group at k inside o)))
-      (agrees-behind (group k inside) (itemOf at (groupChunk k inside)) (λ f f′. refl) (colon-agrees (behindGroup at k inside) rest os))
+    (sym (colon-later (itemOf at (groupChunk k inside)) (itemsOf (behindGroup at k inside) (chunksOf rest)) (colon-group at k inside o)))
+    (agrees-behind (group k inside) (itemOf at (groupChunk k inside)) (λ f f′. refl) (colon-agrees (behindGroup at k inside) rest os))
 colon-agrees at (word s end) o =
     alike (Agrees (word s end)) (isColon s) (isToken (char .colon) (itemOf at (wordChunk s))) (colon-word at s) (both at refl refl) neither
 colon-agrees at (word s (group k inside rest)) (o, os) =
     let g = word s (group k inside rest) in
     let next = behindWord at s in
     alike (Agrees g) (isColon s) (isToken (char .colon) (itemOf at (wordChunk s))) (colon-word at s)
-      (otherwise (Agrees g (some (record { prefix = word s end; after = group k inside rest }))) (isToken (char .colon) (itemOf next (groupChunk k inside))) _
-        (colon-group next k inside o)
-        (both next refl refl))
-      (agrees-behind (λ p. word s p) (itemOf at (wordChunk s)) (λ f f′. refl) (colon-agrees next (group k inside rest) (o, os)))
+    (otherwise (Agrees g (some (record { prefix = word s end; after = group k inside rest }))) (isToken (char .colon) (itemOf next (groupChunk k inside))) _
+    (colon-group next k inside o)
+    (both next refl refl))
+    (agrees-behind (λ p. word s p) (itemOf at (wordChunk s)) (λ f f′. refl) (colon-agrees next (group k inside rest) (o, os)))
 colon-agrees at (word s (word s′ rest)) o =
     let g = word s (word s′ rest) in
     let next = behindWord at s in
     alike (Agrees g) (isColon s) (isToken (char .colon) (itemOf at (wordChunk s))) (colon-word at s)
-      (alike (Agrees g) (isColon s′) (isToken (char .colon) (itemOf next (wordChunk s′))) (colon-word next s′)
-        (agrees-beyond s s′ (itemOf at (wordChunk s)) (itemOf next (wordChunk s′)) (colon-agrees (behindWord next s′) rest o))
-        (both next refl refl))
-      (agrees-behind (λ p. word s p) (itemOf at (wordChunk s)) (λ f f′. refl) (colon-agrees next (word s′ rest) o))
+    (alike (Agrees g) (isColon s′) (isToken (char .colon) (itemOf next (wordChunk s′))) (colon-word next s′)
+    (agrees-beyond s s′ (itemOf at (wordChunk s)) (itemOf next (wordChunk s′)) (colon-agrees (behindWord next s′) rest o))
+    (both next refl refl))
+    (agrees-behind (λ p. word s p) (itemOf at (wordChunk s)) (λ f f′. refl) (colon-agrees next (word s′ rest) o))

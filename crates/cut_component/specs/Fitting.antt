@@ -6,7 +6,7 @@ use Rattle.def_numbers.specs.Numbers.{half128, fits128, narrow, char, digits, s
 use Rattle.def_numbers.specs.Refusals.{Reason, need, refuse, not-one-token, bound-overflow, overflow}
 use Rattle.def_image.specs.Image.{kinds}
 use Rattle.def_stages.specs.Text.{Part, noText, Item, items, isGroup, isToken, partOf}
-use Rattle.def_stages.specs.Ranges.{Usb, Usbr, text, withX, Cut, cutBound, numberIn, side, joinSides, readBound, parseUsb, Scan, scan, parseStart, parseEnd, parseRange}
+use Rattle.def_stages.specs.Ranges.{Usb, Usbr, text, withX, Cut, cutBound, numberIn, side, joinSides, readBound, parseUsb, scan, parseStart, parseEnd, parseRange}
 use Rattle.def_stages.specs.Component.{simplifyUsb}
 
 -- ── Numbers ──
@@ -43,7 +43,7 @@ unfolding inner
 inner-fit radix [] = tt
 inner-fit radix (b ∷ rest) =
     either Fit (eqb b (char .minus)) (signed-fit (λ n. negℤ (pos n)) (digits radix rest))
-      (either Fit (eqb b (char .plus)) (signed-fit pos (digits radix rest)) (signed-fit pos (digits radix (b ∷ rest))))
+    (either Fit (eqb b (char .plus)) (signed-fit pos (digits radix rest)) (signed-fit pos (digits radix (b ∷ rest))))
 
 unsigned-fit : (s : List ℕ) → Fit (unsignedParse s)
 unfolding unsignedParse
@@ -79,8 +79,10 @@ join-fit u c h = go (numberIn (partOf (c .after))) (numberIn (partOf (c .before)
   where
     negative : Bool
     negative = isToken (char .minus) (c .sign)
+
     left : Usb
     left = side (partOf (c .before))
+
     go : (right left′ : Option ℤ) → Fit left′ →
         FitBound (elim right [
           | some r ↦ withX bound-overflow (left .s) (if negative then left .x -ℤ r else left .x +ℤ r)
@@ -138,8 +140,9 @@ range-fit (i ∷ is) = through (λ _. Unit) (scan (i ∷ is)) _ tt (λ st _. go 
   where
     ends : Bool → ℕ × ℕ → Usb → Result (Option Usbr)
     ends inclusive f s = parseEnd inclusive (drop (f .1) (i ∷ is)) >>= λ e. ok (some (record { start = s; «end» = e }))
+
     go : (inclusive : Bool) (o : Option (ℕ × ℕ)) → FitRange (elim o [ none ↦ ok none | some f ↦ parseStart (take (f .0) (i ∷ is)) >>= ends inclusive f ])
     go inclusive none = tt
     go inclusive (some f) =
         through FitBound (parseStart (take (f .0) (i ∷ is))) (ends inclusive f) (start-fit (take (f .0) (i ∷ is)))
-          (λ s q. through (λ _. Unit) (parseEnd inclusive (drop (f .1) (i ∷ is))) (λ e. ok (some (record { start = s; «end» = e }))) tt (λ e _. q))
+        (λ s q. through (λ _. Unit) (parseEnd inclusive (drop (f .1) (i ∷ is))) (λ e. ok (some (record { start = s; «end» = e }))) tt (λ e _. q))

@@ -4,13 +4,12 @@ use mathlib.Core.Bool.{false≢true}
 use Prim.Native.Nat.{_≤_, _<_}
 use native.Mathlib.Omega.{arith}
 use borrow.Author.Tests.{ltb-true, ltb-false, leb-true, lt-ltb, le-ltb, le-leb}
-use Rattle.def_numbers.specs.Prelude.{ℕ, zero, suc, _+_, _-_, Bool, true, false, _&&_, not, Option, none, some, List, [], _∷_, length, take, drop, leb, ltb, ℤ, pos, negsuc, _+ℤ_, _-ℤ_, ltZ, leZ, nonNeg}
-use Rattle.def_numbers.specs.Basics.{Result, ok, refused, _>>=_, if_then_else_, isEmpty, sameBytes}
-use Rattle.def_numbers.specs.Numbers.{half128, fits128, narrow}
-use Rattle.def_numbers.specs.Refusals.{need, negative-bound, reversed, zero-width, start-above-width, end-above-width, range-above-width, end-zero}
-use Rattle.def_stages.specs.Text.{Part, noText}
-use Rattle.def_stages.specs.Ranges.{Usb, Usbr, val, text, staticVal, staticWidth}
-use Rattle.def_stages.specs.Component.{Component, literal, simplifyUsb, simplifyEnd, ifStatic, ifStaticEnd, ifKnown, simplifyRange, theEnd, withEnd, cutLiteral, simplifyLiteral, simplify}
+use Rattle.def_numbers.specs.Prelude.{ℕ, zero, suc, _-_, Bool, true, false, _&&_, Option, none, some, List, [], _∷_, length, leb, ltb, ℤ, pos, negsuc, _-ℤ_, ltZ, leZ, nonNeg}
+use Rattle.def_numbers.specs.Basics.{Result, ok, refused, _>>=_, if_then_else_, sameBytes}
+use Rattle.def_numbers.specs.Numbers.{half128, fits128}
+use Rattle.def_numbers.specs.Refusals.{need, negative-bound, reversed, zero-width, start-above-width, end-above-width}
+use Rattle.def_stages.specs.Ranges.{Usb, Usbr, val, text, staticVal}
+use Rattle.def_stages.specs.Component.{Component, literal, simplifyUsb, simplifyEnd, ifStatic, ifStaticEnd, ifKnown, simplifyRange, theEnd, simplifyLiteral, simplify}
 use Rattle.cutting.specs.Statement.{fixedBound, fixedRange}
 use Rattle.cut_component.specs.Statement.{cutTo}
 use Rattle.cut_component.specs.Laws.{by-test, bind-ok, need-ok}
@@ -41,6 +40,7 @@ fixed-usb u n h = go (simplifyUsb u) h
     number at (b ∷ bs) x h = (0, cc)
     number at [] (pos m) h = (at, cc)
     number at [] (negsuc m) h = (0, cc)
+
     go : (m : Result Usb) →
         _≡_ {A = Option ℕ} (elim m [ refused n i k ↦ none | ok u′ ↦ elim (staticVal u′) [ none ↦ none | some z ↦ elim z [ pos n ↦ some n | negsuc n ↦ none ] ] ]) (some n) →
         (at : ℕ) × (m ≡ ok (numberAt at n))
@@ -87,7 +87,7 @@ added w r c d h = go (r .«end») (fixed-both (fixedBound (r .start)) (fixedBoun
 -- ── Stage 2 of a range ──
 
 abbrev checkedRange : Usb → Option Usb → Result Usbr
-checkedRange s e = 
+checkedRange s e =
     let r′ : Usbr = record { start = s; «end» = e } in
     need (ifStatic nonNeg s && ifStaticEnd nonNeg r′) negative-bound >>= λ _.
     need (ifKnown nonNeg r′) reversed >>= λ _.
@@ -147,10 +147,12 @@ rises at at′ a b f n z = by-test (ltb a b) (ltb-true a b) (λ h. not-above (lt
     below-start h =
         let e : _≡_ {A = Bool} false true = tested nonNeg at at′ a b (below b a h) (lt-ltb (a - suc b) half128 (omega arith)) n in
         absurd (false≢true e)
+
     at-start : b ≤ a → a ≤ b → a < b
     at-start h k =
         let l : 0 < b - a = ltb-true 0 (b - a) (tested (ltZ (pos 0)) at at′ a b (difference b a k) (lt-ltb (b - a) half128 (omega arith)) z) in
         omega arith
+
     not-above : b ≤ a → a < b
     not-above h = by-test (ltb b a) (λ k. below-start (ltb-true b a k)) (λ k. at-start h (ltb-false b a k))
 
@@ -190,4 +192,4 @@ fixed-bounds bits r a b {c′} f q h = go (added (length bits) r a b q)
     go d =
         let small : fits128 (pos a) ≡ true = subst FitBound (d .start) (simplify-fit (r .start) f) in
         passed bits (d .at) a b (d .«end») (d .end-at) (ltb-true a half128 small)
-          (ap (λ m. m >>= simplifyLiteral bits) (sym (range-steps r (numberAt (d .at) a) (d .«end») (d .start) (d .ended))) ∙ h)
+        (ap (λ m. m >>= simplifyLiteral bits) (sym (range-steps r (numberAt (d .at) a) (d .«end») (d .start) (d .ended))) ∙ h)

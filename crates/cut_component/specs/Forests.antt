@@ -1,9 +1,9 @@
 -- The items of a forest's records: one for each word and each group at its top level.
-use mathlib.Core.Path.{_≡_, refl, sym, ap, _∙_}
+use mathlib.Core.Path.{_≡_, refl, ap, _∙_}
 use mathlib.Core.List.{append-assoc}
 use native.Mathlib.Omega.{arith}
 use lib.ListN.{length-append}
-use Rattle.def_numbers.specs.Prelude.{ℕ, zero, suc, _+_, _-_, Bool, true, false, _&&_, not, Option, none, some, List, [], _∷_, _++_, dropLast, length, ltb, eqb}
+use Rattle.def_numbers.specs.Prelude.{ℕ, _+_, Bool, true, false, _&&_, not, Option, none, some, List, [], _∷_, _++_, dropLast, length, ltb, eqb}
 use Rattle.def_numbers.specs.Basics.{if_then_else_, isEmpty, all}
 use Rattle.def_image.specs.Image.{Rec, kinds, opens, delimiter}
 use Rattle.def_image.specs.Tree.{Forest, end, word, group, flat, textOf, soundForest}
@@ -58,8 +58,8 @@ chunks-flat end o = unfold chunks in refl
 chunks-flat (word s rest) o = item-chunk (wordRec s) [] (flat rest) refl ∙ ap (λ cs. wordChunk s ∷ cs) (chunks-flat rest o)
 chunks-flat (group k inside rest) (o, os) =
     rw (← append-assoc (flat inside) (closer k ∷ []) (flat rest))
-      (item-chunk (opener k inside) (flat inside ++ closer k ∷ []) (flat rest) (more-opener k inside o)
-        ∙ ap (λ cs. groupChunk k inside ∷ cs) (chunks-flat rest os))
+    (item-chunk (opener k inside) (flat inside ++ closer k ∷ []) (flat rest) (more-opener k inside o)
+    ∙ ap (λ cs. groupChunk k inside ∷ cs) (chunks-flat rest os))
 
 pub items-flat : (at : ℕ) (f : Forest) → Opened f → items at (flat f) ≡ itemsOf at (chunksOf f)
 items-flat at f o = ap (itemsOf at) (chunks-flat f o)
@@ -96,7 +96,7 @@ unranged-opened (group k inside rest) (o, os) =
 -- ── The range ──
 
 -- what stands before the range
-pub split-mid : (at : ℕ) (f : Forest) → (splitRange (itemsOf at (chunksOf f))) .mid ≡ itemsOf at (chunksOf (unranged f))
+split-mid : (at : ℕ) (f : Forest) → (splitRange (itemsOf at (chunksOf f))) .mid ≡ itemsOf at (chunksOf (unranged f))
 unfolding splitRange itemsOf chunksOf unranged
 split-mid at end = refl
 split-mid at (word s end) = refl
@@ -132,7 +132,7 @@ bracket-there at (word s g) f = refl
 bracket-there at (group k inside g) f = refl
 
 -- records that end in a bracket around f, after the other records
-abbrev pub Bracketed : ℕ → List (List Rec) → List (List Rec) → Forest → Type 0
+abbrev Bracketed : ℕ → List (List Rec) → List (List Rec) → Forest → Type 0
 Bracketed at cs before f = (inner : ℕ) × (splitRange (itemsOf at cs) ≡ record { mid = itemsOf at before; range = some (items inner (flat f)) })
 
 bracketed-behind : (at : ℕ) (c : List Rec) (g f : Forest) →
@@ -143,8 +143,38 @@ bracketed-behind at c g f (inner, q) =
     (inner, split-behind (itemOf at c) (itemsOf next (chunksOf (g ⊕ bracket f))) (bracket-there next g f) q)
 
 -- a bracket that is put behind a forest is its range
-pub split-bracket : (at : ℕ) (g f : Forest) → Bracketed at (chunksOf (g ⊕ bracket f)) (chunksOf g) f
+split-bracket : (at : ℕ) (g f : Forest) → Bracketed at (chunksOf (g ⊕ bracket f)) (chunksOf g) f
 unfolding splitRange itemsOf chunksOf _⊕_
 split-bracket at end f = (at + 1, ap {B = Split} (λ rs. record { mid = []; range = some (items (at + 1) rs) }) (dropLast-snoc (flat f) (closer (kinds .bracket))))
 split-bracket at (word s g) f = bracketed-behind at (wordChunk s) g f (split-bracket _ g f)
 split-bracket at (group k inside g) f = bracketed-behind at (groupChunk k inside) g f (split-bracket _ g f)
+
+opened-bracket : (g f : Forest) → Opened g → Opened (g ⊕ bracket f)
+unfolding _⊕_
+opened-bracket end f o = (refl, tt)
+opened-bracket (word s g) f o = opened-bracket g f o
+opened-bracket (group k inside g) f (o, os) = (o, opened-bracket g f os)
+
+-- the two for the records of a component
+pub mid-items : (f : Forest) → Opened f → (splitRange (items 0 (flat f))) .mid ≡ itemsOf 0 (chunksOf (unranged f))
+mid-items f o = ap (λ is. (splitRange is) .mid) (items-flat 0 f o) ∙ split-mid 0 f
+
+pub bracket-items : (g f : Forest) → Opened g →
+    (inner : ℕ) × (splitRange (items 0 (flat (g ⊕ bracket f))) ≡ record { mid = itemsOf 0 (chunksOf g); range = some (items inner (flat f)) })
+bracket-items g f o =
+    let (inner, q) = split-bracket 0 g f in
+    (inner, ap splitRange (items-flat 0 (g ⊕ bracket f) (opened-bracket g f o)) ∙ q)
+
+-- ── Forests one after the other ──
+
+pub opened-after : (f g : Forest) → Opened (f ⊕ g) → Opened g
+unfolding _⊕_
+opened-after end g o = o
+opened-after (word s f) g o = opened-after f g o
+opened-after (group k inside f) g (o, os) = opened-after f g os
+
+pub ⊕-assoc : (f g h : Forest) → f ⊕ g ⊕ h ≡ (f ⊕ g) ⊕ h
+unfolding _⊕_
+⊕-assoc end g h = refl
+⊕-assoc (word s f) g h = ap (λ l. word s l) (⊕-assoc f g h)
+⊕-assoc (group k inside f) g h = ap (λ l. group k inside l) (⊕-assoc f g h)

@@ -16,3 +16,6 @@ bind-ok (refused n i k) f {b} h = let z : _≡_ {A = ℕ} 0 1 = cc in absurd (om
 pub need-ok : {B : Type 0} (t : Bool) (r : Reason) (m : Result B) {b : B} → (need t r >>= (λ _. m)) ≡ ok b → (t ≡ true) × (m ≡ ok b)
 need-ok true r m h = (refl, h)
 need-ok false r m h = let z : _≡_ {A = ℕ} 0 1 = cc in absurd (omega arith)
+
+pub ok-same : {A : Type 0} {m : Result A} {a b : A} → m ≡ ok a → m ≡ ok b → a ≡ b
+ok-same p q = cc

@@ -4,20 +4,20 @@ use mathlib.Core.Bool.{false≢true}
 use mathlib.Core.Option.{Option·none-ne-some}
 use Prim.Native.Nat.{_≤_, _<_}
 use borrow.Author.Tests.{not-true}
-use Rattle.def_numbers.specs.Prelude.{ℕ, _+_, Bool, true, false, not, Option, none, some, List, [], _∷_, length, ℤ, pos, negsuc, _+ℤ_}
+use Rattle.def_numbers.specs.Prelude.{ℕ, Bool, true, false, not, Option, none, some, List, [], _∷_, length, ℤ, pos, negsuc, _+ℤ_}
 use Rattle.def_numbers.specs.Basics.{Result, ok, refused, _>>=_, if_then_else_, isEmpty}
 use Rattle.def_numbers.specs.Numbers.{fits128, tryParse}
 use Rattle.def_numbers.specs.Refusals.{need, overflow, nothing-before-range, no-literal}
 use Rattle.def_image.specs.Tree.{Forest, flat}
-use Rattle.def_stages.specs.Text.{Part, noText, Item, items, partOf}
-use Rattle.def_stages.specs.Ranges.{Usb, Usbr, val, text, withX, unbounded, parseRange, singleBit, staticVal}
-use Rattle.def_stages.specs.Component.{ComponentType, literal, variable, filler, Component, isLiteral, typed, parseComponent, simplifyUsb, theEnd, simplify}
+use Rattle.def_stages.specs.Text.{noText, Item, items, partOf}
+use Rattle.def_stages.specs.Ranges.{Usb, Usbr, val, text, withX, unbounded, parseRange, staticVal}
+use Rattle.def_stages.specs.Component.{literal, variable, filler, Component, isLiteral, typed, parseComponent, simplifyUsb, simplify}
 use Rattle.cutting.specs.Statement.{fixedBound, fixedRange, readsAs}
 use Rattle.cut_component.specs.Statement.{cutTo}
-use Rattle.cut_component.specs.Laws.{by-test, bind-ok, need-ok}
+use Rattle.cut_component.specs.Laws.{bind-ok, need-ok}
 use Rattle.cut_component.specs.Fitting.{FitRange, zero-fits, range-fit}
 use Rattle.cut_component.specs.Fixed.{fixed-cut}
-use Rattle.cut_component.specs.Offsets.{noPlace, bareUsb, bareRange, inResult, inOption, rangeIn, readRange, reads-anywhere}
+use Rattle.cut_component.specs.Offsets.{bareUsb, bareRange, inResult, inOption, rangeIn, readRange, reads-anywhere}
 
 -- ── A literal ──
 
@@ -42,8 +42,8 @@ typed-read mid bits r c f h b = go (isLiteral mid) refl h
   where
     go : (t : Bool) → isLiteral mid ≡ t →
         _≡_ {A = Result Component}
-          (if t then (need (not (isEmpty bits)) no-literal >>= λ _. ok (record { c-type = literal bits; range = r })) else ok (record { c-type = variable (partOf mid); range = r }))
-          (ok c) →
+        (if t then (need (not (isEmpty bits)) no-literal >>= λ _. ok (record { c-type = literal bits; range = r })) else ok (record { c-type = variable (partOf mid); range = r }))
+        (ok c) →
         LiteralRead mid bits c
     go true l h =
         let (w, e) = need-ok (not (isEmpty bits)) no-literal (ok (record { c-type = literal bits; range = r })) h in
@@ -68,6 +68,7 @@ literal-read mid none bits c {ab} h b =
   where
     open-read : Option Usbr → Result Component
     open-read r = elim r [ none ↦ typed mid bits unbounded | some r′ ↦ ok (record { c-type = filler; range = r′ }) ]
+
     go : (r : Option Usbr) → open-read r ≡ ok c → LiteralRead mid bits c
     go none q = typed-read mid bits unbounded c zero-fits q b
     go (some r) q = other (record { c-type = filler; range = r }) c q refl b
@@ -75,8 +76,8 @@ literal-read mid none bits c {ab} h b =
 -- ── A bracket ──
 
 -- the bounds of a range are fixed whatever the offsets of its texts
-abbrev numberOf : Result Usb → Option ℕ
-numberOf m = elim m [ refused n i k ↦ none | ok u ↦ elim (staticVal u) [ none ↦ none | some z ↦ elim z [ pos n ↦ some n | negsuc n ↦ none ] ] ]
+abbrev numberFrom : Result Usb → Option ℕ
+numberFrom m = elim m [ refused n i k ↦ none | ok u ↦ elim (staticVal u) [ none ↦ none | some z ↦ elim z [ pos n ↦ some n | negsuc n ↦ none ] ] ]
 
 abbrev bothOf : Option ℕ → Option ℕ → Option (ℕ × ℕ)
 bothOf o p = elim o [ none ↦ none | some a ↦ elim p [ none ↦ none | some b ↦ some (a, b) ] ]
@@ -86,10 +87,12 @@ unfolding simplifyUsb
 bare-fixedBound u = go (u .s .at) (u .s .bytes) (u .x)
   where
     added : (at b : ℕ) (bs : List ℕ) (x : ℤ) → Option ℤ → Option ℕ
-    added at b bs x o = numberOf (elim o [ none ↦ ok (text (record { at = at; bytes = b ∷ bs }) x) | some v ↦ withX overflow noText (x +ℤ v) ])
+    added at b bs x o = numberFrom (elim o [ none ↦ ok (text (record { at = at; bytes = b ∷ bs }) x) | some v ↦ withX overflow noText (x +ℤ v) ])
+
     same : (at b : ℕ) (bs : List ℕ) (x : ℤ) (o : Option ℤ) → added 0 b bs x o ≡ added at b bs x o
     same at b bs x none = refl
     same at b bs x (some v) = refl
+
     go : (at : ℕ) (bytes : List ℕ) (x : ℤ) → fixedBound (text (record { at = 0; bytes = bytes }) x) ≡ fixedBound (text (record { at = at; bytes = bytes }) x)
     go at [] x = refl
     go at (b ∷ bs) x = same at b bs x (tryParse (b ∷ bs))
@@ -99,6 +102,7 @@ bare-fixed w r = ap₂ bothOf (bare-fixedBound (r .start)) (ends (r .«end»))
   where
     endIn : Option Usb → Usb
     endIn e = elim e [ none ↦ val (pos w) | some u ↦ u ]
+
     ends : (e : Option Usb) → fixedBound (endIn (inOption bareUsb e)) ≡ fixedBound (endIn e)
     ends none = refl
     ends (some e) = bare-fixedBound e
@@ -136,11 +140,13 @@ bracket-read (i ∷ mid) bits at f c d l w q h k =
   where
     typed-is : (r : Usbr) → typed (i ∷ mid) bits r ≡ ok (record { c-type = literal bits; range = r })
     typed-is r = rw (l, w)
+
     go : (o : Option Usbr) → parseRange (items at (flat f)) ≡ ok o → (r : Usbr) → _≡_ {A = Result Usbr} (ok (rangeIn (items at (flat f)) o)) (ok r) →
         fixedRange (length bits) r ≡ some (c, d) →
         (x : Component) × ((parseRange (items at (flat f)) >>= λ o. typed (i ∷ mid) bits (rangeIn (items at (flat f)) o)) ≡ ok x) × (simplify x ≡ ok (cutTo bits c d))
     go o p r e b =
-        let same : rangeIn (items at (flat f)) o ≡ r = cc in
-        (record { c-type = literal bits; range = r },
+        let same : rangeIn (items at (flat f)) o ≡ r = cc in (
+          record { c-type = literal bits; range = r },
           ap (λ m. m >>= λ o. typed (i ∷ mid) bits (rangeIn (items at (flat f)) o)) p ∙ ap (typed (i ∷ mid) bits) same ∙ typed-is r,
-          fixed-cut bits r c d b h k)
+          fixed-cut bits r c d b h k,
+        )

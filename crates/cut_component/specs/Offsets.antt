@@ -1,12 +1,12 @@
 -- Where a text stands does not matter for what is read from it: reading keeps what offsets are taken from.
 use mathlib.Core.Path.{_≡_, refl, sym, ap, ap₂, _∙_, fun-ext}
-use Rattle.def_numbers.specs.Prelude.{ℕ, zero, suc, _+_, _-_, Bool, true, false, _&&_, not, Option, none, some, List, [], _∷_, _++_, map, take, drop, length, eqb, ℤ, pos, _+ℤ_, _-ℤ_}
-use Rattle.def_numbers.specs.Basics.{Result, ok, refused, _>>=_, if_then_else_, isEmpty}
-use Rattle.def_numbers.specs.Numbers.{narrow, tryParse, char}
+use Rattle.def_numbers.specs.Prelude.{ℕ, zero, suc, Bool, true, false, _&&_, Option, none, some, List, [], _∷_, _++_, map, take, drop, eqb, ℤ, pos, _+ℤ_, _-ℤ_}
+use Rattle.def_numbers.specs.Basics.{Result, ok, refused, _>>=_, if_then_else_}
+use Rattle.def_numbers.specs.Numbers.{narrow, char}
 use Rattle.def_numbers.specs.Refusals.{Reason, need, refuse, not-one-token, bound-overflow}
 use Rattle.def_image.specs.Image.{Rec, kinds}
 use Rattle.def_stages.specs.Text.{Part, noText, Item, chunks, itemOf, itemsOf, items, isGroup, isToken, bytesOf, partOf}
-use Rattle.def_stages.specs.Ranges.{Usb, Usbr, val, text, withX, Cut, behind, cutLast, beginsWith, cutPair, orElse, cutBound, numberIn, side, joinSides, readBound, parseUsb, Scan, scanStep, scanFrom, scan, parseStart, parseEnd, parseRange, singleBit}
+use Rattle.def_stages.specs.Ranges.{Usb, Usbr, val, text, withX, Cut, behind, cutLast, beginsWith, cutPair, orElse, cutBound, numberIn, joinSides, readBound, parseUsb, Scan, scanStep, scanFrom, scan, parseStart, parseEnd, parseRange, singleBit}
 
 -- ── Offsets taken from each thing ──
 
@@ -65,11 +65,11 @@ bare-last b (i ∷ is) = rw (bare-last b is) (go (cutLast (isToken b) is) (isTok
   where
     go : (o : Option Cut) (t : Bool) →
         _≡_ {A = Option Cut}
-          (elim (inOption bareCut o) [
-            | some c ↦ behind (bareItem i) (some c)
-            | none ↦ if t then some (record { before = []; sign = bareItem i; after = bareItems is }) else none
-          ])
-          (inOption bareCut (elim o [ some c ↦ behind i (some c) | none ↦ if t then some (record { before = []; sign = i; after = is }) else none ]))
+        (elim (inOption bareCut o) [
+          | some c ↦ behind (bareItem i) (some c)
+          | none ↦ if t then some (record { before = []; sign = bareItem i; after = bareItems is }) else none
+        ])
+        (inOption bareCut (elim o [ some c ↦ behind i (some c) | none ↦ if t then some (record { before = []; sign = i; after = is }) else none ]))
     go none true = refl
     go none false = refl
     go (some c) t = refl
@@ -86,8 +86,8 @@ bare-pair (i ∷ is) =
   where
     go : (t : Bool) (o : Option Cut) →
         _≡_ {A = Option Cut}
-          (if t then some (record { before = []; sign = bareItem i; after = bareItems is }) else inOption bareCut o)
-          (inOption bareCut (if t then some (record { before = []; sign = i; after = is }) else o))
+        (if t then some (record { before = []; sign = bareItem i; after = bareItems is }) else inOption bareCut o)
+        (inOption bareCut (if t then some (record { before = []; sign = i; after = is }) else o))
     go true o = refl
     go false o = refl
 
@@ -137,7 +137,7 @@ bare-join u c =
     let r = partOf (c .after) in
     let signed = partOf (c .sign ∷ c .after) in
     let kept : joinSides (bareUsb u) (bareCut c) ≡ joinOn (bareUsb u) negative (noPlace l) (noPlace r) (noPlace signed) =
-      λ i. joinOn (bareUsb u) negative (bare-part (c .before) i) (bare-part (c .after) i) (bare-part (c .sign ∷ c .after) i) in
+    λ i. joinOn (bareUsb u) negative (bare-part (c .before) i) (bare-part (c .after) i) (bare-part (c .sign ∷ c .after) i) in
     kept ∙ bare-joinAs u l r signed negative (numberIn l) (numberIn r)
 
 abbrev boundAs : Part → Option Cut → Result Usb
@@ -173,6 +173,7 @@ usb-alike (i ∷ []) = go (isGroup i) (eqb (i .kind) (kinds .parenthesis))
   where
     read : Bool → Bool → Item → Result Usb
     read t u i = elim t [ true ↦ need u not-one-token >>= (λ _. readBound (items (i .inside-at) (i .inside))) | false ↦ readBound (i ∷ []) ]
+
     go : (t u : Bool) → inResult bareUsb (read t u (bareItem i)) ≡ inResult bareUsb (read t u i)
     go false u = bound-alike (bareItem i ∷ []) (i ∷ []) refl
     go true false = refl
@@ -202,8 +203,8 @@ end-alike inclusive [] = refl
 end-alike inclusive (i ∷ is) =
     let k : Usb → Result (Option Usb) = λ e. endAs inclusive e >>= present in
     bind-alike bareUsb (inOption bareUsb) (parseUsb (bareItems (i ∷ is))) (parseUsb (i ∷ is)) k k (usb-alike (i ∷ is))
-      (λ e e′ q. bind-alike bareUsb (inOption bareUsb) (endAs inclusive e) (endAs inclusive e′) present present (endAs-alike inclusive e e′ q)
-        (λ a a′ h. ap {B = Result (Option Usb)} (λ u. ok (some u)) h))
+    (λ e e′ q. bind-alike bareUsb (inOption bareUsb) (endAs inclusive e) (endAs inclusive e′) present present (endAs-alike inclusive e e′ q)
+    (λ a a′ h. ap {B = Result (Option Usb)} (λ u. ok (some u)) h))
 
 bare-scan : (n : ℕ) (is : List Item) (st : Scan) → scanFrom n (bareItems is) st ≡ scanFrom n is st
 unfolding scanFrom
@@ -234,17 +235,18 @@ on-alike : (inclusive : Bool) (before after : List Item) →
     inResult bareOption (rangeOn inclusive (bareItems before) (bareItems after)) ≡ inResult bareOption (rangeOn inclusive before after)
 on-alike inclusive before after =
     bind-alike bareUsb bareOption (parseStart (bareItems before)) (parseStart before) _ _ (start-alike before)
-      (λ s s′ q. bind-alike (inOption bareUsb) bareOption (parseEnd inclusive (bareItems after)) (parseEnd inclusive after)
-        (λ e. ok (some (record { start = s; «end» = e })))
-        (λ e. ok (some (record { start = s′; «end» = e })))
-        (end-alike inclusive after)
-        (λ e e′ r i. ok (some (record { start = q i; «end» = r i }))))
+    (λ s s′ q. bind-alike (inOption bareUsb) bareOption (parseEnd inclusive (bareItems after)) (parseEnd inclusive after)
+    (λ e. ok (some (record { start = s; «end» = e })))
+    (λ e. ok (some (record { start = s′; «end» = e })))
+    (end-alike inclusive after)
+    (λ e e′ r i. ok (some (record { start = q i; «end» = r i }))))
 
 after-alike : (is : List Item) (st : Scan) → inResult bareOption (rangeAfter (bareItems is) st) ≡ inResult bareOption (rangeAfter is st)
 after-alike is st = go (st .inclusive) (st .found)
   where
     after : Bool → Option (ℕ × ℕ) → List Item → Result (Option Usbr)
     after inclusive o is = elim o [ none ↦ ok none | some f ↦ rangeOn inclusive (take (f .0) is) (drop (f .1) is) ]
+
     go : (inclusive : Bool) (o : Option (ℕ × ℕ)) → inResult bareOption (after inclusive o (bareItems is)) ≡ inResult bareOption (after inclusive o is)
     go inclusive none = refl
     go inclusive (some f) =
@@ -257,8 +259,8 @@ parse-alike [] = refl
 parse-alike (i ∷ is) =
     let js = i ∷ is in
     bind-alike {A = Scan} (λ st. st) bareOption (scan (bareItems js)) (scan js) (rangeAfter (bareItems js)) (rangeAfter js)
-      (ap (inResult (λ st. st)) (bare-scan 0 js (record { dots = 0; found = none; inclusive = false })))
-      (λ st st′ q. ap (λ st. inResult bareOption (rangeAfter (bareItems js) st)) q ∙ after-alike js st′)
+    (ap (inResult (λ st. st)) (bare-scan 0 js (record { dots = 0; found = none; inclusive = false })))
+    (λ st st′ q. ap (λ st. inResult bareOption (rangeAfter (bareItems js) st)) q ∙ after-alike js st′)
 
 -- ── What a bracket is read as ──
 
@@ -278,7 +280,7 @@ in-alike is (some r) (some r′) q = cc
 range-alike : (is : List Item) → inResult bareRange (readRange (bareItems is)) ≡ inResult bareRange (readRange is)
 range-alike is =
     bind-alike bareOption bareRange (parseRange (bareItems is)) (parseRange is) (λ r. ok (rangeIn (bareItems is) r)) (λ r. ok (rangeIn is r)) (parse-alike is)
-      (λ r r′ q. ap {B = Result Usbr} ok (in-alike is r r′ q))
+    (λ r r′ q. ap {B = Result Usbr} ok (in-alike is r r′ q))
 
 -- the same records are read as the same range wherever they stand
 pub reads-anywhere : (at at′ : ℕ) (rs : List Rec) → inResult bareRange (readRange (items at rs)) ≡ inResult bareRange (readRange (items at′ rs))
