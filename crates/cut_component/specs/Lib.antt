@@ -1,2 +1,11 @@
--- Stages 1 and 2 of a literal and of its pieces: stated in Statement, proved beside it.
+-- Stages 1 and 2 of a literal and of its pieces: stated in Statement, proved in Proof from the files above it.
+pub mod Laws
+pub mod Forests
+pub mod Colons
+pub mod Offsets
+pub mod Fitting
+pub mod Fixed
+pub mod Literals
+pub mod Proof
 pub mod Statement
+pub mod Witness
