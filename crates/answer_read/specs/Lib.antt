@@ -1,2 +1,3 @@
 -- What an accepted run's bytes say is what its answer says, whatever the text starts: stated in Statement, proved beside it.
 pub mod Statement
+pub mod Erase
