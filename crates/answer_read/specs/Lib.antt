@@ -3,3 +3,5 @@ pub mod Statement
 pub mod Erase
 pub mod Facts
 pub mod Items
+pub mod Texts
+pub mod Components
