@@ -109,6 +109,15 @@ module _ {A : Type 0} where
       (and-iff (p (length x)) (all (λ x. p (length x)) l)) .1
       (h (length x) (omega arith), all-parts p n l h (omega arith))
 
+  -- one part or more, of one element or more each
+  pub joined-some : (l : List (List A)) → 1 ≤ length l → all (λ x. leb 1 (length x)) l ≡ true → 1 ≤ length (joined l)
+  unfolding joined all
+  joined-some [] h t = absurd (omega arith)
+  joined-some (x ∷ l) h t =
+      let e = length-append x (joined l) in
+      let f : 1 ≤ length x = (leb-iff 1 (length x)) .0 ((and-iff (leb 1 (length x)) (all (λ x. leb 1 (length x)) l)) .0 t .0) in
+      omega arith
+
 -- ---- along a map
 
 module _ {A B : Type 0} where

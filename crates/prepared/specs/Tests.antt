@@ -1,6 +1,7 @@
 -- Tests that came out true, as facts: conjunctions, and comparisons of numbers.
-use mathlib.Core.Path.{_≡_, refl, ap, subst}
+use mathlib.Core.Path.{_≡_, refl, sym, _∙_}
 use mathlib.Core.Logic.{_↔_, _≢_}
+use mathlib.Core.Bool.{true≢false}
 use Prim.Native.Nat.{ℕ, zero, suc, _≤_, _<_}
 use native.Mathlib.Omega.{arith}
 use lib.Dec.{T, leb→le, le→leb, eqb→eq, eqb-refl}
@@ -29,6 +30,9 @@ eqb-iff m n = (λ h. eqb→eq m n (T-of (eqb m n) h), λ h. of-T (eqb m n) (rw h
 
 pub eqb-false : (m n : ℕ) → m ≢ n → eqb m n ≡ false
 eqb-false m n h = by-test (eqb m n) (λ t. absurd (h ((eqb-iff m n) .0 t))) (λ t. t)
+
+pub eqb-apart : (m n : ℕ) → eqb m n ≡ false → m ≢ n
+eqb-apart m n h e = true≢false (sym ((eqb-iff m n) .1 e) ∙ h)
 
 -- a conjunction of comparisons, as the product of what it says
 pub ruleset tested = (and-iff, leb-iff, eqb-iff)
