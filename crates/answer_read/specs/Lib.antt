@@ -5,3 +5,4 @@ pub mod Facts
 pub mod Items
 pub mod Texts
 pub mod Components
+pub mod Trees
