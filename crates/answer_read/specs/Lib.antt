@@ -6,3 +6,5 @@ pub mod Items
 pub mod Texts
 pub mod Components
 pub mod Trees
+pub mod Placement
+pub mod Blocks
