@@ -1,17 +1,18 @@
 -- What stands in an answer's bytes, read at its place: numbers, texts, bounds.
 use mathlib.Core.Path.{_≡_, refl, sym, ap, ap₂, _∙_}
 use Prim.Native.Nat.{ℕ, zero, suc, _+_, _*_, _-_, _^_, _≤_, _<_}
-use native.Mathlib.Nat.{add-assoc, add-zero}
+use native.Mathlib.Nat.{add-assoc}
 use native.Mathlib.Omega.{arith}
+use mathlib.Core.List.{append-assoc}
 use lib.ListN.{length-append, length-drop}
 use lib.Seq.{take-append-seam, drop-drop, drop-nil}
-use Rattle.def_numbers.specs.Prelude.{Bool, true, false, List, [], _∷_, _++_, length, getD, take, drop}
+use Rattle.def_numbers.specs.Prelude.{Bool, true, false, List, [], _∷_, _++_, length, take, drop}
 use Rattle.def_numbers.specs.Basics.{if_then_else_, isEmpty, sum, tab}
 use Rattle.def_image.specs.Image.{u32At, padded, bytesAt, tables}
 use Rattle.def_image.specs.Tree.{u32}
 use Rattle.def_stages.specs.Text.{Part}
 use Rattle.def_stages.specs.Ranges.{Usb}
-use Rattle.def_run.specs.Answer.{textBytes, xBytes, usbBytes, textAt, boundAt, untwos, Bound}
+use Rattle.def_run.specs.Answer.{textBytes, xBytes, usbBytes, textAt, boundAt, untwos}
 use Rattle.prepared.specs.Lists.{length-tab, tab-ext}
 use Rattle.prepared.specs.Bytes.{Holds, holds-left, holds-right, holds-getD, u32At-holds}
 use Rattle.answer_read.specs.Statement.{shownBound}
@@ -36,6 +37,15 @@ u32At-in s i m j k h e l =
 -- what stands after a first part
 pub holds-next : (s : List ℕ) (i : ℕ) (a b : List ℕ) (k : ℕ) → Holds s i (a ++ b) → i + length a ≡ k → Holds s k b
 holds-next s i a b k h e = rw e at (holds-right s i a b h)
+
+-- four parts, one after the other
+pub four-parts : (s : List ℕ) (i j k l : ℕ) (a b c d : List ℕ) → i + length a ≡ j → j + length b ≡ k → k + length c ≡ l
+    → Holds s i (a ++ b ++ c ++ d) → Holds s i a × Holds s j b × Holds s k c × Holds s l d
+four-parts s i j k l a b c d p q r h =
+    let h₁ : Holds s i (a ++ (b ++ (c ++ d))) = rw (← append-assoc a b (c ++ d), ← append-assoc (a ++ b) c d) h in
+    let h₂ = holds-next s i a (b ++ (c ++ d)) j h₁ p in
+    let h₃ = holds-next s j b (c ++ d) k h₂ q in
+    (holds-left s i a (b ++ (c ++ d)) h₁, holds-left s j b (c ++ d) h₂, holds-left s k c d h₃, holds-next s k c d l h₃ r)
 
 -- a text that is not empty ends in the text around it
 pub holds-bound : (s : List ℕ) (i : ℕ) (m : List ℕ) → Holds s i m → 0 < length m → i + length m ≤ length s

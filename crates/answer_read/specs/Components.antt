@@ -1,22 +1,22 @@
 -- Stages 1 and 2 of a component: its texts stand in the component's text, and its literal has no more bits than before.
-use mathlib.Core.Path.{_≡_, refl, sym, ap, _∙_}
+use mathlib.Core.Path.{_≡_, refl, ap}
 use Prim.Native.Nat.{ℕ, _≤_, zero-le}
 use native.Mathlib.Nat.{le-refl}
 use native.Mathlib.Omega.{arith}
 use lib.ListN.{length-take, length-drop}
 use Rattle.def_numbers.specs.Prelude.{Bool, true, false, _&&_, _||_, not, Option, none, some, List, [], _∷_, _++_, length, take, drop, eqb, ℤ, pos, natAbs, _+ℤ_, _-ℤ_, ltZ, leZ, nonNeg}
-use Rattle.def_numbers.specs.Basics.{Result, ok, refused, _>>=_, if_then_else_, isEmpty}
+use Rattle.def_numbers.specs.Basics.{ok, _>>=_, if_then_else_, isEmpty}
 use Rattle.def_numbers.specs.Numbers.{tryParse, char}
 use Rattle.def_numbers.specs.Refusals.{need, nothing-before-range, no-literal, overflow, negative-bound, reversed, zero-width, start-above-width, end-above-width, range-above-width, end-zero, open-start}
 use Rattle.def_image.specs.Image.{Unparsed, kinds}
 use Rattle.def_image.specs.Tree.{textOf}
-use Rattle.def_stages.specs.Text.{Part, noText, Item, items, isToken, partOf}
+use Rattle.def_stages.specs.Text.{noText, Item, items, isToken}
 use Rattle.def_stages.specs.Ranges.{Usb, Usbr, val, withX, unbounded, parseRange, singleBit, staticVal}
 use Rattle.def_stages.specs.Component.{Component, ComponentType, literal, variable, filler, Split, splitRange, Prefix, beyond, splitColon, splitOf, prefixOf, middle, isLiteral, typed, parseComponent, stage1Component, simplifyUsb, simplifyEnd, simplifyRange, theEnd, withEnd, cutLiteral, simplifyLiteral, simplify, isZero, hasEnd, ifStatic, ifStaticEnd, ifKnown}
 use Rattle.def_stages.specs.Concatenation.{bitsOf}
 use Rattle.prepared.specs.Bytes.{Holds}
-use Rattle.answer_read.specs.Facts.{Yields, given, nothing, Found, found, missing, after, bound, yields-if}
-use Rattle.answer_read.specs.Items.{Stands, Run, items-run, run-split, run-part, run-inside}
+use Rattle.answer_read.specs.Facts.{Yields, given, Found, found, missing, after, bound, yields-if}
+use Rattle.answer_read.specs.Items.{Run, items-run, run-split, run-part, run-inside}
 use Rattle.answer_read.specs.Texts.{InUsb, InUsbr, InType, InComponent, in-val, with-x, parse-range}
 
 -- ---- what stands before a range, and before and after a colon

@@ -1,19 +1,18 @@
 -- The stages do not look at the text starts: each stage of a tree without them is the stage of the tree, its result without them.
 use mathlib.Core.Path.{_≡_, refl, ap, ap₂, _∙_}
 use lib.ListN.{length-map}
-use Rattle.def_numbers.specs.Prelude.{ℕ, zero, suc, Bool, true, false, _&&_, _||_, not, Option, none, some, List, [], _∷_, map, _++_, length, leb, ltb, eqb}
+use Rattle.def_numbers.specs.Prelude.{ℕ, suc, Bool, true, false, _&&_, not, Option, none, some, List, [], _∷_, map, _++_, leb, ltb, eqb}
 use Rattle.def_numbers.specs.Basics.{Result, ok, refused, _>>=_, placed, if_then_else_, isEmpty}
 use Rattle.def_numbers.specs.Refusals.{need, refuse, middle-filler, opposite-fillers, zero-total-width, empty-after-colon}
 use Rattle.def_image.specs.Image.{Unparsed, Placed}
 use Rattle.def_stages.specs.Text.{Part, partOf}
 use Rattle.def_stages.specs.Component.{Component, Prefix, Parsed, prefixOf, startingValue, source, eachIn, each, keepBase, stage1Component, simplify, stage1, stage2}
 use Rattle.def_stages.specs.Concatenation.{Concatenation, Running, isAlign, align-mid, running, isUnboundedFiller, isStaticLiteral, fixedLiteral, bitsOf, checkFrom, check, stage3, mergeOnto, merge, merged}
-use Rattle.def_stages.specs.Overall.{Overall, overall, placeFrom, joinWidth, checkSource, overallFrom, middleFrom, oppositeFrom, isFiller, isSided, stage4}
-use Rattle.def_run.specs.Answer.{Answer}
+use Rattle.def_stages.specs.Overall.{Overall, overall, placeFrom, checkSource, overallFrom, middleFrom, oppositeFrom, isFiller, isSided, stage4}
 use Rattle.def_run.specs.Run.{stages}
 use Rattle.answer_read.specs.Statement.{erase, eraseTree, eraseConcatenation, eraseAnswer, onOk, EraseStages}
 
-abbrev eraseInit : Option (Placed Part) → Option (Placed Part)
+abbrev pub eraseInit : Option (Placed Part) → Option (Placed Part)
 eraseInit none = none
 eraseInit (some p) = some (erase p)
 

@@ -1,8 +1,6 @@
 -- How a fact is carried along: to what an operation gives where it does not refuse, to what is found, to every element of a list.
-use mathlib.Core.Path.{_≡_, refl}
-use Rattle.def_numbers.specs.Prelude.{ℕ, Bool, true, false, Option, none, some, List, [], _∷_, _++_, map}
-use Rattle.def_numbers.specs.Basics.{Result, ok, refused, _>>=_, placed, if_then_else_, joined}
-use Rattle.def_numbers.specs.Refusals.{Reason, need}
+use Rattle.def_numbers.specs.Prelude.{ℕ, Bool, true, false, Option, none, some, List, [], _∷_, _++_}
+use Rattle.def_numbers.specs.Basics.{Result, ok, refused, _>>=_, placed, if_then_else_}
 
 pub data Yields {A : Type 0} (P : A → Type 0) : Result A → Type 0 where
   given : {a : A} → P a → Yields P (ok a)

@@ -1,7 +1,7 @@
 -- The items of a text stand in it: one after the other, each with what stands inside it.
 use mathlib.Core.Path.{_≡_, refl, sym, ap, _∙_}
 use Prim.Native.Nat.{ℕ, zero, suc, _+_}
-use native.Mathlib.Nat.{add-zero, add-assoc}
+use native.Mathlib.Nat.{add-zero}
 use native.Mathlib.Omega.{arith}
 use mathlib.Core.List.{append-assoc, dropLast-prefix}
 use lib.ListN.{length-append, take-append-drop}
@@ -9,7 +9,7 @@ use lib.Seq.{drop-append-seam, drop-drop}
 use Rattle.def_numbers.specs.Prelude.{List, [], _∷_, _++_, length, take, drop, dropLast}
 use Rattle.def_image.specs.Image.{Rec}
 use Rattle.def_image.specs.Tree.{textOf}
-use Rattle.def_stages.specs.Text.{Part, noText, Item, more, chunks, itemOf, itemsOf, items, bytesOf, partOf}
+use Rattle.def_stages.specs.Text.{Part, Item, more, chunks, itemsOf, items, bytesOf, partOf}
 use Rattle.prepared.specs.Bytes.{Holds, holds-left, holds-right}
 use Rattle.prepared.specs.Groups.{textOf-append}
 

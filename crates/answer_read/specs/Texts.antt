@@ -1,19 +1,16 @@
 -- Every text of a range that stage 1 reads stands in its component's text.
-use mathlib.Core.Path.{_≡_, refl, sym, ap, _∙_}
-use Prim.Native.Nat.{ℕ, zero, suc, _+_, _≤_}
-use native.Mathlib.Omega.{arith}
-use lib.ListN.{length-take, length-drop}
-use Rattle.def_numbers.specs.Prelude.{Bool, true, false, _&&_, not, Option, none, some, List, [], _∷_, _++_, length, take, drop, eqb, ℤ, pos, natAbs, _+ℤ_, _-ℤ_}
-use Rattle.def_numbers.specs.Basics.{Result, ok, refused, _>>=_, if_then_else_, isEmpty}
-use Rattle.def_numbers.specs.Numbers.{tryParse, char, narrow}
+use mathlib.Core.Path.{_≡_, refl, ap}
+use Prim.Native.Nat.{ℕ}
+use Rattle.def_numbers.specs.Prelude.{Bool, true, false, _&&_, not, Option, none, some, List, [], _∷_, _++_, take, drop, eqb, ℤ, pos, _+ℤ_, _-ℤ_}
+use Rattle.def_numbers.specs.Basics.{ok, _>>=_, if_then_else_, isEmpty}
+use Rattle.def_numbers.specs.Numbers.{char, narrow}
 use Rattle.def_numbers.specs.Refusals.{Reason, need, refuse, bound-overflow, not-one-token, empty-range}
-use Rattle.def_image.specs.Image.{Unparsed, Placed, kinds}
-use Rattle.def_image.specs.Tree.{textOf}
-use Rattle.def_stages.specs.Text.{Part, noText, Item, items, isGroup, isToken, partOf}
-use Rattle.def_stages.specs.Ranges.{Usb, Usbr, Cut, Scan, val, text, withX, unbounded, behind, cutLast, cutPair, cutBound, orElse, beginsWith, numberIn, side, joinSides, readBound, parseUsb, parseStart, parseEnd, scan, parseRange, singleBit, staticVal}
+use Rattle.def_image.specs.Image.{kinds}
+use Rattle.def_stages.specs.Text.{Part, Item, items, isGroup, isToken, partOf}
+use Rattle.def_stages.specs.Ranges.{Usb, Usbr, Cut, Scan, val, text, withX, behind, cutLast, cutPair, cutBound, orElse, beginsWith, numberIn, side, joinSides, readBound, parseUsb, parseStart, parseEnd, scan, parseRange}
 use Rattle.def_stages.specs.Component.{Component, ComponentType, literal, variable, filler}
 use Rattle.answer_read.specs.Facts.{Yields, given, nothing, Found, found, missing, after, bound, yields-if}
-use Rattle.answer_read.specs.Items.{Stands, Run, items-run, run-split, run-take, run-drop, run-part, run-inside}
+use Rattle.answer_read.specs.Items.{Stands, Run, run-split, run-take, run-drop, run-part, run-inside}
 
 -- ---- items cut at a sign, before a range's bracket, and at a colon
 

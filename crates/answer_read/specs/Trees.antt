@@ -1,6 +1,6 @@
 -- The stages over a tree whose components' texts stand in one text: so do the answer's texts, and the answer is no larger than the tree.
-use mathlib.Core.Path.{_≡_, refl, sym, ap, ap₂, _∙_}
-use Prim.Native.Nat.{ℕ, zero, suc, _+_, _*_, _≤_, _<_}
+use mathlib.Core.Path.{_≡_, refl, ap, ap₂, _∙_}
+use Prim.Native.Nat.{ℕ, suc, _+_, _≤_}
 use native.Mathlib.Nat.{le-refl, le-trans}
 use native.Mathlib.Omega.{arith}
 use lib.ListN.{length-append, length-map}
@@ -13,14 +13,13 @@ use Rattle.def_stages.specs.Text.{Part, partOf}
 use Rattle.def_stages.specs.Component.{Component, Prefix, Parsed, prefixOf, startingValue, source, eachIn, each, keepBase, stage1Component, simplify, stage1, stage2}
 use Rattle.def_stages.specs.Concatenation.{Concatenation, isStaticLiteral, fixedLiteral, bitsOf, running, checkFrom, check, stage3, mergeOnto, merge, merged}
 use Rattle.def_stages.specs.Overall.{stage4}
-use Rattle.def_run.specs.Answer.{Answer}
 use Rattle.def_run.specs.Run.{stages}
 use Rattle.prepared.specs.Lists.{map-append, sum-append}
 use Rattle.prepared.specs.Bytes.{Holds}
-use Rattle.answer_read.specs.Facts.{Yields, given, nothing, Found, found, missing, Every, every-nil, every-cons, after, bound, yields-placed, every-append, every-split}
+use Rattle.answer_read.specs.Facts.{Yields, given, Found, found, missing, Every, every-nil, every-cons, after, bound, yields-placed, every-append, every-split}
 use Rattle.answer_read.specs.Items.{Stands, Run, run-part}
 use Rattle.answer_read.specs.Texts.{InComponent, in-val}
-use Rattle.answer_read.specs.Components.{Kept, simplify-kept, prefix-runs, stage1-kept}
+use Rattle.answer_read.specs.Components.{simplify-kept, prefix-runs, stage1-kept}
 
 -- a size of each element, over a list
 abbrev pub total : {A : Type 0} → (A → ℕ) → List A → ℕ
