@@ -1,0 +1,2 @@
+-- Where the bits of a cut literal lie: stated in Statement, proved beside it.
+pub mod Statement

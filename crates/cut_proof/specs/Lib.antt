@@ -1,0 +1,4 @@
+-- Demand 3, proved: the pieces put together.
+pub mod Assemble
+pub mod Bare
+pub mod Cut

@@ -1,0 +1,2 @@
+-- The stages of a tree with a literal, and of the tree with its pieces: stated in Statement, proved beside it.
+pub mod Statement

@@ -1,0 +1,73 @@
+-- What the stages make of a tree with a fixed literal and of the tree with its pieces, the text starts left out.
+use mathlib.Core.Path.{_≡_}
+use Prim.Native.Nat.{_≤_, _<_}
+use Rattle.def_numbers.specs.Prelude.{ℕ, Bool, true, false, Option, none, some, List, [], _∷_, _++_, map, length}
+use Rattle.def_numbers.specs.Basics.{Result, ok, _>>=_}
+use Rattle.def_image.specs.Image.{Unparsed, Placed}
+use Rattle.def_image.specs.Tree.{Node, Tree, soundForest}
+use Rattle.def_stages.specs.Component.{Component, Parsed, stage1, stage2}
+use Rattle.def_stages.specs.Concatenation.{stage3, merged}
+use Rattle.def_stages.specs.Overall.{stage4}
+use Rattle.def_run.specs.Answer.{Answer}
+use Rattle.def_run.specs.Run.{stages}
+use Rattle.cutting.specs.Statement.{Given, treeWith, newTree, scanned, fixedLiteral, readsAs, rising, piecesOf}
+use Rattle.cut_component.specs.Statement.{cutTo, bare}
+
+abbrev pub bareTree : Tree → List (List (Placed Unparsed))
+bareTree = map (map bare)
+
+-- stages 1 and 2, and stages 3 to 5 of what they leave
+abbrev pub early : List (List (Placed Unparsed)) → Result Parsed
+early t = stage1 t >>= stage2
+
+abbrev pub later : ℕ → Parsed → Result Answer
+later mode p =
+    stage3 0 (p .cc) >>= λ cc.
+    stage4 mode (elim (p .init) [ none ↦ false | some q ↦ true ]) cc >>= λ o.
+    ok (record { init = p .init; overall = o; cc = map merged cc })
+
+abbrev pub InTurn : Type 0
+InTurn = (mode : ℕ) (t : List (List (Placed Unparsed))) → stages mode t ≡ (early t >>= later mode)
+
+-- the literal's bits c to d as a component after stage 2, and all the pieces
+abbrev pub bitsBetween : List ℕ → ℕ → ℕ → Placed Component
+bitsBetween bits c d = record { base = 0; value = cutTo bits c d }
+
+abbrev pub pieceComponents : List ℕ → ℕ → List ℕ → ℕ → List (Placed Component)
+pieceComponents bits a places b = map (λ (cd : ℕ × ℕ). bitsBetween bits (cd .0) (cd .1)) (piecesOf a places b)
+
+-- what is needed of the given: premises of the claim, and what `fits` says of the literal
+pub record Cuttable (g : Given) : Type 0 where
+  pub sound : soundForest (g .node .forest) ≡ true
+  pub small : length (g .node .bits) ≤ 4096
+  pub bounds : fixedLiteral (scanned g) (g .node) ≡ some (g .a, g .b)
+  pub rises : rising (g .a) (g .place ∷ g .places) (g .b) ≡ true
+  pub brackets-read : map (readsAs (length (g .node .bits))) (g .brackets) ≡ map some (piecesOf (g .a) (g .place ∷ g .places) (g .b))
+
+-- after stage 2 the two trees differ in the literal's place only
+pub record CutParsed (g : Given) (p : Parsed) : Type 0 where
+  pub concatenations-below : List (List (Placed Component))
+  pub below : List (Placed Component)
+  pub above : List (Placed Component)
+  pub concatenations-above : List (List (Placed Component))
+  pub same-concatenations : length concatenations-below ≡ length (g .concatenations-below)
+  pub same-components : length below ≡ length (g .below)
+  pub old : p .cc ≡ concatenations-below ++ (below ++ (bitsBetween (g .node .bits) (g .a) (g .b) ∷ []) ++ above) ∷ concatenations-above
+  pub new :
+      early (bareTree (newTree g))
+      ≡ ok (record {
+        init = p .init;
+        cc = concatenations-below ++ (below ++ pieceComponents (g .node .bits) (g .a) (g .place ∷ g .places) (g .b) ++ above) ∷ concatenations-above;
+      })
+  pub within-width : g .b ≤ length (g .node .bits)
+
+abbrev pub CutEarly : Type 0
+CutEarly = (g : Given) → Cuttable g → (p : Parsed) → early (bareTree (treeWith g (g .node ∷ []))) ≡ ok p → CutParsed g p
+
+-- stages 3 to 5 give the same answer
+abbrev pub CutLater : Type 0
+CutLater =
+    (mode : ℕ) (init : Option (Placed Rattle.def_stages.specs.Text.Part)) (cb : List (List (Placed Component))) (l h : List (Placed Component)) (ca : List (List (Placed Component)))
+    (bits : List ℕ) (a : ℕ) (places : List ℕ) (b : ℕ) → rising a places b ≡ true → b ≤ length bits → length bits ≤ 4096 → (answer : Answer)
+    → later mode (record { init = init; cc = cb ++ (l ++ (bitsBetween bits a b ∷ []) ++ h) ∷ ca }) ≡ ok answer
+    → later mode (record { init = init; cc = cb ++ (l ++ pieceComponents bits a places b ++ h) ∷ ca }) ≡ ok answer

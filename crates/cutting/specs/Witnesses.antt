@@ -1,0 +1,175 @@
+-- Closed examples that meet every premise of the cutting claim, with the claim computed on each: no premise is empty.
+use mathlib.Core.Path.{_≡_, refl, sym, ap, subst}
+use lib.ListN.{replicate}
+use lib.Dec.{T, leb→le}
+use Rattle.def_numbers.specs.Prelude.{ℕ, _+_, _-_, Bool, true, none, some, List, [], _∷_, _++_, map, length, getD, Option, leb}
+use Rattle.def_numbers.specs.Basics.{ascii, Result, ok, refused, tab, joined}
+use Rattle.def_numbers.specs.Limits.{areaNeeded}
+use Rattle.def_image.specs.Image.{kinds}
+use Rattle.def_image.specs.Tree.{Forest, end, word, group, Node, Tree, imageOf, fits, literalsOf}
+use Rattle.def_stages.specs.Readings.{tokens, parenthesised}
+use Rattle.def_run.specs.Answer.{Read}
+use Rattle.def_run.specs.Run.{run}
+use Rattle.def_examples.specs.Compute.{computed}
+use Rattle.cutting.specs.Statement.{Given, Premises, BitPlace, _⊕_, unranged, atColon, rising, piecesOf, pieces, runEnd, pieceAt, treeWith, newTree, scanned, fixedLiteral, readsAs, image, newImage, readOld, readNew, placeOf, componentsOf, bitIn}
+
+-- the answer of a run that accepts
+abbrev pub answerOf : List ℕ → ℕ → ℕ → List ℕ
+answerOf im mode area = elim (run im mode area) [ ok s ↦ s | refused n i k ↦ [] ]
+
+abbrev pub newAnswer : Given → List ℕ
+newAnswer g = answerOf (newImage g) (g .mode) (length (g .new-area))
+
+-- where the bits a to b lie in the old and in the new answer, and what the answers hold there
+abbrev pub oldPlaces : Given → List BitPlace
+oldPlaces g = tab (λ i. placeOf (componentsOf (image g)) (length (g .concatenations-below)) (length (g .below)) (i - g .a)) (g .a) (g .b - g .a)
+
+abbrev pub newPlaces : Given → List BitPlace
+newPlaces g =
+    tab (λ i.
+    let p = pieceAt (g .a) (g .place ∷ g .places) i in
+    placeOf (componentsOf (newImage g)) (length (g .concatenations-below)) (length (g .below) + p .index) (i - p .start)) (g .a) (g .b - g .a)
+
+-- the premises and the conclusions of the claim on one example: what is computed, and what it is claimed to be
+pub record Facts : Type 0 where
+  pub fits-old : Bool
+  pub accepted : Result (List ℕ)
+  pub bounds : Option (ℕ × ℕ)
+  pub rises : Bool
+  pub brackets-read : List (Option (ℕ × ℕ))
+  pub fits-new : Bool
+  pub room : Bool
+  pub new-accepted : Result (List ℕ)
+  pub fields : Read
+  pub places : List BitPlace
+  pub old-bits : List (Option ℕ)
+  pub new-bits : List (Option ℕ)
+
+abbrev pub room : Given → ℕ
+room g = areaNeeded (length (newTree g)) (length (joined (newTree g))) (length (literalsOf (joined (newTree g))))
+
+abbrev pub found : Given → Facts
+found g =
+    record {
+      fits-old = fits (treeWith g (g .node ∷ []));
+      accepted = run (image g) (g .mode) (length (g .area));
+      bounds = fixedLiteral (scanned g) (g .node);
+      rises = rising (g .a) (g .place ∷ g .places) (g .b);
+      brackets-read = map (readsAs (length (g .node .bits))) (g .brackets);
+      fits-new = fits (newTree g);
+      room = leb (room g) (length (g .new-area));
+      new-accepted = run (newImage g) (g .mode) (length (g .new-area));
+      fields = readNew g (newAnswer g);
+      places = newPlaces g;
+      old-bits = map (bitIn (readOld g)) (oldPlaces g);
+      new-bits = map (bitIn (readNew g (newAnswer g))) (newPlaces g);
+    }
+
+abbrev pub claimed : Given → Facts
+claimed g =
+    record {
+      fits-old = true;
+      accepted = ok (g .answer);
+      bounds = some (g .a, g .b);
+      rises = true;
+      brackets-read = map some (piecesOf (g .a) (g .place ∷ g .places) (g .b));
+      fits-new = true;
+      room = true;
+      new-accepted = ok (newAnswer g);
+      fields = readOld g;
+      places = oldPlaces g;
+      old-bits = tab (λ i. some (getD (g .node .bits) i 0)) (g .a) (g .b - g .a);
+      new-bits = tab (λ i. some (getD (g .node .bits) i 0)) (g .a) (g .b - g .a);
+    }
+
+-- an example on which the two agree meets every premise
+pub meets : (g : Given) → found g ≡ claimed g → Premises g
+meets g h =
+    record {
+      a-tree = ap (λ f. f .fits-old) h;
+      accepted = ap (λ f. f .accepted) h;
+      bounds = ap (λ f. f .bounds) h;
+      rises = ap (λ f. f .rises) h;
+      brackets-read = ap (λ f. f .brackets-read) h;
+      within-limits = ap (λ f. f .fits-new) h;
+      long-enough = leb→le (room g) (length (g .new-area)) (subst T (sym (ap (λ f. f .room) h)) tt);
+    }
+
+-- a literal in its place, its bounds, places and brackets, under mode 0, with areas that hold other bytes
+abbrev pub example : Tree → List Node → Node → List Node → Tree → ℕ → ℕ → ℕ → List ℕ → List Forest → Given
+example cb below node above ca a b place places brackets =
+    record {
+      mode = 0;
+      area = replicate 500 7;
+      answer = answerOf (imageOf (cb ++ (below ++ (node ∷ []) ++ above) ∷ ca)) 0 500;
+      concatenations-below = cb;
+      below = below;
+      node = node;
+      above = above;
+      concatenations-above = ca;
+      a = a;
+      b = b;
+      place = place;
+      places = places;
+      brackets = brackets;
+      new-area = replicate 900 9;
+    }
+
+-- 165, as document 01's worked literal: bits 10100101
+abbrev pub byte : Forest → Node
+byte f = record { forest = f; bits = 1 ∷ 0 ∷ 1 ∷ 0 ∷ 0 ∷ 1 ∷ 0 ∷ 1 ∷ [] }
+
+abbrev pub plain : Forest → Node
+plain f = record { forest = f; bits = [] }
+
+-- `rec[..8]`
+abbrev pub sink : List Node
+sink = plain (word (ascii "rec") (group (kinds .bracket) (tokens ("." ∷ "." ∷ "8" ∷ [])) end)) ∷ []
+
+-- all names that the examples compute with
+unfoldable pub opened : ℕ
+unfolding computed tokens _⊕_ unranged atColon rising piecesOf pieces runEnd pieceAt
+opened = 0
+
+-- the worked example with its 8 bits as one literal, cut into two: `[..4]` and `[4..]`, whose end is omitted
+unfoldable pub two : Given
+two = example [] [] (byte (tokens ("165u8" ∷ []))) [] (sink ∷ []) 0 8 4 [] (tokens ("." ∷ "." ∷ "4" ∷ []) ∷ tokens ("4" ∷ "." ∷ "." ∷ []) ∷ [])
+
+-- into three: `[..3]`, `[3..=4]` and `[5..]`
+unfoldable pub three : Given
+three =
+    example [] [] (byte (tokens ("165u8" ∷ []))) [] (sink ∷ []) 0 8 3 (5 ∷ [])
+    (tokens ("." ∷ "." ∷ "3" ∷ []) ∷ tokens ("3" ∷ "." ∷ "." ∷ "=" ∷ "4" ∷ []) ∷ tokens ("5" ∷ "." ∷ "." ∷ []) ∷ [])
+
+-- `a::b:165u8`: the prefix stays on the highest piece
+unfoldable pub prefixed : Given
+prefixed =
+    example [] [] (byte (tokens ("a" ∷ ":" ∷ ":" ∷ "b" ∷ ":" ∷ "165u8" ∷ []))) [] (sink ∷ []) 0 8 4 []
+    (tokens ("." ∷ "." ∷ "4" ∷ []) ∷ tokens ("4" ∷ "." ∷ "." ∷ "8" ∷ []) ∷ [])
+
+-- `.., 165u8[1..7], a`: between a variable and an unbounded filler; `[1..(2+3)]`, `[5]` and `[6..7]`
+unfoldable pub between : Given
+between =
+    example [] (plain (tokens ("a" ∷ [])) ∷ []) (byte (word (ascii "165u8") (group (kinds .bracket) (tokens ("1" ∷ "." ∷ "." ∷ "7" ∷ [])) end)))
+    (plain (tokens ("." ∷ "." ∷ [])) ∷ []) ((plain (word (ascii "b") (group (kinds .bracket) (tokens ("." ∷ "." ∷ "64" ∷ [])) end)) ∷ []) ∷ []) 1 7 5 (6 ∷ [])
+    ((tokens ("1" ∷ "." ∷ "." ∷ []) ⊕ parenthesised ("2" ∷ "+" ∷ "3" ∷ [])) ∷ tokens ("5" ∷ []) ∷ tokens ("6" ∷ "." ∷ "." ∷ "7" ∷ []) ∷ [])
+
+pub two-right : found two ≡ claimed two
+unfolding opened two
+two-right = refl
+
+pub three-right : found three ≡ claimed three
+unfolding opened three
+three-right = refl
+
+pub prefixed-right : found prefixed ≡ claimed prefixed
+unfolding opened prefixed
+prefixed-right = refl
+
+pub between-right : found between ≡ claimed between
+unfolding opened between
+between-right = refl
+
+-- the premises of the claim can be met
+pub met : Premises two × Premises three × Premises prefixed × Premises between
+met = (meets two two-right, meets three three-right, meets prefixed prefixed-right, meets between between-right)
