@@ -1,2 +1,12 @@
 -- Prepared images are trees written down: what is claimed stands in Statement, the proofs beside it.
+pub mod Bits
+pub mod Bytes
+pub mod Components
+pub mod Groups
+pub mod Layout
+pub mod Lists
+pub mod Prepared
+pub mod Records
 pub mod Statement
+pub mod Tables
+pub mod Tests

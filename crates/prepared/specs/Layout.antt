@@ -1,0 +1,133 @@
+-- The image of a tree, laid out: its six parts, where each stands, and the numbers of the header.
+use mathlib.Core.Path.{_≡_, refl, sym, ap, _∙_}
+use Prim.Native.Nat.{ℕ, zero, suc, _+_, _*_, _^_, _≤_, _<_}
+use native.Mathlib.Nat.{zero-add}
+use native.Mathlib.Omega.{arith}
+use mathlib.Core.List.{append-assoc}
+use lib.ListN.{length-append}
+use Rattle.def_numbers.specs.Prelude.{Bool, true, List, [], _∷_, _++_, map, length, leb, ltb}
+use Rattle.def_numbers.specs.Basics.{all, joined, tab}
+use Rattle.def_numbers.specs.Limits.{limits}
+use Rattle.def_image.specs.Image.{Rec, u32At, tablesFor}
+use Rattle.def_image.specs.Tree.{Tree, Node, recsOf, allRecs, textOf, literalsOf, u32, recordBytes, imageOf, fits, soundNode}
+use Rattle.prepared.specs.Tests.{leb-iff, tested}
+use Rattle.prepared.specs.Bytes.{Holds, holds-whole, holds-left, holds-right, u32At-holds}
+use Rattle.prepared.specs.Tables.{length-rows, rows-read}
+
+-- a tree within the limits, limit by limit
+pub record Fits (t : Tree) : Type 0 where
+  pub some-concatenation : 1 ≤ length t
+  pub concatenations : length t ≤ limits .concatenations
+  pub some-component : all (λ c. leb 1 (length c)) t ≡ true
+  pub components : length (joined t) ≤ limits .components
+  pub records : length (allRecs (joined t)) ≤ limits .records
+  pub text : length (textOf (allRecs (joined t))) ≤ limits .text
+  pub literals : length (literalsOf (joined t)) ≤ limits .literal-bytes
+  pub sound : all soundNode (joined t) ≡ true
+
+pub fits-parts : (t : Tree) → fits t ≡ true → Fits t
+unfolding fits
+fits-parts t h =
+    let h′ = simp tested at h in
+    record {
+      some-concatenation = h′ .0 .0 .0 .0 .0 .0 .0;
+      concatenations = h′ .0 .0 .0 .0 .0 .0 .1;
+      some-component = h′ .0 .0 .0 .0 .0 .1;
+      components = h′ .0 .0 .0 .0 .1;
+      records = h′ .0 .0 .0 .1;
+      text = h′ .0 .0 .1;
+      literals = h′ .0 .1;
+      sound = h′ .1;
+    }
+
+-- the rows of the tables of concatenations and components
+abbrev pub concatenationRow : List Node → List ℕ
+concatenationRow c = u32 (length c)
+
+abbrev pub componentRow : Node → List ℕ
+componentRow n = u32 (length (recsOf n)) ++ u32 (length (n .bits))
+
+pub length-recordBytes : (start : ℕ) (rs : List Rec) → length (recordBytes start rs) ≡ 12 * length rs
+unfolding recordBytes
+length-recordBytes start [] = refl
+length-recordBytes start (r ∷ rs) =
+    let q = length-recordBytes (start + length (r .text)) rs in
+    omega arith
+
+abbrev pub tablesOf : Tree → record { concatenations : ℕ; components : ℕ; records : ℕ; text : ℕ; literals : ℕ; stop : ℕ }
+tablesOf t =
+    tablesFor (length t) (length (joined t)) (length (allRecs (joined t))) (length (textOf (allRecs (joined t)))) (length (literalsOf (joined t)))
+
+-- "counts, then the offsets of five tables"
+abbrev header : Tree → List ℕ
+header t =
+    let at = tablesOf t in
+    length t ∷ length (joined t) ∷ length (allRecs (joined t)) ∷ length (textOf (allRecs (joined t))) ∷ length (literalsOf (joined t))
+    ∷ at .concatenations ∷ at .components ∷ at .records ∷ at .text ∷ at .literals ∷ []
+
+-- s is laid out as the image of t: the header's ten numbers, and the five tables
+pub record Layout (t : Tree) (s : List ℕ) : Type 0 where
+  pub header-read : tab (λ k. u32At s (0 + 4 * k)) 0 10 ≡ header t
+  pub concatenations : Holds s ((tablesOf t) .concatenations) (joined (map concatenationRow t))
+  pub components : Holds s ((tablesOf t) .components) (joined (map componentRow (joined t)))
+  pub records : Holds s ((tablesOf t) .records) (recordBytes 0 (allRecs (joined t)))
+  pub text : Holds s ((tablesOf t) .text) (textOf (allRecs (joined t)))
+  pub literals : Holds s ((tablesOf t) .literals) (literalsOf (joined t))
+  pub size : length s ≡ (tablesOf t) .stop
+
+-- a list in six parts, each at its place
+module _ (a b c d e f : List ℕ) (i j k l m : ℕ) where
+  s : List ℕ
+  s = a ++ b ++ c ++ d ++ e ++ f
+
+  six-parts : length a ≡ i → i + length b ≡ j → j + length c ≡ k → k + length d ≡ l → l + length e ≡ m
+      → Holds s 0 a × Holds s i b × Holds s j c × Holds s k d × Holds s l e × Holds s m f × (length s ≡ m + length f)
+  unfolding s
+  six-parts pi pj pk pl pm =
+      let pj : length (a ++ b) ≡ j = length-append a b ∙ rw pi pj in
+      let pk : length (a ++ b ++ c) ≡ k = length-append (a ++ b) c ∙ rw pj pk in
+      let pl : length (a ++ b ++ c ++ d) ≡ l = length-append (a ++ b ++ c) d ∙ rw pk pl in
+      let pm : length (a ++ b ++ c ++ d ++ e) ≡ m = length-append (a ++ b ++ c ++ d) e ∙ rw pl pm in
+      let h₅ = holds-left s 0 (a ++ b ++ c ++ d ++ e) f (holds-whole s) in
+      let h₄ = holds-left s 0 (a ++ b ++ c ++ d) e h₅ in
+      let h₃ = holds-left s 0 (a ++ b ++ c) d h₄ in
+      let h₂ = holds-left s 0 (a ++ b) c h₃ in (
+        holds-left s 0 a b h₂,
+        second a b h₂ pi,
+        second (a ++ b) c h₃ pj,
+        second (a ++ b ++ c) d h₄ pk,
+        second (a ++ b ++ c ++ d) e h₅ pl,
+        second (a ++ b ++ c ++ d ++ e) f (holds-whole s) pm,
+        rw (← pm) (length-append (a ++ b ++ c ++ d ++ e) f),
+      )
+    where
+      second : (x y : List ℕ) {i : ℕ} → Holds s 0 (x ++ y) → length x ≡ i → Holds s i y
+      second x y h e = rw (zero-add, e) at (holds-right s 0 x y h)
+
+header-holds : (t : Tree) (s : List ℕ) → Fits t → Holds s 0 (joined (map u32 (header t))) → tab (λ k. u32At s (0 + 4 * k)) 0 10 ≡ header t
+unfolding all
+header-holds t s fits h =
+    rows-read 4 u32 (λ a. refl) (λ a. ltb a (2 ^ 32)) s 0 (u32At s) (λ a. a)
+    (λ i a g p. u32At-holds s i a p ((leb-iff (suc a) (2 ^ 32)) .0 g)) 0 (header t)
+    (simp tested
+    (omega arith, (omega arith, (omega arith, (omega arith, (omega arith, (omega arith, (omega arith, (omega arith, (omega arith, (omega arith, refl)))))))))))
+    h
+
+pub layout : (t : Tree) → Fits t → Layout t (imageOf t)
+unfolding imageOf s
+layout t fits =
+    let ns = joined t in
+    let rs = allRecs ns in
+    let at = tablesOf t in
+    let p = six-parts (joined (map u32 (header t))) (joined (map concatenationRow t)) (joined (map componentRow ns)) (recordBytes 0 rs) (textOf rs)
+    (literalsOf ns) 40 (at .components) (at .records) (at .text) (at .literals) (length-rows 4 u32 (λ a. refl) (header t))
+    (rw (length-rows 4 concatenationRow (λ a. refl) t)) (rw (length-rows 8 componentRow (λ a. refl) ns)) (rw length-recordBytes) refl in
+    record {
+      header-read = header-holds t (imageOf t) fits (p .0);
+      concatenations = p .1;
+      components = p .2;
+      records = p .3;
+      text = p .4;
+      literals = p .5;
+      size = p .6;
+    }
