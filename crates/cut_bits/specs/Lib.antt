@@ -1,2 +1,5 @@
 -- Where the bits of a cut literal lie: stated in Statement, proved beside it.
 pub mod Statement
+pub mod Runs
+pub mod Widths
+pub mod Places
