@@ -1,5 +1,6 @@
 -- Where the bits of a cut literal lie: stated in Statement, proved beside it.
 pub mod Statement
 pub mod Runs
+pub mod Merging
 pub mod Widths
 pub mod Places

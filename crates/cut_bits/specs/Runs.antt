@@ -1,4 +1,4 @@
--- Runs of literals with static ranges: the one that ends a list, and what merging makes of it.
+-- The run of literals with static ranges that ends a list.
 use mathlib.Core.Path.{_≡_, refl, sym, ap, _∙_}
 use native.Mathlib.Omega.{arith}
 use mathlib.Core.List.{append-assoc}
