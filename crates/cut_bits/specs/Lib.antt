@@ -3,4 +3,5 @@ pub mod Statement
 pub mod Runs
 pub mod Merging
 pub mod Widths
+pub mod Normal
 pub mod Places

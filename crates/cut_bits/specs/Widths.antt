@@ -3,7 +3,9 @@ use mathlib.Core.Path.{_≡_, refl, sym, ap, _∙_}
 use Prim.Native.Nat.{_≤_, _<_}
 use native.Mathlib.Nat.{add-zero, le-trans}
 use lib.Dec.{lit≤}
-use Rattle.def_numbers.specs.Prelude.{ℕ, suc, true, some, ltb, ℤ, pos, negsuc}
+use native.Mathlib.Omega.{arith}
+use borrow.Author.Tests.{le-ltb, lt-ltb}
+use Rattle.def_numbers.specs.Prelude.{ℕ, zero, suc, _-_, true, false, none, some, ltb, ℤ, pos, negsuc, _-ℤ_, nonNeg}
 use Rattle.def_numbers.specs.Basics.{sameBytes}
 use Rattle.def_numbers.specs.Numbers.{half128, narrow, fits128}
 use Rattle.def_image.specs.Image.{Placed}
@@ -24,3 +26,14 @@ upTo n = record { start = val (pos 0); «end» = some (val (pos n)) }
 pub width-known : (b : ℕ) (t : ComponentType) (n : ℕ) → n ≤ 4096 → widthOf (record { base = b; value = record { c-type = t; range = upTo n } }) ≡ n
 unfolding sameBytes
 width-known b t n h = rw (widthOf, staticWidth, narrow, add-zero, short-fits n h)
+
+-- ---- differences of two numbers
+
+pub difference : (m n : ℕ) → n ≤ m → pos m -ℤ pos n ≡ pos (m - n)
+difference m zero h = ap pos (omega arith)
+difference m (suc n) h = rw (le-ltb m (suc n) h)
+
+-- a difference below 0 is known to be
+pub reversed-known : (m n : ℕ) → m < n → n ≤ 4096 → elim (narrow (pos m -ℤ pos n)) [ none ↦ true | some w ↦ nonNeg w ] ≡ false
+reversed-known m zero h k = absurd (omega arith)
+reversed-known m (suc n) h k = rw (lt-ltb m (suc n) h, narrow, short-fits (suc n - suc m) (omega arith))
