@@ -14,7 +14,7 @@ use Rattle.def_stages.specs.Text.{Part, noText, Item, items, isToken, partOf}
 use Rattle.def_stages.specs.Ranges.{Usb, Usbr, val, withX, unbounded, parseRange, singleBit, staticVal}
 use Rattle.def_stages.specs.Component.{Component, ComponentType, literal, variable, filler, Split, splitRange, Prefix, beyond, splitColon, splitOf, prefixOf, middle, isLiteral, typed, parseComponent, stage1Component, simplifyUsb, simplifyEnd, simplifyRange, theEnd, withEnd, cutLiteral, simplifyLiteral, simplify, isZero, hasEnd, ifStatic, ifStaticEnd, ifKnown}
 use Rattle.def_stages.specs.Concatenation.{bitsOf}
-use Rattle.prepared.specs.Bytes.{holds-whole}
+use Rattle.prepared.specs.Bytes.{Holds}
 use Rattle.answer_read.specs.Facts.{Yields, given, nothing, Found, found, missing, after, bound, yields-if}
 use Rattle.answer_read.specs.Items.{Stands, Run, items-run, run-split, run-part, run-inside}
 use Rattle.answer_read.specs.Texts.{InUsb, InUsbr, InType, InComponent, in-val, with-x, parse-range}
@@ -169,34 +169,35 @@ module _ (txt : List ℕ) where
       go r k (variable p) h = given ((h, k), le-refl 0)
       go r k filler h = after (need (isZero (r .start) || hasEnd r) open-start) λ _. given ((tt, k), le-refl 0)
 
--- ---- stage 1 of a component, over its own text
+-- ---- stage 1 of a component whose records' text begins a text
 
-module _ (u : Unparsed) where
-  whole-run : Run (textOf (u .recs)) (items 0 (u .recs))
-  whole-run = items-run (textOf (u .recs)) 0 (u .recs) (holds-whole (textOf (u .recs)))
+module _ (txt : List ℕ) (u : Unparsed) (begins : Holds txt 0 (textOf (u .recs))) where
+  whole-run : Run txt (items 0 (u .recs))
+  whole-run = items-run txt 0 (u .recs) begins
 
-  mid-run : Run (textOf (u .recs)) ((splitOf u) .mid)
-  mid-run = let (last, e) = before-range (items 0 (u .recs)) in run-split ((splitOf u) .mid) (rw e at whole-run) .0
+  mid-run : Run txt ((splitOf u) .mid)
+  mid-run =
+      let (last, e) = before-range (items 0 (u .recs)) in
+      run-split ((splitOf u) .mid) (rw e at whole-run) .0
 
   -- the starting value's items, and those after its colon
-  pub prefix-runs : Found (λ p. Run (textOf (u .recs)) (p .before) × Run (textOf (u .recs)) (p .after)) (prefixOf u)
+  pub prefix-runs : Found (λ p. Run txt (p .before) × Run txt (p .after)) (prefixOf u)
   prefix-runs = go (prefixOf u) (colon-at ((splitOf u) .mid))
     where
-      go : (x : Option Prefix) → Found (ColonAt ((splitOf u) .mid)) x → Found (λ p. Run (textOf (u .recs)) (p .before) × Run (textOf (u .recs)) (p .after)) x
+      go : (x : Option Prefix) → Found (ColonAt ((splitOf u) .mid)) x → Found (λ p. Run txt (p .before) × Run txt (p .after)) x
       go none h = missing
       go (some p) (found (colon, e)) =
           let (b, r) = run-split (p .before) (rw e at mid-run) in
           found (b, run-split (colon ∷ []) r .1)
 
-  middle-run : (scanned : Bool) → Run (textOf (u .recs)) (middle scanned u)
+  middle-run : (scanned : Bool) → Run txt (middle scanned u)
   middle-run false = mid-run
   middle-run true = go (prefixOf u) prefix-runs
     where
-      go : (x : Option Prefix) → Found (λ p. Run (textOf (u .recs)) (p .before) × Run (textOf (u .recs)) (p .after)) x
-          → Run (textOf (u .recs)) (elim x [ none ↦ (splitOf u) .mid | some p ↦ p .after ])
+      go : (x : Option Prefix) → Found (λ p. Run txt (p .before) × Run txt (p .after)) x → Run txt (elim x [ none ↦ (splitOf u) .mid | some p ↦ p .after ])
       go none h = mid-run
       go (some p) (found h) = h .1
 
-  pub stage1-kept : (scanned : Bool) → Yields (Kept (textOf (u .recs)) (u .bits)) (stage1Component scanned u)
+  pub stage1-kept : (scanned : Bool) → Yields (Kept txt (u .bits)) (stage1Component scanned u)
   stage1-kept scanned =
-      parsed-kept (textOf (u .recs)) (middle scanned u) ((splitOf u) .range) (u .bits) (middle-run scanned) (in-bracket (textOf (u .recs)) (items 0 (u .recs)) whole-run)
+      parsed-kept txt (middle scanned u) ((splitOf u) .range) (u .bits) (middle-run scanned) (in-bracket txt (items 0 (u .recs)) whole-run)

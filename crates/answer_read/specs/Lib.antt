@@ -5,3 +5,6 @@ pub mod Facts
 pub mod Items
 pub mod Texts
 pub mod Components
+pub mod Trees
+pub mod Placement
+pub mod Blocks

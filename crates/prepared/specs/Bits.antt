@@ -6,13 +6,13 @@ use native.Mathlib.Numerals.{add-one}
 use native.Mathlib.Omega.{arith}
 use lib.ListN.{List·getD-eq-default}
 use lib.Seq.{take-length, getD-drop}
-use Rattle.def_numbers.specs.Prelude.{Bool, true, false, List, [], _∷_, _++_, length, getD, take, drop, leb, ltb, eqb}
-use Rattle.def_numbers.specs.Basics.{if_then_else_, sum, all, tab}
+use Rattle.def_numbers.specs.Prelude.{Bool, true, List, [], _∷_, length, getD, drop, ltb, eqb}
+use Rattle.def_numbers.specs.Basics.{sum, all, tab}
 use Rattle.def_image.specs.Image.{bytesFor, bitsAt}
 use Rattle.def_image.specs.Tree.{byteOf, packed}
 use Rattle.prepared.specs.Statement.{Bytes}
 use Rattle.prepared.specs.Tests.{leb-iff, eqb-iff, tested}
-use Rattle.prepared.specs.Lists.{length-tab, getD-tab, tab-shift, tab-ext, tab-add, tab-getD, all-getD, all-by, sum-tab-add, sum-tab-zero}
+use Rattle.prepared.specs.Lists.{length-tab, getD-tab, tab-ext, tab-getD, all-getD, all-by, sum-tab-add, sum-tab-zero}
 use Rattle.prepared.specs.Bytes.{Holds, holds-getD}
 
 -- a list of bits

@@ -1,13 +1,13 @@
 -- What stands at a place of a byte string, and the numbers read and written there.
 use mathlib.Core.Path.{_≡_, refl, sym, ap, _∙_}
-use Prim.Native.Nat.{ℕ, zero, suc, _+_, _*_, _/_, _%_, _^_, _≤_, _<_}
+use Prim.Native.Nat.{ℕ, suc, _+_, _*_, _/_, _%_, _^_, _≤_, _<_}
 use native.Mathlib.Nat.{add-zero, div-div-eq-div-mul, mod-add-div, mod-eq-of-lt, add-mul-mod-self-left}
 use native.Mathlib.Numerals.{towards-suc}
 use native.Mathlib.Omega.{arith}
 use mathlib.Core.List.{append-assoc, append-nil}
-use lib.ListN.{List·getD-append, length-append, length-drop}
-use lib.Seq.{getD-drop, drop-drop, drop-append-seam, drop-cons}
-use Rattle.def_numbers.specs.Prelude.{Bool, true, _&&_, List, [], _∷_, _++_, length, getD, take, drop, ltb}
+use lib.ListN.{List·getD-append}
+use lib.Seq.{getD-drop, drop-drop, drop-append-seam}
+use Rattle.def_numbers.specs.Prelude.{List, [], _∷_, _++_, length, getD, take, drop, ltb}
 use Rattle.def_numbers.specs.Basics.{all, tab}
 use Rattle.def_image.specs.Image.{u32At, padded, bytesAt}
 use Rattle.def_image.specs.Tree.{u32}

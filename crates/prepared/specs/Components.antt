@@ -1,12 +1,13 @@
 -- Component by component: what is read of an image that holds the nodes' records, texts and literals, and that it passes the check.
 use mathlib.Core.Path.{_≡_, refl, sym, ap, _∙_}
-use Prim.Native.Nat.{ℕ, zero, suc, _+_, _*_, _/_, _%_, _^_, _≤_, _<_}
+use Prim.Native.Nat.{ℕ, suc, _+_, _/_, _%_, _^_, _≤_, _<_}
 use native.Mathlib.Nat.{add-assoc}
 use native.Mathlib.Omega.{arith}
 use lib.ListN.{length-append}
-use Rattle.def_numbers.specs.Prelude.{Bool, true, false, _&&_, List, [], _∷_, _++_, map, length, getD, leb, ltb, eqb}
+use Rattle.def_numbers.specs.Prelude.{true, List, [], _∷_, _++_, map, length, getD, ltb, eqb}
 use Rattle.def_numbers.specs.Basics.{ok, if_then_else_, all, joined, tab}
-use Rattle.def_image.specs.Image.{Rec, Entry, Placed, Unparsed, counts, tables, bytesFor, bitsAt, startAt, entryAt, recordCount, literalWidth, recsFrom, componentsFrom}
+use Rattle.def_numbers.specs.Limits.{limits}
+use Rattle.def_image.specs.Image.{Rec, Entry, counts, tables, bytesFor, bitsAt, startAt, entryAt, recordCount, literalWidth, recsFrom, componentsFrom}
 use Rattle.def_image.specs.Check.{sparesZero, checkIn, checkComponents}
 use Rattle.def_image.specs.Tree.{Node, recsOf, allRecs, textOf, literalsOf, packed, soundForest, depth, soundNode}
 use Rattle.prepared.specs.Statement.{entriesFrom, placedFrom}
@@ -17,6 +18,7 @@ use Rattle.prepared.specs.Bits.{Bits, length-packed, packed-spare, bitsA
 use Rattle.prepared.specs.Groups.{textOf-append, entries-append, length-entries, check-forest}
 use Rattle.prepared.specs.Records.{goodRec, recs-read, flat-good}
 
+-- the numbers of records, and the literal widths
 abbrev pub lengths : List Node → List ℕ
 lengths = map (λ n. length (recsOf n))
 
@@ -27,8 +29,8 @@ widths = map (λ n. length (n .bits))
 pub record Sound (n : Node) : Type 0 where
   pub some-record : 1 ≤ length (recsOf n)
   pub forest : soundForest (n .forest) ≡ true
-  pub depth : depth (n .forest) ≤ 32
-  pub width : length (n .bits) ≤ 4096
+  pub depth : depth (n .forest) ≤ limits .depth
+  pub width : length (n .bits) ≤ limits .width
   pub bits : Bits (n .bits)
 
 pub sound-parts : (n : Node) → soundNode n ≡ true → Sound n
@@ -76,6 +78,7 @@ spare-right s at bits g h =
     rw (t, holds-getD s at (packed bits) (length bits / 8) 0 h q)
     ((leb-iff (suc (getD (packed bits) (length bits / 8) 0)) (2 ^ (length bits % 8))) .1 (packed-spare bits g (omega arith)))
 
+-- an image with its text and literals at the given places
 module _ (s : List ℕ) (text literals : ℕ) (text-at : (tables s) .text ≡ text) (literals-at : (tables s) .literals ≡ literals) where
   pub components-read : (k r l base : ℕ) (ns : List Node) → all soundNode ns ≡ true
       → tab (entryAt s) r (length (allRecs ns)) ≡ entriesFrom base (allRecs ns) → tab (recordCount s) k (length ns) ≡ lengths ns

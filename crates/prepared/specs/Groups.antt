@@ -1,18 +1,20 @@
--- Step 6 and 7 of the check on a forest's records: words, groups, and how deep they nest.
-use mathlib.Core.Path.{_≡_, refl, sym, ap, _∙_}
-use Prim.Native.Nat.{ℕ, zero, suc, _+_, _-_, _≤_, _<_, max}
+-- Refusals 6 and 7 do not meet a forest's records: words, groups, and how deep they nest.
+use mathlib.Core.Path.{_≡_, refl, ap}
+use Prim.Native.Nat.{ℕ, zero, suc, _+_, _-_, _≤_, _<_}
 use native.Mathlib.Omega.{arith}
 use mathlib.Core.List.{append-assoc}
 use lib.ListN.{length-append}
 use lib.Seq.{take-at, drop-append-add, getD-at}
-use Rattle.def_numbers.specs.Prelude.{Bool, true, List, [], _∷_, _++_, length, getD, take, drop, leb, ltb, eqb, not}
-use Rattle.def_numbers.specs.Basics.{ok, isEmpty, all}
+use Rattle.def_numbers.specs.Prelude.{true, List, [], _∷_, _++_, length, getD, ltb, not}
+use Rattle.def_numbers.specs.Basics.{ok, isEmpty}
+use Rattle.def_numbers.specs.Limits.{limits}
 use Rattle.def_image.specs.Image.{Rec, Entry, kinds, opens, delimiter}
 use Rattle.def_image.specs.Check.{checkIn, noEntry, openRight, closeRight, wordRight, insideOf, closerOf, afterOf}
 use Rattle.def_image.specs.Tree.{Forest, end, word, group, flat, textOf, soundForest, depth}
 use Rattle.prepared.specs.Statement.{entriesFrom}
-use Rattle.prepared.specs.Tests.{and-iff, leb-iff, eqb-iff, tested}
+use Rattle.prepared.specs.Tests.{leb-iff, tested}
 
+-- texts and entries of records in two parts
 pub textOf-append : (a b : List Rec) → textOf (a ++ b) ≡ textOf a ++ textOf b
 unfolding textOf
 textOf-append [] b = refl
@@ -35,14 +37,15 @@ pub nonempty : {A : Type 0} (l : List A) → not (isEmpty l) ≡ true → 0 < le
 nonempty [] h = let z : _≡_ {A = ℕ} 0 1 = cc in absurd (omega arith)
 nonempty (a ∷ l) h = omega arith
 
--- an opener whose inside, closer and rest pass
+-- the opener of a group of kind k with n records inside
 abbrev opener : ℕ → ℕ → ℕ → Entry
 opener k start n = record { kind = k; start = start; stop = start + 1; skip = 2 + n; byte = (delimiter k) .opening }
 
+-- a group passes where its inside, its closer and the rest do
 module _ (t fuel k start n dep : ℕ) (inside after : List Entry) (c : Entry) where
   check-group : (rest : List Entry) → rest ≡ inside ++ c ∷ after → length inside ≡ n → opens k ≡ true → start < t → c .kind ≡ kinds .closer
-      → closeRight t (opener k start n) c ≡ true → dep < 32 → checkIn t fuel inside (suc dep) ≡ ok tt → checkIn t fuel after dep ≡ ok tt
-      → checkIn t (suc fuel) ((opener k start n) ∷ rest) dep ≡ ok tt
+      → closeRight t (opener k start n) c ≡ true → dep < limits .depth → checkIn t fuel inside (suc dep) ≡ ok tt → checkIn t fuel after dep ≡ ok tt
+      → checkIn t (suc fuel) (opener k start n ∷ rest) dep ≡ ok tt
   unfolding checkIn
   check-group rest e m o l ck cr d hi ha =
       let i : insideOf (opener k start n) rest ≡ inside = rw e (take-at inside (c ∷ after) (2 + n - 2) (omega arith)) in
@@ -51,12 +54,12 @@ module _ (t fuel k start n dep : ℕ) (inside after : List Entry) (c : Entry) wh
       let a : afterOf (opener k start n) rest ≡ after = rw (e, s) (drop-append-add inside (c ∷ after) 1) in
       let w : length rest ≡ length inside + suc (length after) = rw e (length-append inside (c ∷ after)) in
       let p : openRight t (opener k start n) rest ≡ true = rw (q, ck) (simp tested (((((l, omega arith), (refl, refl)), omega arith), omega arith), refl)) in
-      let d : ltb dep 32 ≡ true = (leb-iff (suc dep) 32) .1 d in
+      let d : ltb dep (limits .depth) ≡ true = (leb-iff (suc dep) (limits .depth)) .1 d in
       rw (o, checkIn, p, d, i, hi, q, cr, a, ha)
 
 -- a forest's records pass, wherever they stand
 pub check-forest : (t : ℕ) (f : Forest) (fuel start dep : ℕ) → soundForest f ≡ true → length (flat f) ≤ fuel
-    → start + length (textOf (flat f)) ≤ t → dep + depth f ≤ 32 → checkIn t fuel (entriesFrom start (flat f)) dep ≡ ok tt
+    → start + length (textOf (flat f)) ≤ t → dep + depth f ≤ limits .depth → checkIn t fuel (entriesFrom start (flat f)) dep ≡ ok tt
 unfolding checkIn flat textOf entriesFrom soundForest depth
 check-forest t end zero start dep s b l d = refl
 check-forest t end (suc fuel) start dep s b l d = refl

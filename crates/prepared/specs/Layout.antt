@@ -1,11 +1,10 @@
 -- The image of a tree, laid out: its six parts, where each stands, and the numbers of the header.
-use mathlib.Core.Path.{_≡_, refl, sym, ap, _∙_}
-use Prim.Native.Nat.{ℕ, zero, suc, _+_, _*_, _^_, _≤_, _<_}
+use mathlib.Core.Path.{_≡_, refl, _∙_}
+use Prim.Native.Nat.{ℕ, suc, _+_, _*_, _^_, _≤_}
 use native.Mathlib.Nat.{zero-add}
 use native.Mathlib.Omega.{arith}
-use mathlib.Core.List.{append-assoc}
 use lib.ListN.{length-append}
-use Rattle.def_numbers.specs.Prelude.{Bool, true, List, [], _∷_, _++_, map, length, leb, ltb}
+use Rattle.def_numbers.specs.Prelude.{true, List, [], _∷_, _++_, map, length, leb, ltb}
 use Rattle.def_numbers.specs.Basics.{all, joined, tab}
 use Rattle.def_numbers.specs.Limits.{limits}
 use Rattle.def_image.specs.Image.{Rec, u32At, tablesFor}
@@ -54,12 +53,13 @@ length-recordBytes start (r ∷ rs) =
     let q = length-recordBytes (start + length (r .text)) rs in
     omega arith
 
+-- where the tables of a tree's image stand
 abbrev pub tablesOf : Tree → record { concatenations : ℕ; components : ℕ; records : ℕ; text : ℕ; literals : ℕ; stop : ℕ }
 tablesOf t =
     tablesFor (length t) (length (joined t)) (length (allRecs (joined t))) (length (textOf (allRecs (joined t)))) (length (literalsOf (joined t)))
 
 -- "counts, then the offsets of five tables"
-abbrev header : Tree → List ℕ
+abbrev pub header : Tree → List ℕ
 header t =
     let at = tablesOf t in
     length t ∷ length (joined t) ∷ length (allRecs (joined t)) ∷ length (textOf (allRecs (joined t))) ∷ length (literalsOf (joined t))
@@ -77,33 +77,34 @@ pub record Layout (t : Tree) (s : List ℕ) : Type 0 where
 
 -- a list in six parts, each at its place
 module _ (a b c d e f : List ℕ) (i j k l m : ℕ) where
-  s : List ℕ
-  s = a ++ b ++ c ++ d ++ e ++ f
+  six : List ℕ
+  six = a ++ b ++ c ++ d ++ e ++ f
 
   six-parts : length a ≡ i → i + length b ≡ j → j + length c ≡ k → k + length d ≡ l → l + length e ≡ m
-      → Holds s 0 a × Holds s i b × Holds s j c × Holds s k d × Holds s l e × Holds s m f × (length s ≡ m + length f)
-  unfolding s
+      → Holds six 0 a × Holds six i b × Holds six j c × Holds six k d × Holds six l e × Holds six m f × (length six ≡ m + length f)
+  unfolding six
   six-parts pi pj pk pl pm =
       let pj : length (a ++ b) ≡ j = length-append a b ∙ rw pi pj in
       let pk : length (a ++ b ++ c) ≡ k = length-append (a ++ b) c ∙ rw pj pk in
       let pl : length (a ++ b ++ c ++ d) ≡ l = length-append (a ++ b ++ c) d ∙ rw pk pl in
       let pm : length (a ++ b ++ c ++ d ++ e) ≡ m = length-append (a ++ b ++ c ++ d) e ∙ rw pl pm in
-      let h₅ = holds-left s 0 (a ++ b ++ c ++ d ++ e) f (holds-whole s) in
-      let h₄ = holds-left s 0 (a ++ b ++ c ++ d) e h₅ in
-      let h₃ = holds-left s 0 (a ++ b ++ c) d h₄ in
-      let h₂ = holds-left s 0 (a ++ b) c h₃ in (
-        holds-left s 0 a b h₂,
+      let h₅ = holds-left six 0 (a ++ b ++ c ++ d ++ e) f (holds-whole six) in
+      let h₄ = holds-left six 0 (a ++ b ++ c ++ d) e h₅ in
+      let h₃ = holds-left six 0 (a ++ b ++ c) d h₄ in
+      let h₂ = holds-left six 0 (a ++ b) c h₃ in (
+        holds-left six 0 a b h₂,
         second a b h₂ pi,
         second (a ++ b) c h₃ pj,
         second (a ++ b ++ c) d h₄ pk,
         second (a ++ b ++ c ++ d) e h₅ pl,
-        second (a ++ b ++ c ++ d ++ e) f (holds-whole s) pm,
+        second (a ++ b ++ c ++ d ++ e) f (holds-whole six) pm,
         rw (← pm) (length-append (a ++ b ++ c ++ d ++ e) f),
       )
     where
-      second : (x y : List ℕ) {i : ℕ} → Holds s 0 (x ++ y) → length x ≡ i → Holds s i y
-      second x y h e = rw (zero-add, e) at (holds-right s 0 x y h)
+      second : (x y : List ℕ) {i : ℕ} → Holds six 0 (x ++ y) → length x ≡ i → Holds six i y
+      second x y h e = rw (zero-add, e) at (holds-right six 0 x y h)
 
+-- the header's ten numbers, read back
 header-holds : (t : Tree) (s : List ℕ) → Fits t → Holds s 0 (joined (map u32 (header t))) → tab (λ k. u32At s (0 + 4 * k)) 0 10 ≡ header t
 unfolding all
 header-holds t s fits h =
@@ -114,7 +115,7 @@ header-holds t s fits h =
     h
 
 pub layout : (t : Tree) → Fits t → Layout t (imageOf t)
-unfolding imageOf s
+unfolding imageOf six
 layout t fits =
     let ns = joined t in
     let rs = allRecs ns in

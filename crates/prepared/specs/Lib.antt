@@ -10,3 +10,4 @@ pub mod Records
 pub mod Statement
 pub mod Tables
 pub mod Tests
+pub mod Written

@@ -1,14 +1,14 @@
 -- Laws of the lists that the definitions are written with: tables of values, joined lists, sums, and tests of all elements.
 use mathlib.Core.Path.{_≡_, refl, sym, ap, _∙_}
-use Prim.Native.Nat.{ℕ, zero, suc, _+_, _*_, _≤_, _<_}
+use Prim.Native.Nat.{ℕ, zero, suc, _+_, _≤_, _<_}
 use native.Mathlib.Nat.{zero-add, suc-add, add-suc, add-zero, add-assoc}
 use native.Mathlib.Omega.{arith}
-use mathlib.Core.List.{append-assoc, append-nil}
+use mathlib.Core.List.{append-assoc}
 use lib.ListN.{length-append}
 use lib.Seq.{drop-cons}
 use Rattle.def_numbers.specs.Prelude.{Bool, true, false, _&&_, List, [], _∷_, map, _++_, length, getD, take, drop, leb}
 use Rattle.def_numbers.specs.Basics.{sum, all, joined, tab}
-use Rattle.prepared.specs.Tests.{and-iff, leb-iff, tested}
+use Rattle.prepared.specs.Tests.{and-iff, leb-iff}
 
 module _ {A : Type 0} where
   -- ---- tables of values

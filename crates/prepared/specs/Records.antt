@@ -1,6 +1,5 @@
 -- The record table and the text of an image, read back: entries, and the records with their texts.
-use mathlib.Core.Path.{_≡_, refl, sym, ap, _∙_}
-use mathlib.Core.Logic.{_≢_}
+use mathlib.Core.Path.{_≡_, refl, ap, _∙_}
 use Prim.Native.Nat.{ℕ, zero, suc, _+_, _*_, _-_, _^_, _≤_, _<_}
 use native.Mathlib.Nat.{add-zero, add-assoc}
 use native.Mathlib.Numerals.{add-one}
@@ -8,17 +7,26 @@ use native.Mathlib.Omega.{arith}
 use lib.ListN.{length-append}
 use Rattle.def_numbers.specs.Prelude.{Bool, true, false, _&&_, not, List, [], _∷_, _++_, length, getD, leb, ltb, eqb}
 use Rattle.def_numbers.specs.Basics.{if_then_else_, isEmpty, all, tab}
-use Rattle.def_image.specs.Image.{Rec, Entry, u32At, counts, tables, bytesAt, startAt, entryAt, recsFrom, kinds, opens, delimiter}
+use Rattle.def_image.specs.Image.{Rec, Entry, u32At, counts, tables, bytesAt, startAt, entryAt, recsFrom, kinds, delimiter}
 use Rattle.def_image.specs.Tree.{Forest, end, word, group, flat, soundForest, textOf, u32, recordBytes}
 use Rattle.prepared.specs.Statement.{entriesFrom}
-use Rattle.prepared.specs.Tests.{and-iff, leb-iff, eqb-iff, eqb-false, tested}
+use Rattle.prepared.specs.Tests.{and-iff, eqb-iff, eqb-false, tested}
 use Rattle.prepared.specs.Lists.{all-append}
-use Rattle.prepared.specs.Bytes.{Holds, holds-left, holds-right, holds-getD, bytesAt-holds, u32At-holds, u32At-next}
+use Rattle.prepared.specs.Bytes.{Holds, holds-left, holds-right, holds-getD, bytesAt-holds, u32At-next}
 use Rattle.prepared.specs.Groups.{nonempty}
 
 -- a record that fits a table of m records: its numbers are small, its text is of one byte or more
 abbrev pub goodRec : ℕ → Rec → Bool
 goodRec m r = ltb (r .kind) 6 && leb (r .skip) m && not (isEmpty (r .text)) && all (λ b. ltb b 256) (r .text)
+
+-- good records have text
+pub text-some : (m : ℕ) (rs : List Rec) → 1 ≤ length rs → all (goodRec m) rs ≡ true → 1 ≤ length (textOf rs)
+unfolding all textOf
+text-some m [] l g = absurd (omega arith)
+text-some m (r ∷ rs) l g =
+    let some = nonempty (r .text) ((simp tested at g) .0 .0 .1) in
+    let e = length-append (r .text) (textOf rs) in
+    omega arith
 
 -- one row of the record table, and what stands behind it
 row-read : (s : List ℕ) (i start : ℕ) (x : Rec) (rs : List Rec) → goodRec (2 ^ 30) x ≡ true → start < 2 ^ 30

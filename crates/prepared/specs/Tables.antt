@@ -1,13 +1,13 @@
 -- A table of equal rows, one after the other: its length, its bytes, and what is read row by row.
-use mathlib.Core.Path.{_≡_, refl, ap, _∙_}
-use Prim.Native.Nat.{ℕ, zero, suc, _+_, _*_, _≤_, _<_}
+use mathlib.Core.Path.{_≡_, refl}
+use Prim.Native.Nat.{ℕ, suc, _+_, _*_}
 use native.Mathlib.Omega.{arith}
 use lib.ListN.{length-append}
-use Rattle.def_numbers.specs.Prelude.{Bool, true, List, [], _∷_, _++_, map, length, ltb}
+use Rattle.def_numbers.specs.Prelude.{Bool, true, List, [], _∷_, map, length, ltb}
 use Rattle.def_numbers.specs.Basics.{all, joined, tab}
 use Rattle.prepared.specs.Statement.{Bytes}
 use Rattle.prepared.specs.Tests.{and-iff}
-use Rattle.prepared.specs.Lists.{all-append, all-joined, all-map, all-of}
+use Rattle.prepared.specs.Lists.{all-joined, all-map, all-of}
 use Rattle.prepared.specs.Bytes.{Holds, holds-left, holds-right}
 
 -- rows of w bytes, row a being `row a`
