@@ -5,3 +5,5 @@ pub mod Merging
 pub mod Widths
 pub mod Normal
 pub mod Places
+pub mod Staged
+pub mod Holding

@@ -1,12 +1,12 @@
 -- What merging makes of a list in the midst of a run: the components below the run stay apart, and the run's bits stand in one literal.
-use mathlib.Core.Path.{_≡_, refl, sym, ap, _∙_}
+use mathlib.Core.Path.{_≡_, refl, sym}
 use mathlib.Core.List.{append-assoc, append-nil}
-use Rattle.def_numbers.specs.Prelude.{ℕ, Bool, true, false, _&&_, List, [], _∷_, _++_, map, ltb}
-use Rattle.def_numbers.specs.Basics.{if_then_else_, isEmpty, all, joined}
+use Rattle.def_numbers.specs.Prelude.{ℕ, true, false, _&&_, List, [], _∷_, _++_, map}
+use Rattle.def_numbers.specs.Basics.{isEmpty, joined}
 use Rattle.def_image.specs.Image.{Placed}
 use Rattle.def_stages.specs.Component.{Component}
 use Rattle.def_stages.specs.Concatenation.{isStaticLiteral, bitsOf, fixedLiteral, mergeOnto, merge}
-use Rattle.cutting.specs.Statement.{Below, runEnd}
+use Rattle.cutting.specs.Statement.{runEnd}
 use Rattle.prepared.specs.Tests.{by-test, and-iff}
 use Rattle.prepared.specs.Lists.{all-append}
 use Rattle.prepared.specs.Bits.{Bits}

@@ -1,22 +1,21 @@
 -- Stages 1 and 2 leave every literal with a static range as a literal of its own bits, from 0 to their number.
-use mathlib.Core.Path.{_≡_, refl, sym, ap, _∙_}
+use mathlib.Core.Path.{_≡_, refl, sym, _∙_}
 use mathlib.Core.Bool.{false≢true}
-use Prim.Native.Nat.{ℕ, zero, suc, _+_, _-_, _≤_, _<_, zero-le}
+use Prim.Native.Nat.{ℕ, suc, _+_, _≤_, _<_, zero-le}
 use native.Mathlib.Nat.{le-refl}
 use native.Mathlib.Omega.{arith}
 use borrow.Author.Tests.{ltb-true, ltb-false, leb-true}
 use lib.ListN.{length-take, length-drop}
 use lib.Seq.{getD-take, getD-drop, length-slice}
-use Rattle.def_numbers.specs.Prelude.{Bool, true, false, _&&_, _||_, not, Option, none, some, List, [], _∷_, _++_, length, getD, take, drop, leb, ltb, ℤ, pos, negsuc, natAbs, _-ℤ_, ltZ, leZ, nonNeg}
-use Rattle.def_numbers.specs.Basics.{Result, ok, refused, _>>=_, if_then_else_, isEmpty, sameBytes, all}
-use Rattle.def_numbers.specs.Numbers.{narrow}
+use Rattle.def_numbers.specs.Prelude.{Bool, true, false, _&&_, _||_, not, Option, none, some, List, [], _∷_, length, getD, take, drop, ltb, ℤ, pos, negsuc, _-ℤ_, ltZ, leZ, nonNeg}
+use Rattle.def_numbers.specs.Basics.{ok, _>>=_, isEmpty, sameBytes, all}
 use Rattle.def_numbers.specs.Refusals.{Reason, need, nothing-before-range, no-literal, negative-bound, reversed, zero-width, start-above-width, end-above-width, range-above-width, end-zero, open-start}
-use Rattle.def_image.specs.Image.{Unparsed, Placed}
+use Rattle.def_image.specs.Image.{Unparsed}
 use Rattle.def_stages.specs.Text.{Item}
-use Rattle.def_stages.specs.Ranges.{Usb, Usbr, val, unbounded, parseRange, singleBit, staticVal, staticWidth}
-use Rattle.def_stages.specs.Component.{Component, ComponentType, literal, variable, filler, typed, isLiteral, parseComponent, middle, splitOf, stage1Component, simplifyUsb, simplifyEnd, simplifyRange, ifStatic, ifStaticEnd, ifKnown, theEnd, withEnd, cutLiteral, simplifyLiteral, simplify, isZero, hasEnd}
+use Rattle.def_stages.specs.Ranges.{Usb, Usbr, val, unbounded, parseRange, singleBit}
+use Rattle.def_stages.specs.Component.{Component, ComponentType, literal, variable, filler, typed, isLiteral, parseComponent, middle, splitOf, stage1Component, simplifyUsb, simplifyEnd, simplifyRange, ifStatic, ifStaticEnd, ifKnown, withEnd, cutLiteral, simplifyLiteral, simplify, isZero, hasEnd}
 use Rattle.def_stages.specs.Concatenation.{isStaticLiteral, bitsOf}
-use Rattle.prepared.specs.Tests.{by-test, and-iff, leb-iff}
+use Rattle.prepared.specs.Tests.{by-test, leb-iff}
 use Rattle.prepared.specs.Lists.{all-by}
 use Rattle.prepared.specs.Bits.{Bits, bit-bound}
 use Rattle.answer_read.specs.Facts.{Yields, given, nothing, after, bound, yields-if}

@@ -1,13 +1,13 @@
 -- The places of a literal's bits and of its pieces' bits are the same.
-use mathlib.Core.Path.{_≡_, refl, sym, ap, _∙_}
+use mathlib.Core.Path.{_≡_, refl, sym, _∙_}
 use Prim.Native.Nat.{_≤_, _<_}
-use native.Mathlib.Nat.{zero-add, add-zero, add-assoc}
+use native.Mathlib.Nat.{zero-add, add-assoc}
 use native.Mathlib.Omega.{arith}
 use mathlib.Core.List.{append-assoc}
 use lib.Dec.{nltb→le}
 use lib.Seq.{take-append-seam, take-append-add, take-append-le, getD-append-seam}
-use Rattle.def_numbers.specs.Prelude.{ℕ, zero, suc, _+_, _-_, Bool, true, false, _&&_, List, [], _∷_, _++_, map, length, getD, take, ltb}
-use Rattle.def_numbers.specs.Basics.{if_then_else_, sum}
+use Rattle.def_numbers.specs.Prelude.{ℕ, suc, _+_, _-_, true, List, [], _∷_, _++_, map, length, take, ltb}
+use Rattle.def_numbers.specs.Basics.{sum}
 use Rattle.def_image.specs.Image.{Placed}
 use Rattle.def_stages.specs.Component.{Component}
 use Rattle.def_stages.specs.Concatenation.{merge}

@@ -1,12 +1,10 @@
 -- The run of literals with static ranges that ends a list.
-use mathlib.Core.Path.{_≡_, refl, sym, ap, _∙_}
-use native.Mathlib.Omega.{arith}
-use mathlib.Core.List.{append-assoc}
-use Rattle.def_numbers.specs.Prelude.{ℕ, Bool, true, false, _&&_, List, [], _∷_, _++_, map}
-use Rattle.def_numbers.specs.Basics.{if_then_else_, isEmpty, joined}
+use mathlib.Core.Path.{_≡_, refl}
+use Rattle.def_numbers.specs.Prelude.{Bool, true, false, _&&_, List, [], _∷_, _++_}
+use Rattle.def_numbers.specs.Basics.{if_then_else_, isEmpty}
 use Rattle.def_image.specs.Image.{Placed}
 use Rattle.def_stages.specs.Component.{Component}
-use Rattle.def_stages.specs.Concatenation.{isStaticLiteral, bitsOf, fixedLiteral, mergeOnto, merge}
+use Rattle.def_stages.specs.Concatenation.{isStaticLiteral}
 use Rattle.cutting.specs.Statement.{Below, runEnd}
 use Rattle.prepared.specs.Tests.{by-test, and-iff}
 use Rattle.answer_read.specs.Facts.{Every, every-nil, every-cons}

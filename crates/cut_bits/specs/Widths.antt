@@ -1,14 +1,13 @@
 -- The known width of a short range.
-use mathlib.Core.Path.{_≡_, refl, sym, ap, _∙_}
-use Prim.Native.Nat.{_≤_, _<_}
+use mathlib.Core.Path.{_≡_, ap}
+use Prim.Native.Nat.{_≤_, _<_, suc-le-suc}
 use native.Mathlib.Nat.{add-zero, le-trans}
 use lib.Dec.{lit≤}
 use native.Mathlib.Omega.{arith}
 use borrow.Author.Tests.{le-ltb, lt-ltb}
-use Rattle.def_numbers.specs.Prelude.{ℕ, zero, suc, _-_, true, false, none, some, ltb, ℤ, pos, negsuc, _-ℤ_, nonNeg}
+use Rattle.def_numbers.specs.Prelude.{ℕ, zero, suc, _-_, true, false, none, some, ltb, pos, _-ℤ_, nonNeg}
 use Rattle.def_numbers.specs.Basics.{sameBytes}
-use Rattle.def_numbers.specs.Numbers.{half128, narrow, fits128}
-use Rattle.def_image.specs.Image.{Placed}
+use Rattle.def_numbers.specs.Numbers.{half128, narrow}
 use Rattle.def_stages.specs.Ranges.{Usbr, val, staticWidth}
 use Rattle.def_stages.specs.Component.{ComponentType}
 use Rattle.cutting.specs.Statement.{widthOf}
@@ -17,7 +16,7 @@ use Rattle.prepared.specs.Tests.{leb-iff}
 -- 2^127 is far above the greatest width
 pub short-fits : (n : ℕ) → n ≤ 4096 → ltb n half128 ≡ true
 unfolding half128
-short-fits n h = (leb-iff (suc n) half128) .1 (le-trans (Prim.Native.Nat.suc-le-suc h) (lit≤ {m = 4097} {n = half128} tt))
+short-fits n h = (leb-iff (suc n) half128) .1 (le-trans (suc-le-suc h) (lit≤ {m = 4097} {n = half128} tt))
 
 -- a range from 0 to n
 abbrev pub upTo : ℕ → Usbr
