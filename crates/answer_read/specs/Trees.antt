@@ -38,7 +38,7 @@ module _ {A B : Type 0} (f : Bool → A → Result B) (Pre : A → Type 0) (Post
   in-kept i k (every-cons {a = a} {l = l} p ps) =
       bound (yields-placed i k (step (eqb i 0 && isEmpty l) a p)) λ b q. bound (in-kept i (suc k) ps) λ bs qs. given (every-cons (q .0) (qs .0), omega arith)
 
-  each-kept : (i : ℕ) (t : List (List A)) → Every Pre (joined t)
+  pub each-kept : (i : ℕ) (t : List (List A)) → Every Pre (joined t)
       → Yields (λ bss. (length bss ≡ length t) × Every Post (joined bss) × (total w (joined bss) ≤ total v (joined t))) (each f i t)
   unfolding each joined sum
   each-kept i [] ps = given (refl, every-nil, le-refl 0)
@@ -135,12 +135,12 @@ check-comps : (i : ℕ) (cs : List (Placed Component)) → Yields (λ d. d .comp
 unfolding check
 check-comps i cs = after (checkFrom i 0 true cs running) λ r. after (placed i 0 (need (elim (r .width) [ none ↦ true | some w ↦ ltb 0 w ]) zero-total-width)) λ _. given refl
 
-stage3-comps : (i : ℕ) (t : List (List (Placed Component))) → Yields (λ ds. map (λ d. d .comps) ds ≡ t) (stage3 i t)
+pub stage3-comps : (i : ℕ) (t : List (List (Placed Component))) → Yields (λ ds. map (λ d. d .comps) ds ≡ t) (stage3 i t)
 unfolding stage3
 stage3-comps i [] = given refl
 stage3-comps i (c ∷ t) = bound (check-comps i c) λ d e. bound (stage3-comps (suc i) t) λ ds es. given (ap₂ (λ x xs. x ∷ xs) e es)
 
-merged-comps : (ds : List Concatenation) → map (λ d. d .comps) (map merged ds) ≡ map merge (map (λ d. d .comps) ds)
+pub merged-comps : (ds : List Concatenation) → map (λ d. d .comps) (map merged ds) ≡ map merge (map (λ d. d .comps) ds)
 merged-comps [] = refl
 merged-comps (d ∷ ds) = ap (λ (l : List (List (Placed Component))). merge (d .comps) ∷ l) (merged-comps ds)
 
