@@ -16,7 +16,7 @@ abbrev pub eraseInit : Option (Placed Part) → Option (Placed Part)
 eraseInit none = none
 eraseInit (some p) = some (erase p)
 
-abbrev eraseParsed : Parsed → Parsed
+abbrev pub eraseParsed : Parsed → Parsed
 eraseParsed t = record { init = eraseInit (t .init); cc = eraseTree (t .cc) }
 
 -- two runs, step by step: the first step's results agree, and so do the second's
@@ -96,6 +96,10 @@ erase-stage2 : (t : Parsed) → stage2 (eraseParsed t) ≡ onOk eraseParsed (sta
 unfolding stage2
 erase-stage2 t = on-bind eraseTree eraseParsed (each (keepBase (λ last. simplify)) 0 (t .cc)) _ _ (erase-each (λ last. simplify) 0 (t .cc)) λ cc. refl
 
+-- stages 1 and 2
+pub erase-early : (t : List (List (Placed Unparsed))) → (stage1 (eraseTree t) >>= stage2) ≡ onOk eraseParsed (stage1 t >>= stage2)
+erase-early t = on-bind eraseParsed eraseParsed (stage1 t) _ _ (erase-stage1 t) erase-stage2
+
 -- ---- stage 3
 
 erase-checkFrom : (i k : ℕ) (first : Bool) (cs : List (Placed Component)) (r : Running)
@@ -160,7 +164,7 @@ erase-stage4 mode given cs =
 
 -- ---- stage 5, and the whole
 
-erase-merge : (cs : List (Placed Component)) → merge (map erase cs) ≡ map erase (merge cs)
+pub erase-merge : (cs : List (Placed Component)) → merge (map erase cs) ≡ map erase (merge cs)
 unfolding merge
 erase-merge [] = refl
 erase-merge (c ∷ cs) = rw (erase-merge cs) (go (merge cs))

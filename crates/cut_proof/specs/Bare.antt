@@ -11,6 +11,7 @@ use Rattle.def_stages.specs.Component.{Component}
 use Rattle.def_stages.specs.Concatenation.{merge, isStaticLiteral}
 use Rattle.prepared.specs.Statement.{placedFrom, placedTree}
 use Rattle.answer_read.specs.Statement.{erase, eraseTree}
+use Rattle.answer_read.specs.Erase.{erase-merge}
 use Rattle.cutting.specs.Statement.{placeOf, runEnd, Below, widthOf}
 use Rattle.cut_component.specs.Statement.{bare}
 use Rattle.cut_stages.specs.Statement.{bareTree}
@@ -75,14 +76,13 @@ erase-widths [] = refl
 erase-widths (c ∷ cs) = ap (λ l. widthOf c ∷ l) (erase-widths cs)
 
 -- where a bit lies does not depend on text starts
-module _ (erase-merge : (cs : List (Placed Component)) → merge (map erase cs) ≡ map erase (merge cs)) where
-  merged-length : (cs : List (Placed Component)) → length (merge (map erase cs)) ≡ length (merge cs)
-  merged-length cs = ap length (erase-merge cs) ∙ length-map (merge cs) erase
+merged-length : (cs : List (Placed Component)) → length (merge (map erase cs)) ≡ length (merge cs)
+merged-length cs = ap length (erase-merge cs) ∙ length-map (merge cs) erase
 
-  merged-lengths : (t : List (List (Placed Component))) → map (λ c. length (merge c)) (eraseTree t) ≡ map (λ c. length (merge c)) t
-  merged-lengths [] = refl
-  merged-lengths (c ∷ t) = λ i. merged-length c i ∷ merged-lengths t i
+merged-lengths : (t : List (List (Placed Component))) → map (λ c. length (merge c)) (eraseTree t) ≡ map (λ c. length (merge c)) t
+merged-lengths [] = refl
+merged-lengths (c ∷ t) = λ i. merged-length c i ∷ merged-lengths t i
 
-  pub erase-place : (cc : List (List (Placed Component))) (j k above : ℕ) → placeOf (eraseTree cc) j k above ≡ placeOf cc j k above
-  erase-place cc j k above =
-      rw (map-getD erase j cc, ← (map-take erase k (getD cc j [])), ← (map-take (map erase) j cc), erase-run (take k (getD cc j [])), erase-widths ((runEnd (take k (getD cc j []))) .inRun), merged-length ((runEnd (take k (getD cc j []))) .rest), merged-lengths (take j cc))
+pub erase-place : (cc : List (List (Placed Component))) (j k above : ℕ) → placeOf (eraseTree cc) j k above ≡ placeOf cc j k above
+erase-place cc j k above =
+    rw (map-getD erase j cc, ← (map-take erase k (getD cc j [])), ← (map-take (map erase) j cc), erase-run (take k (getD cc j [])), erase-widths ((runEnd (take k (getD cc j []))) .inRun), merged-length ((runEnd (take k (getD cc j []))) .rest), merged-lengths (take j cc))

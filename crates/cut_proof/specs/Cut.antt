@@ -7,20 +7,22 @@ use Rattle.def_numbers.specs.Basics.{Result, ok, refused, _>>=_, joined, all}
 use Rattle.def_numbers.specs.Limits.{areaNeeded}
 use Rattle.def_image.specs.Image.{Unparsed, Placed, counts, treeOf}
 use Rattle.def_image.specs.Tree.{Node, Tree, imageOf, fits, literalsOf, soundNode}
-use Rattle.def_stages.specs.Text.{Part}
 use Rattle.def_stages.specs.Component.{Component, Parsed, stage1, stage2}
-use Rattle.def_stages.specs.Concatenation.{merge}
 use Rattle.def_run.specs.Answer.{Answer, answerBytes, readAnswer, Read}
 use Rattle.def_run.specs.Run.{run, stages, areaAfter}
 use Rattle.prepared.specs.Tests.{leb-iff, and-iff}
 use Rattle.prepared.specs.Lists.{all-append, all-joined}
 use Rattle.prepared.specs.Components.{Sound, sound-parts}
 use Rattle.prepared.specs.Layout.{fits-parts}
-use Rattle.prepared.specs.Statement.{PassesCheck, ReadBack, ReadsBack, placedTree}
-use Rattle.answer_read.specs.Statement.{EraseStages, ReadsAnswer, erase, eraseTree, eraseAnswer, onOk, shown}
+use Rattle.prepared.specs.Prepared.{passes-check, read-back}
+use Rattle.prepared.specs.Statement.{ReadsBack, placedTree}
+use Rattle.answer_read.specs.Statement.{eraseTree, eraseAnswer, onOk, shown}
+use Rattle.answer_read.specs.Erase.{eraseParsed, erase-stages, erase-early}
+use Rattle.answer_read.specs.ReadAnswer.{reads-answer}
 use Rattle.cutting.specs.Statement.{Given, Premises, Same, BitKept, Cutting, treeWith, newTree, image, newImage, readOld, readNew, placeOf, pieceAt, componentsOf, bitIn, BitPlace}
 use Rattle.cut_stages.specs.Statement.{bareTree, early, later, InTurn, CutEarly, CutLater, CutParsed, Cuttable, bitsBetween, pieceComponents}
-use Rattle.cut_bits.specs.Statement.{SamePlace, HoldsBit}
+use Rattle.cut_bits.specs.Places.{same-place}
+use Rattle.cut_bits.specs.Holding.{holds-bit}
 use Rattle.cut_proof.specs.Assemble.{bind-ok, ok-path, on-ok, Accepts, run-accepts, accepts-run}
 use Rattle.cut_proof.specs.Bare.{erase-placed, erase-place}
 
@@ -31,16 +33,8 @@ unfolding all
 node-passes p cb l n h ca t =
     (simp (all-joined, all-append, and-iff) at t) .1 .0 .0 .1 .0
 
--- what the parts are proved to be
-module _
-    (passes-check : PassesCheck) (read-back : ReadBack) (erase-stages : EraseStages) (reads-answer : ReadsAnswer)
-    (eraseInit : Option (Placed Part) → Option (Placed Part))
-    (erase-early : (t : List (List (Placed Unparsed))) → early (eraseTree t) ≡ onOk (λ (q : Parsed). record { init = eraseInit (q .init); cc = eraseTree (q .cc) }) (early t))
-    (erase-merge : (cs : List (Placed Component)) → merge (map erase cs) ≡ map erase (merge cs))
-    (in-turn : InTurn) (cut-early : CutEarly) (cut-later : CutLater) (same-place : SamePlace) (holds-bit : HoldsBit) where
-  abbrev eraseParsed : Parsed → Parsed
-  eraseParsed q = record { init = eraseInit (q .init); cc = eraseTree (q .cc) }
-
+-- the stages of trees with a literal and with its pieces
+module _ (in-turn : InTurn) (cut-early : CutEarly) (cut-later : CutLater) where
   -- the stages of a tree's image, without the text starts
   record Staged (t : Tree) (mode : ℕ) (a : Answer) : Type 0 where
     parsed : Parsed
@@ -83,7 +77,7 @@ module _
       let found = on-ok eraseParsed (early (placedTree t)) p (sym (erase-early (placedTree t)) ∙ ap early (erase-placed t) ∙ e) in
       let same : placeOf (eraseTree (found .0 .cc)) j k above ≡ placeOf (p .cc) j k above = ap (λ (q : Parsed). placeOf (q .cc) j k above) (found .2) in
       ap (λ x. placeOf (ccOf (early x)) j k above) ((read-back t f) .tree) ∙ ap (λ r. placeOf (ccOf r) j k above) (found .1)
-      ∙ sym (erase-place erase-merge (found .0 .cc) j k above) ∙ same
+      ∙ sym (erase-place (found .0 .cc) j k above) ∙ same
     where
       ccOf : Result Parsed → List (List (Placed Component))
       ccOf r = elim r [ refused n i k ↦ [] | ok p ↦ p .cc ]
