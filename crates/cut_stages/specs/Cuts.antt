@@ -7,12 +7,12 @@ use native.Mathlib.Omega.{arith}
 use lib.ListN.{take-append-drop}
 use lib.Seq.{take-take, drop-append-le, length-take-le, slice, length-slice}
 use borrow.Author.Tests.{ltb-true}
-use Rattle.def_numbers.specs.Prelude.{ℕ, _-_, Bool, true, false, _&&_, _||_, List, [], _∷_, _++_, length, take, drop, ltb}
+use Rattle.def_numbers.specs.Prelude.{ℕ, Bool, true, false, _&&_, _||_, List, [], _∷_, _++_, length, take, drop, ltb}
 use Rattle.def_numbers.specs.Basics.{isEmpty}
 use Rattle.def_image.specs.Image.{Placed}
-use Rattle.def_stages.specs.Ranges.{Usbr, val}
+use Rattle.def_stages.specs.Ranges.{Usbr}
 use Rattle.def_stages.specs.Component.{Component, literal}
-use Rattle.def_stages.specs.Concatenation.{isStaticLiteral, bitsOf, fixedLiteral, mergeOnto, merge}
+use Rattle.def_stages.specs.Concatenation.{isStaticLiteral, mergeOnto, merge}
 use Rattle.cutting.specs.Statement.{rising, piecesOf}
 use Rattle.cut_stages.specs.Statement.{bitsBetween, pieceComponents}
 

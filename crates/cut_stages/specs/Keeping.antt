@@ -1,6 +1,5 @@
 -- Answers that are kept: what one operation accepts, another accepts with the same answer, wherever either would refuse.
-use mathlib.Core.Path.{_≡_, refl, sym, ap, _∙_, subst}
-use Prim.Native.Nat.{_≤_, _<_}
+use mathlib.Core.Path.{_≡_, refl}
 use native.Mathlib.Omega.{arith}
 use Rattle.def_numbers.specs.Prelude.{ℕ, Bool, true, false}
 use Rattle.def_numbers.specs.Basics.{Result, ok, refused, _>>=_, placed}

@@ -1,9 +1,8 @@
 -- Stages 3 to 5 give the same answer for the literal and for its pieces.
 use mathlib.Core.Path.{_≡_, refl, sym, ap, ap₂, _∙_, subst}
 use Prim.Native.Nat.{_≤_}
-use borrow.Author.Tests.{not-true}
 use Rattle.def_numbers.specs.Prelude.{ℕ, suc, Bool, true, false, _&&_, _||_, not, Option, none, some, List, [], _∷_, _++_, map, length, leb, ltb, eqb}
-use Rattle.def_numbers.specs.Basics.{Result, ok, refused, _>>=_, placed, if_then_else_}
+use Rattle.def_numbers.specs.Basics.{Result, ok, _>>=_, placed, if_then_else_}
 use Rattle.def_numbers.specs.Refusals.{need, refuse, zero-total-width, filler-without-start, no-common-width, only-source, middle-filler, opposite-fillers}
 use Rattle.def_image.specs.Image.{Placed}
 use Rattle.def_stages.specs.Text.{Part}

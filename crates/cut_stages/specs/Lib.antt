@@ -1,6 +1,9 @@
 -- The stages of a tree with a literal, and of the tree with its pieces: stated in Statement, proved beside it.
 pub mod Cuts
+pub mod Each
+pub mod Early
 pub mod Keeping
 pub mod Later
 pub mod Running
+pub mod Starting
 pub mod Statement

@@ -1,18 +1,18 @@
 -- Stage 3 of a list with cut literals: the running check accepts it with the same result.
-use mathlib.Core.Path.{_≡_, refl, sym, ap, _∙_}
+use mathlib.Core.Path.{_≡_, sym, ap, _∙_}
 use Prim.Native.Nat.{_≤_, _<_}
 use native.Mathlib.Nat.{add-zero, add-assoc, le-trans}
 use native.Mathlib.Omega.{arith}
 use lib.Dec.{lit≤}
 use borrow.Author.Tests.{ltb-true, lt-ltb}
-use Rattle.def_numbers.specs.Prelude.{ℕ, suc, _+_, _-_, _^_, Bool, true, false, not, Option, none, some, List, [], _∷_, length, ltb, eqb, pos}
-use Rattle.def_numbers.specs.Basics.{Result, ok, refused, _>>=_, placed, isEmpty, sameBytes}
-use Rattle.def_numbers.specs.Numbers.{half128, narrow}
+use Rattle.def_numbers.specs.Prelude.{ℕ, suc, _+_, _-_, _^_, Bool, true, false, not, Option, none, some, List, _∷_, length, ltb, eqb, pos}
+use Rattle.def_numbers.specs.Basics.{Result, ok, _>>=_, placed, isEmpty, sameBytes}
+use Rattle.def_numbers.specs.Numbers.{half128}
 use Rattle.def_numbers.specs.Refusals.{need, sum-overflow, literal-in-sink}
 use Rattle.def_image.specs.Image.{Placed}
 use Rattle.def_stages.specs.Ranges.{staticWidth}
 use Rattle.def_stages.specs.Component.{Component}
-use Rattle.def_stages.specs.Concatenation.{FillerAlign, Running, addWidth, checkType, checkFrom}
+use Rattle.def_stages.specs.Concatenation.{Running, addWidth, checkType, checkFrom}
 use Rattle.cut_component.specs.Statement.{cutTo}
 use Rattle.cut_stages.specs.Statement.{bitsBetween}
 use Rattle.cut_stages.specs.Cuts.{Cuts, done, keep, cut, cuts-empty}
