@@ -10,7 +10,7 @@ use Rattle.cut_stages.specs.Keeping.{bind-ok, placed-ok}
 -- every element of a list is read, the last with the flag s and the others with false
 pub data Read {A B : Type 0} (f : Bool → A → Result B) (s : Bool) : List A → List B → Type 0 where
   done : Read f s [] []
-  more : {a : A} {b : B} {as′ : List A} {bs : List B} → f (s && isEmpty as′) a ≡ ok b → Read f s as′ bs → Read f s (a ∷ as′) (b ∷ bs)
+  more : {a : A} {b : B} {l : List A} {m : List B} → f (s && isEmpty l) a ≡ ok b → Read f s l m → Read f s (a ∷ l) (b ∷ m)
 
 -- every list of a tree, the highest element of list 0 with the flag true
 pub data ReadTree {A B : Type 0} (f : Bool → A → Result B) : ℕ → List (List A) → List (List B) → Type 0 where
@@ -72,7 +72,7 @@ module _ {A B : Type 0} (f : Bool → A → Result B) where
 
   pub join : (s : Bool) {l : List A} {l′ : List B} (m : List A) {m′ : List B} → Read f (s && isEmpty m) l l′ → Read f s m m′ → Read f s (l ++ m) (l′ ++ m′)
   join s m done r = r
-  join s m (more {as′ = l} p q) r = more (rw (both-empty s l m) at p) (join s m q r)
+  join s m (more {l = l} p q) r = more (rw (both-empty s l m) at p) (join s m q r)
 
   record Parts (s : Bool) (l m : List A) (out : List B) : Type 0 where
     lower : List B
@@ -84,7 +84,7 @@ module _ {A B : Type 0} (f : Bool → A → Result B) where
 
   part : (s : Bool) (l m : List A) {out : List B} → Read f s (l ++ m) out → Parts s l m out
   part s [] m r = record { lower = []; upper = _; out-is = refl; same-length = refl; read-lower = done; read-upper = r }
-  part s (a ∷ l) m (more {b} {bs} p r) = go (part s l m r)
+  part s (a ∷ l) m (more {b} {m = bs} p r) = go (part s l m r)
     where
       go : Parts s l m bs → Parts s (a ∷ l) m (b ∷ bs)
       go t =
@@ -166,11 +166,11 @@ module _ {A B C : Type 0} (f : Bool → A → Result B) (g : Bool → B → Resu
 
   read-after : (s : Bool) {l : List A} {m : List B} {n : List C} → Read f s l m → Read g s m n → Read (g after f) s l n
   read-after s done done = done
-  read-after s (more {a} {as′ = l} p r) (more {b = c} q t) = more {a = a} {b = c} {as′ = l} (rw (p, same-empty s r) q) (read-after s r t)
+  read-after s (more {a} {l = l} p r) (more {b = c} q t) = more {a = a} {b = c} {l = l} (rw (p, same-empty s r) q) (read-after s r t)
 
   read-apart : (s : Bool) {l : List A} {n : List C} → Read (g after f) s l n → (m : List B) × Read f s l m × Read g s m n
   read-apart s done = ([], done, done)
-  read-apart s (more {a} {b = c} {as′ = l} {bs = n} p r) = let (b, q₁, q₂) = bind-ok _ _ p in go b q₁ q₂ (read-apart s r)
+  read-apart s (more {a} {b = c} {l = l} {m = n} p r) = let (b, q₁, q₂) = bind-ok _ _ p in go b q₁ q₂ (read-apart s r)
     where
       go : (b : B) → f (s && isEmpty l) a ≡ ok b → g (s && isEmpty l) b ≡ ok c → (m : List B) × Read f s l m × Read g s m n → (m : List B) × Read f s (a ∷ l) m × Read g s m (c ∷ n)
       go b q₁ q₂ (m, rf, rg) = (b ∷ m, more q₁ rf, more (rw (same-empty s rf) at q₂) rg)

@@ -90,10 +90,10 @@ literal-component lit s n a b e c h =
         let (z, q, g′) = bind-ok (simplify y) (λ z. ok (at0 z)) (rw w at h) in
         read y z p q g′
 
--- bounds of pieces within a width
 never : {A : Type 0} {G : Type 0} {a : A} {l : List A} → [] ≡ a ∷ l → G
 never e = let z : _≡_ {A = ℕ} 0 1 = cc in absurd (omega arith)
 
+-- bounds of pieces within a width
 data Inside (w : ℕ) : List (ℕ × ℕ) → Type 0 where
   nothing : Inside w []
   bounds : {c d : ℕ} {rest : List (ℕ × ℕ)} → c < d → d ≤ w → Inside w rest → Inside w ((c, d) ∷ rest)
@@ -178,6 +178,9 @@ module _ (g : Given) (can : Cuttable g) where
   unfolding piecesOf
   some-bracket = sym (empty-map (readsAs (length (g .node .bits))) (g .brackets)) ∙ ap isEmpty (can .brackets-read)
 
+  some-new : isEmpty (map bare (newPieces g)) ≡ false
+  some-new = some-piece (scanned g) (g .node) (g .brackets) some-bracket
+
   new-starts : PrefixKept → Keeps (startingValue 0 (source (around g (bare (g .node) ∷ [])))) (startingValue 0 (source (around g (map bare (newPieces g)))))
   new-starts pre v h = let (low, f, e) = highest-piece (scanned g) (g .node) (g .brackets) some-bracket in go low f e
     where
@@ -202,7 +205,7 @@ module _ (g : Given) (can : Cuttable g) where
         same-concatenations = t .same-length ∙ length-map (g .concatenations-below) (map bare);
         same-components = b .same-length ∙ length-map (g .below) bare;
         old = t .out-is ∙ ap (λ (x : List (Placed Component)). t .lower ++ x ∷ t .upper) (b .out-is ∙ ap (λ (c : Placed Component). b .lower ++ (c ∷ []) ++ b .upper) is);
-        new = rw (bare-around g (newPieces g)) (early-of (around g (map bare (newPieces g))) (p .init) _ (new-starts pre (p .init) start) (t .instead _ _ (b .instead _ _ (some-piece (scanned g) (g .node) (g .brackets) some-bracket) (new-read pcs within))));
+        new = rw (bare-around g (newPieces g)) (early-of (around g (map bare (newPieces g))) (p .init) _ (new-starts pre (p .init) start) (t .instead _ _ (b .instead _ _ some-new (new-read pcs within))));
         within-width = within;
       }
 

@@ -67,14 +67,14 @@ same-front i k k′ first c cs ds e h r =
     λ r₁. bind-keeps _ _ _ _ (placed-keeps i k i k′ _ _ (λ a q. sym (ap (λ (s : Bool). checkType (not (eqb i 0)) first s (c .value) r₁) e) ∙ q)) h
 
 -- what the check of a literal in front says of its lowest piece, and of what is left of the literal
-record Left (i k : ℕ) (first : Bool) (bits : List ℕ) (a p b : ℕ) (cs : List (Placed Component)) (r r′ : Running) : Type 0 where
+record Left (i k : ℕ) (bits : List ℕ) (a p b : ℕ) (cs : List (Placed Component)) (r r′ : Running) : Type 0 where
   r₀ : Running
   no-sink : not (not (eqb i 0)) ≡ true
   piece : addWidth (cutTo bits a p) r ≡ ok r₀
   left : checkFrom i k false (bitsBetween bits p b ∷ cs) r₀ ≡ ok r′
 
 literal-left : (i k : ℕ) (first : Bool) (bits : List ℕ) (a p b : ℕ) (cs : List (Placed Component)) (r r′ : Running) → a < p → p < b → b ≤ 4096
-    → checkFrom i k first (bitsBetween bits a b ∷ cs) r ≡ ok r′ → Left i k first bits a p b cs r r′
+    → checkFrom i k first (bitsBetween bits a b ∷ cs) r ≡ ok r′ → Left i k bits a p b cs r r′
 unfolding checkFrom
 literal-left i k first bits a p b cs r r′ h₁ h₂ h₃ h =
     let (r₁, q₁, g₁) = bind-ok _ _ h in
@@ -83,10 +83,12 @@ literal-left i k first bits a p b cs r r′ h₁ h₂ h₃ h =
     go r₁ r₂ (placed-ok i 0 _ q₁) (need-ok _ literal-in-sink q₃) g₃ g₂
   where
     built : (r₀ r₁ r₂ : Running) → widened (p - a) r ≡ ok r₀ → widened (b - p) r₀ ≡ ok r₁
-        → not (not (eqb i 0)) ≡ true → r₁ ≡ r₂ → checkFrom i (suc k) false cs r₂ ≡ ok r′ → Left i k first bits a p b cs r r′
-    built r₀ r₁ r₂ x y n e g = record { r₀ = r₀; no-sink = n; piece = literal-width bits a p r (omega arith) ∙ x; left = rw (literal-width bits p b r₀ (omega arith) ∙ y, n, e) g }
+        → not (not (eqb i 0)) ≡ true → r₁ ≡ r₂ → checkFrom i (suc k) false cs r₂ ≡ ok r′ → Left i k bits a p b cs r r′
+    built r₀ r₁ r₂ x y n e g =
+        let y′ : addWidth (cutTo bits p b) r₀ ≡ ok r₁ = literal-width bits p b r₀ (omega arith) ∙ y in
+        record { r₀ = r₀; no-sink = n; piece = literal-width bits a p r (omega arith) ∙ x; left = rw (y′, n, e) g }
 
-    go : (r₁ r₂ : Running) → addWidth (cutTo bits a b) r ≡ ok r₁ → not (not (eqb i 0)) ≡ true → ok r₁ ≡ ok r₂ → checkFrom i (suc k) false cs r₂ ≡ ok r′ → Left i k first bits a p b cs r r′
+    go : (r₁ r₂ : Running) → addWidth (cutTo bits a b) r ≡ ok r₁ → not (not (eqb i 0)) ≡ true → ok r₁ ≡ ok r₂ → checkFrom i (suc k) false cs r₂ ≡ ok r′ → Left i k bits a p b cs r r′
     go r₁ r₂ q n e g =
         let sum : b - a ≡ p - a + (b - p) = omega arith in
         let w : widened (p - a + (b - p)) r ≡ ok r₁ = ap (λ (m : ℕ). widened m r) (sym sum) ∙ sym (literal-width bits a b r (omega arith)) ∙ q in
@@ -103,6 +105,6 @@ cuts-check {bits} small (keep {c} {cs} {ds} t) i k k′ first r r′ h =
 cuts-check {bits} small (cut a p b {cs} {ds} h₁ h₂ h₃ t) i k k′ first r r′ h =
     go (literal-left i k first bits a p b cs r r′ h₁ h₂ (le-trans h₃ small) h) (λ r₀ g. cuts-check small t i k (suc k′) false r₀ r′ g)
   where
-    go : Left i k first bits a p b cs r r′ → ((r₀ : Running) → checkFrom i k false (bitsBetween bits p b ∷ cs) r₀ ≡ ok r′ → checkFrom i (suc k′) false ds r₀ ≡ ok r′)
+    go : Left i k bits a p b cs r r′ → ((r₀ : Running) → checkFrom i k false (bitsBetween bits p b ∷ cs) r₀ ≡ ok r′ → checkFrom i (suc k′) false ds r₀ ≡ ok r′)
         → checkFrom i k′ first (bitsBetween bits a p ∷ ds) r ≡ ok r′
     go l ih = rw (l .piece, l .no-sink) (ih (l .r₀) (l .left))

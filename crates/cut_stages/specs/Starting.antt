@@ -21,7 +21,8 @@ anywhere k k′ (u ∷ []) = go (prefixOf (u .value))
     value p = ok (some (record { base = u .base; value = partOf (p .before) }))
 
     go : (x : Option Prefix)
-        → Keeps {A = Option (Placed Part)} (elim x [ none ↦ ok none | some p ↦ (placed 0 k (after p) >>= λ _. value p) ]) (elim x [ none ↦ ok none | some p ↦ (placed 0 k′ (after p) >>= λ _. value p) ])
+        → Keeps {A = Option (Placed Part)} (elim x [ none ↦ ok none | some p ↦ (placed 0 k (after p) >>= λ _. value p) ])
+        (elim x [ none ↦ ok none | some p ↦ (placed 0 k′ (after p) >>= λ _. value p) ])
     go none = λ a q. q
     go (some p) = bind-keeps (placed 0 k (after p)) (placed 0 k′ (after p)) (λ _. value p) (λ _. value p) (placed-keeps 0 k 0 k′ (after p) (after p) (λ a q. q)) (λ u a q. q)
 anywhere k k′ (u ∷ v ∷ l) = anywhere (suc k) (suc k′) (v ∷ l)
