@@ -160,7 +160,7 @@ module _ (in-turn : InTurn) (cut-early : CutEarly) (cut-later : CutLater) where
           new-value = ap (λ r. bitIn r here) (new-read) ∙ value;
         }
 
-  cutting : Cutting
+  pub cutting : Cutting
   cutting g pr =
       record {
         new-answer = newAnswer g pr;
