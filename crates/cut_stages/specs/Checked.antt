@@ -10,7 +10,7 @@ use Rattle.def_stages.specs.Concatenation.{Running, running, checkFrom, Concate
 use Rattle.def_stages.specs.Overall.{isFiller}
 use Rattle.cut_stages.specs.Cuts.{Cuts, some-is, cuts-some, cuts-merge}
 use Rattle.cut_stages.specs.Running.{cuts-check}
-use Rattle.cut_stages.specs.Keeping.{bind-ok, placed-ok, need-ok}
+use Rattle.laws.specs.Results.{bind-ok, placed-ok, need-ok}
 
 -- what stage 4 sees of a concatenation, and what stage 5 leaves of it
 pub record Alike (c d : Concatenation) : Type 0 where

@@ -5,7 +5,7 @@ use lib.Dec.{eqb·suc-zero}
 use Rattle.def_numbers.specs.Prelude.{ℕ, suc, Bool, true, false, _&&_, List, [], _∷_, _++_, length, eqb}
 use Rattle.def_numbers.specs.Basics.{Result, ok, _>>=_, isEmpty}
 use Rattle.def_stages.specs.Component.{eachIn, each}
-use Rattle.cut_stages.specs.Keeping.{bind-ok, placed-ok}
+use Rattle.laws.specs.Results.{bind-ok, placed-ok}
 
 -- every element of a list is read, the last with the flag s and the others with false
 pub data Read {A B : Type 0} (f : Bool → A → Result B) (s : Bool) : List A → List B → Type 0 where

@@ -16,7 +16,8 @@ use Rattle.cut_component.specs.Statement.{LiteralReads, PieceReads, PrefixKept,
 use Rattle.cut_stages.specs.Statement.{bareTree, early, bitsBetween, pieceComponents, Cuttable, CutParsed, CutEarly}
 use Rattle.cut_stages.specs.Cuts.{both, rising-below}
 use Rattle.cut_stages.specs.Each.{Read, ReadTree, and-true, and-false, done, more, _after_, each-read, read-each, tree-after, tree-apart, Between, between, BetweenLists, between-lists}
-use Rattle.cut_stages.specs.Keeping.{bind-ok, Keeps}
+use Rattle.laws.specs.Results.{bind-ok}
+use Rattle.cut_stages.specs.Keeping.{Keeps}
 use Rattle.cut_stages.specs.Starting.{tree-starts}
 
 -- stages 1 and 2 of one component

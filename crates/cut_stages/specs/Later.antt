@@ -12,7 +12,8 @@ use Rattle.def_run.specs.Answer.{Answer}
 use Rattle.def_run.specs.Run.{stages}
 use Rattle.cut_stages.specs.Statement.{later, InTurn, CutLater}
 use Rattle.cut_stages.specs.Cuts.{Cuts, uncut, cut-within}
-use Rattle.cut_stages.specs.Keeping.{bind-ok, bind-assoc, Keeps, bind-keeps}
+use Rattle.laws.specs.Results.{bind-ok, bind-assoc}
+use Rattle.cut_stages.specs.Keeping.{Keeps, bind-keeps}
 use Rattle.cut_stages.specs.Checked.{Alike, Pairwise, done, pair, stage3-alike}
 use Rattle.cut_stages.specs.Overall.{same-merged-list, stage4-keeps}
 

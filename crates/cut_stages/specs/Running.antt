@@ -3,7 +3,6 @@ use mathlib.Core.Path.{_≡_, sym, ap, _∙_}
 use Prim.Native.Nat.{_≤_, _<_}
 use native.Mathlib.Nat.{add-zero, add-assoc, le-trans}
 use native.Mathlib.Omega.{arith}
-use lib.Dec.{lit≤}
 use borrow.Author.Tests.{ltb-true, lt-ltb}
 use Rattle.def_numbers.specs.Prelude.{ℕ, suc, _+_, _-_, _^_, Bool, true, false, not, Option, none, some, List, _∷_, length, ltb, eqb, pos}
 use Rattle.def_numbers.specs.Basics.{Result, ok, _>>=_, placed, isEmpty, sameBytes}
@@ -16,12 +15,9 @@ use Rattle.def_stages.specs.Concatenation.{Running, addWidth, checkType, checkF
 use Rattle.cut_component.specs.Statement.{cutTo}
 use Rattle.cut_stages.specs.Statement.{bitsBetween}
 use Rattle.cut_stages.specs.Cuts.{Cuts, done, keep, cut, cuts-empty}
-use Rattle.cut_stages.specs.Keeping.{bind-ok, placed-ok, need-ok, Keeps, bind-keeps, placed-keeps}
-
--- widths of literals are far below 2^127
-small-fits : (n : ℕ) → n ≤ 4096 → n < half128
-unfolding half128
-small-fits n h = let k : suc n ≤ 4097 = omega arith in le-trans k (lit≤ {m = 4097} {n = 2 ^ 127} tt)
+use Rattle.laws.specs.Numbers.{small-fits}
+use Rattle.laws.specs.Results.{bind-ok, placed-ok, need-ok}
+use Rattle.cut_stages.specs.Keeping.{Keeps, bind-keeps, placed-keeps}
 
 pub width-known : (bits : List ℕ) (c d : ℕ) → d - c ≤ 4096 → staticWidth (cutTo bits c d .range) ≡ some (pos (d - c))
 unfolding sameBytes
