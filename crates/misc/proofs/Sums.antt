@@ -1,20 +1,20 @@
 -- A sum cut to 128 bits: the three signs tell whether it is the true sum. A difference is told by the sum that it was taken from.
 -- Assumes nothing.
-use mathlib.Core.Path.{_≡_, refl, sym}
+use mathlib.Core.Path.{_≡_}
 use mathlib.Core.Logic.{_⊎_, inl, inr, ⊎-elim}
 use mathlib.Core.Bool.{Bool, true, false}
-use mathlib.Core.Option.{Option, none, some}
-use Prim.Native.Nat.{ℕ, _+_, _≤_, _<_}
+use mathlib.Core.Option.{none, some}
+use Prim.Native.Nat.{ℕ, _+_}
 use native.Mathlib.Omega.{arith}
 use lib.IntN.{ℤ, _+ℤ_, _-ℤ_, negℤ}
 use Rattle.def_numbers.specs.Basics.{if_then_else_}
-use Rattle.def_numbers.specs.Numbers.{half128, fits128, narrow}
-use Rattle.misc.specs.Value.{Wraps, overflow}
-use Rattle.misc.proofs.Difference.{Is, Beyond, add-is, neg-is, same-is, beyond-fits, narrow-some, narrow-none}
+use Rattle.def_numbers.specs.Numbers.{half128, narrow}
+use Rattle.misc.specs.Steps.{Wraps, overflow}
+use Rattle.misc.proofs.Difference.{Beyond, add-is, neg-is, same-is, beyond-fits, narrow-some, narrow-none}
 use Rattle.misc.proofs.Words.{Word, Signed, negative, word-fits}
 
 -- x + y cut to t, with n, m and k taken off for the signs: without an overflow t is the sum; with one, neither the sum
--- t - x nor the difference t - y is within the limits
+-- x + y nor the difference t - y is within the limits
 abbrev Outcome : Bool → (H x y t n m k : ℕ) → Type 0
 Outcome false H x y t n m k = x + y + k ≡ t + (n + m)
 Outcome true H x y t n m k = Beyond H (x + y) (n + m) × Beyond H (t + m) (k + y)
