@@ -53,7 +53,11 @@ whole-is = refl
 
 module _ (w : I128) (h : w .high < 2 ^ 64) (l : w .low < 2 ^ 64) where
   word-pos : w .high < 2 ^ 63 → Word (pos (bits w)) (bits w)
-  word-pos p = record { off = 0; sign = (subst (λ (H : ℕ). bits w < H) (sym half-is) (low-part (2 ^ 64) (2 ^ 63) (w .high) (w .low) p l), refl); is = omega arith }
+  word-pos p = record {
+    off = 0;
+    sign = (subst (λ (H : ℕ). bits w < H) (sym half-is) (low-part (2 ^ 64) (2 ^ 63) (w .high) (w .low) p l), refl);
+    is = omega arith;
+  }
 
   word-neg : 2 ^ 63 ≤ w .high → Word (negsuc ((2 ^ 64 - 1 - w .high) * 2 ^ 64 + (2 ^ 64 - 1 - w .low))) (bits w)
   word-neg p = record {
