@@ -1,0 +1,25 @@
+use borrow.Author.Needs.{needs}
+use Rattle.parse.proofs.step.Statement.{statement}
+use Rattle.parse.proofs.step.Tie as tie
+use Rattle.parse.proofs.step.Reads as reads
+use Rattle.parse.proofs.step.Lts as lts
+use Rattle.parse.proofs.mul_small.Reads as mul-small-reads
+
+-- src/lib.rt:38:9
+mul-small-requires : tie.Need-mul-small-requires
+mul-small-requires c κs = search needs
+
+-- src/lib.rt:39:9
+mul-small-requires-2 : tie.Need-mul-small-requires-2
+mul-small-requires-2 c κs = ?
+
+-- src/lib.rt:34:1
+returns : tie.Need-returns
+returns c = ?
+
+-- src/lib.rt:34:1
+returns-2 : tie.Need-returns-2
+returns-2 c = ?
+
+pub step-spec : {M : Type 1} → statement M
+step-spec = tie.close (tie.spec mul-small-requires mul-small-requires-2 returns returns-2)
