@@ -3,6 +3,7 @@ ghost use mathlib.Core.Path.{_≡_};
 ghost use Prim.Native.Nat.{_+_, _*_, _^_, _≤_, _<_};
 ghost use Rattle.def_numbers.specs.Numbers.{digits};
 ghost use Rattle.parse.specs.Parts.{number, numberOf, capped};
+
 pub mod digit;
 
 // A number without a sign, in two halves.
