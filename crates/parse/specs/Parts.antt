@@ -24,3 +24,7 @@ full128 = 2 ^ 64 * 2 ^ 64
 -- no number past 128 bits
 abbrev pub capped : ℕ → Option ℕ
 capped n = if ltb n full128 then some n else none
+
+abbrev pub cappedOption : Option ℕ → Option ℕ
+cappedOption none = none
+cappedOption (some n) = capped n

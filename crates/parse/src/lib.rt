@@ -2,7 +2,7 @@
 ghost use mathlib.Core.Path.{_≡_};
 ghost use Prim.Native.Nat.{_+_, _*_, _^_, _≤_, _<_};
 ghost use Rattle.def_numbers.specs.Numbers.{digits};
-ghost use Rattle.parse.specs.Parts.{number, numberOf, capped};
+ghost use Rattle.parse.specs.Parts.{number, numberOf, capped, cappedOption};
 
 pub mod digit;
 
@@ -46,4 +46,28 @@ fn step(v: U128, radix: u64, d: u64) -> OptionU128
     } else {
         OptionU128::None
     }
+}
+
+// The digits' value, where there is one and it fits 128 bits.
+fn magnitude(radix: u64, s: &[u8]) -> OptionU128
+    requires { ⌜ (1 ≤ radix) × (radix ≤ 16) ⌝ }
+    ensures { λ r. ⌜ numberOf r ≡ cappedOption (digits radix (now (s .entry))) ⌝ }
+{
+    if s.len() == 0 {
+        return OptionU128::None;
+    }
+    let mut v = U128 { high: 0, low: 0 };
+    let mut i = 0;
+    while i < s.len() {
+        let d = digit::digit_worth(s[i]) as u64;
+        if radix <= d {
+            return OptionU128::None;
+        }
+        let OptionU128::Some(next) = step(v, radix, d) else {
+            return OptionU128::None;
+        };
+        v = next;
+        i += 1;
+    }
+    OptionU128::Some(v)
 }
