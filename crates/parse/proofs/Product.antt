@@ -20,8 +20,8 @@ whole B h l m d c l′ o h′ low high =
     let join : (o * B + h′) * B ≡ h * m * B + c * B = rw (high, add-mul) in
     omega (arith, split, join, low)
 
-within : (B h l : ℕ) → h < B → l < B → h * B + l < B * B
-within B h l p q = omega (arith, mul-le-mul-right B p, suc-mul h B, q)
+pub within : (H B h l : ℕ) → h < H → l < B → h * B + l < H * B
+within H B h l p q = omega (arith, mul-le-mul-right B p, suc-mul h B, q)
 
 past : (B o h l : ℕ) → 1 ≤ o → B * B ≤ (o * B + h) * B + l
 past B o h l p =
@@ -31,7 +31,7 @@ past B o h l p =
 -- what two halves hold fits 128 bits
 pub halves-fit : (h l : ℕ) → h < 2 ^ 64 → l < 2 ^ 64 → capped (h * 2 ^ 64 + l) ≡ some (h * 2 ^ 64 + l)
 unfolding full128
-halves-fit h l p q = rw (lt-ltb (h * 2 ^ 64 + l) (2 ^ 64 * 2 ^ 64) (within (2 ^ 64) h l p q))
+halves-fit h l p q = rw (lt-ltb (h * 2 ^ 64 + l) (2 ^ 64 * 2 ^ 64) (within (2 ^ 64) (2 ^ 64) h l p q))
 
 -- a step where nothing is over, and where something is
 pub step-fits : (h l m d c l′ o h′ : ℕ) → c * 2 ^ 64 + l′ ≡ l * m + d → o * 2 ^ 64 + h′ ≡ h * m + c → o ≡ 0 → h′ < 2 ^ 64 → l′ < 2 ^ 64

@@ -1,5 +1,5 @@
 -- What the parts of reading a number give: a byte's worth, and the digits' value in two halves.
-use Rattle.def_numbers.specs.Prelude.{ℕ, _+_, _*_, _^_, Option, none, some, ltb}
+use Rattle.def_numbers.specs.Prelude.{ℕ, _+_, _*_, _^_, Option, none, some, ltb, eqb, ℤ, pos, negℤ}
 use Rattle.def_numbers.specs.Basics.{if_then_else_}
 use Rattle.def_numbers.specs.Numbers.{digitWorth}
 use Rattle.parse.specs.declared.U128.{U128}
@@ -28,3 +28,10 @@ capped n = if ltb n full128 then some n else none
 abbrev pub cappedOption : Option ℕ → Option ℕ
 cappedOption none = none
 cappedOption (some n) = capped n
+
+abbrev pub negated : ℕ → ℤ
+negated n = negℤ (pos n)
+
+-- a radix, with 0 for none
+abbrev pub radixOption : ℕ → Option ℕ
+radixOption radix = if eqb radix 0 then none else some radix
