@@ -53,17 +53,17 @@ fn step(v: U128, radix: u64, d: u64) -> OptionU128
 }
 
 // The digits' value, where there is one and it fits 128 bits.
-fn magnitude(radix: u64, s: &[u8]) -> OptionU128
+fn magnitude(radix: u64, text: &[u8]) -> OptionU128
     requires { ⌜ (1 ≤ radix) × (radix ≤ 16) ⌝ }
-    ensures { λ r. ⌜ numberOf r ≡ cappedOption (digits radix (now (s .entry))) ⌝ }
+    ensures { λ r. ⌜ numberOf r ≡ cappedOption (digits radix (now (text .entry))) ⌝ }
 {
-    if s.len() == 0 {
+    if text.len() == 0 {
         return OptionU128::None;
     }
     let mut v = U128 { high: 0, low: 0 };
     let mut i = 0;
-    while i < s.len() {
-        let d = digit::digit_worth(s[i]) as u64;
+    while i < text.len() {
+        let d = digit::digit_worth(text[i]) as u64;
         if radix <= d {
             return OptionU128::None;
         }
@@ -97,19 +97,19 @@ fn positive(m: OptionU128) -> OptionI128
 fn negative(m: OptionU128) -> OptionI128
     ensures { λ r. ⌜ optionOf r ≡ signedAs negated (numberOf m) ⌝ }
 {
-    let OptionU128::Some(w) = m else {
+    let OptionU128::Some(v) = m else {
         return OptionI128::None;
     };
-    if w.high < 0x8000_0000_0000_0000 {
+    if v.high < 0x8000_0000_0000_0000 {
         return misc::checked_neg(I128 {
-            high: w.high,
-            low: w.low,
+            high: v.high,
+            low: v.low,
         });
     }
-    if 0x8000_0000_0000_0000 < w.high {
+    if 0x8000_0000_0000_0000 < v.high {
         return OptionI128::None;
     }
-    if 0 < w.low {
+    if 0 < v.low {
         return OptionI128::None;
     }
     OptionI128::Some(I128 {

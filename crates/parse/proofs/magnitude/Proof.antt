@@ -14,14 +14,14 @@ use Rattle.parse.proofs.magnitude.Statement.{statement}
 use Rattle.parse.proofs.magnitude.Tie as tie
 
 abbrev Inv-loop : tie.InvT-loop
-Inv-loop radix s v₀ i₀ v i =
-    (i ≤ length s) × (capped (number v) ≡ some (number v)) × (digitsFrom radix (number v) (drop i s) ≡ digitsFrom radix 0 s)
+Inv-loop radix text v₀ i₀ v i =
+    (i ≤ length text) × (capped (number v) ≡ some (number v)) × (digitsFrom radix (number v) (drop i text) ≡ digitsFrom radix 0 text)
 
 abbrev μ-loop : tie.MeasureT-loop
-μ-loop radix s v₀ i₀ v i = length s - i
+μ-loop radix text v₀ i₀ v i = length text - i
 
 returns : tie.Need-returns Inv-loop μ-loop
-returns c = nothing (c .before .before .args .radix) (now (c .before .before .args .s)) (c .if1 .taken)
+returns c = nothing (c .before .before .args .radix) (now (c .before .before .args .text)) (c .if1 .taken)
 
 loop-holds : tie.Need-loop-holds Inv-loop μ-loop
 loop-holds c = (search needs, halves-fit 0 0 (search needs) (search needs), refl)
