@@ -7,8 +7,10 @@ use mathlib.Core.List.{List}
 use lib.ListN.{length, getD, List·getD-eq-default}
 use lib.Dec.{eqb}
 use Rattle.def_numbers.specs.Basics.{if_then_else_}
-use Rattle.def_image.specs.Image.{u32At, Entry}
-use Rattle.token_tree.specs.Tables.{SameFrom, stopIn, entryIn}
+use Rattle.def_image.specs.Image.{u32At, counts, tables, Entry, entryAt}
+use Rattle.token_tree.specs.Tables.{countsOf, tablesOf, SameFrom, stopIn, entryIn, entry-read}
+use Rattle.token_tree.specs.declared.Counts.{Counts}
+use Rattle.token_tree.specs.declared.Tables.{Tables}
 
 -- the end stands for every place past it
 pub past : (s : List ℕ) (at : ℕ) → length s ≤ at → SameFrom s at (length s)
@@ -46,3 +48,8 @@ module _ (s : List ℕ) (records text count t r p q : ℕ) (hp : SameFrom s reco
       let a : start ≡ u32At s (records + 12 * r + 4) = ha ∙ number-on 4 in
       entry-made (hk ∙ number-same s records p hp (12 * r)) a (hz ∙ stop-same) (hn ∙ number-on 8)
       (hb ∙ hq .same start ∙ ap (λ n. getD s (text + n) 0) a)
+
+-- a record read at the tables and counts that were read is the definition's
+pub entry-told : (image : List ℕ) (t : Tables) (h : Counts) (r : ℕ) {e : Entry} → tablesOf t ≡ tables image → countsOf h ≡ counts image
+    → e ≡ entryIn image (t .records) (t .text) (h .r) (h .t) r → e ≡ entryAt image r
+entry-told image t h r p q e = e ∙ entry-read image t h r p q

@@ -203,3 +203,27 @@ pub fn entry_at(image: &[u8], r: PBind) -> RecordEntry
     let t = tables_of(image);
     entry_in(image, t.records, t.text, h.r, h.t, r.0)
 }
+
+// The table walker: the lent image and a record's number together. The stages call `read_entry`.
+pub struct Walker<'a> {
+    pub image: &'a [u8],
+    pub at: u32,
+}
+
+pub fn walker_at<'a>(image: &'a [u8], r: PBind) -> Walker<'a>
+    ensures { λ w. ⌜ (w .image ≡ image .entry) × (w .at ≡ r .0) ⌝ }
+{
+    Walker { image, at: r.0 }
+}
+
+pub fn entry<'a>(w: Walker<'a>) -> RecordEntry
+    ensures { λ e. ⌜ entryOf e ≡ entryAt (now (w .entry .image)) (w .entry .at) ⌝ }
+{
+    entry_at(w.image, PBind(w.at))
+}
+
+pub fn read_entry(image: &[u8], r: PBind) -> RecordEntry
+    ensures { λ e. ⌜ entryOf e ≡ entryAt (now (image .entry)) (r .0) ⌝ }
+{
+    entry(walker_at(image, r))
+}

@@ -1,15 +1,13 @@
-use mathlib.Core.Path.{_∙_}
 use borrow.Author.Needs.{needs}
-use Rattle.token_tree.specs.Tables.{entry-read}
+use Rattle.token_tree.proofs.Entries.{entry-told}
 use Rattle.token_tree.proofs.entry_at.Statement.{statement}
 use Rattle.token_tree.proofs.entry_at.Tie as tie
 
 returns : tie.Need-returns
 returns c =
     let a = c .before .before .before .before .args in
-    c .entry-in .ensures
-    ∙ entry-read (a .image .now) (c .before .tables-of .result) (c .before .before .counts-of .result) (a .r .0)
-    (c .before .tables-of .ensures) (c .before .before .counts-of .ensures)
+    entry-told (a .image .now) (c .before .tables-of .result) (c .before .before .counts-of .result) (a .r .0)
+    (c .before .tables-of .ensures) (c .before .before .counts-of .ensures) (c .entry-in .ensures)
 
 pub entry-at-spec : {M : Type 1} → statement M
 entry-at-spec = tie.close (tie.spec (λ c κs. search needs) (λ c κs. search needs) (λ c κs. search needs) returns)
