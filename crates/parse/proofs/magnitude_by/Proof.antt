@@ -1,10 +1,9 @@
 -- `parse::magnitude_by` meets its contract. The invariant: from place i on, the digits with v read so far give what the whole gives.
 use mathlib.Core.Path.{_≡_, refl, sym, ap, _∙_}
 use mathlib.Core.Option.{some}
-use Prim.Native.Nat.{ℕ, _+_, _*_, _-_, _≤_, _<_}
-use native.Mathlib.Omega.{arith}
+use Prim.Native.Nat.{_-_, _≤_}
 use denote.Ref.{now}
-use lib.ListN.{length, getD, drop}
+use lib.ListN.{length, drop}
 use borrow.Author.Needs.{needs}
 use Rattle.def_numbers.specs.Numbers.{digitsFrom}
 use Rattle.parse.specs.Parts.{number, numberOf, capped}
