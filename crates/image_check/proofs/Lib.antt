@@ -1,0 +1,3 @@
+-- Laws of the image check's parts over plain variables, which the functions' proofs cite.
+mod Tests
+mod Entries

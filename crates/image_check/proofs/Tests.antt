@@ -1,0 +1,41 @@
+-- Tests and answers.
+use mathlib.Core.Path.{_≡_, refl}
+use Prim.Native.Nat.{_≤_}
+use borrow.Author.Tests.{leb-true}
+use Rattle.def_numbers.specs.Prelude.{ℕ, Bool, true, false, _&&_, leb}
+use Rattle.def_numbers.specs.Basics.{Result, ok, refused, _>>=_, within}
+use Rattle.def_numbers.specs.Refusals.{Reason, numberOf, need}
+use Rattle.image_check.specs.Parts.{countsIn, Small}
+
+pub by-test : {G : Type 0} (t : Bool) → (t ≡ true → G) → (t ≡ false → G) → G
+by-test true y n = y refl
+by-test false y n = n refl
+
+pub and-assoc : (a b c : Bool) → ((a && b) && c) ≡ (a && (b && c))
+and-assoc true b c = refl
+and-assoc false b c = refl
+
+pub need-refused : (w : Reason) (number : ℕ) → numberOf w ≡ number → refused number 0 0 ≡ need false w
+need-refused w number e = rw e
+
+pub left-true : (a b : Bool) → (a && b) ≡ true → a ≡ true
+left-true true b e = refl
+left-true false b e = e
+
+pub right-true : (a b : Bool) → (a && b) ≡ true → b ≡ true
+right-true true b e = e
+right-true false b e = cc
+
+first-four : (a b c d e : Bool) → (a && b && c && d && e) ≡ true → (a ≡ true) × (b ≡ true) × (c ≡ true) × (d ≡ true)
+first-four a b c d e h =
+    let t = left-true (a && b && c && d) e h in
+    let r = left-true (a && b && c) d t in
+    let n = left-true (a && b) c r in
+    (left-true a b n, right-true a b n, right-true (a && b) c r, right-true (a && b && c) d t)
+
+-- counts in their ranges are small
+pub small : (h : record { c : ℕ; n : ℕ; r : ℕ; t : ℕ; b : ℕ }) → countsIn h ≡ true → Small h
+small h e =
+    let upto : (hi n : ℕ) → within 1 hi n ≡ true → n ≤ hi = λ hi n w. leb-true n hi (right-true (leb 1 n) (leb n hi) w) in
+    let four = first-four (within 1 16 (h .c)) (within 1 256 (h .n)) (within 1 2048 (h .r)) (within 1 16384 (h .t)) (leb (h .b) 8192) e in
+    record { c = upto 16 (h .c) (four .0); n = upto 256 (h .n) (four .1); r = upto 2048 (h .r) (four .2); t = upto 16384 (h .t) (four .3) }
