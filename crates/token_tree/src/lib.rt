@@ -4,7 +4,7 @@ ghost use mathlib.Core.Path.{_≡_};
 ghost use Prim.Native.Nat.{_+_, _*_, _^_, _<_};
 ghost use lib.ListN.{getD};
 ghost use Rattle.def_image.specs.Image.{u32At, counts, tables, componentCount, recordCount, literalWidth, startAt, entryAt};
-ghost use Rattle.token_tree.specs.Tables.{countsOf, tablesOf, entryOf};
+ghost use Rattle.token_tree.specs.Tables.{countsOf, tablesOf, entryOf, SameFrom, stopIn, entryIn};
 
 // A text place, a record number and a component number, kept apart as the crate keeps its pointers.
 pub struct PText(pub u32);
@@ -155,4 +155,75 @@ pub fn start_at(image: &[u8], r: PBind) -> PText
     ensures { λ p. ⌜ p .0 ≡ startAt (now (image .entry)) (r .0) ⌝ }
 {
     PText(u32_at(image, record_place(image, r.0) + 4))
+}
+
+// A place no further than the end, from which the same bytes are read: no sum after it can wrap.
+fn no_further(s: &[u8], at: usize) -> usize
+    ensures { λ p. ⌜ SameFrom (now (s .entry)) at p ⌝ }
+{
+    if at < s.len() { at } else { s.len() }
+}
+
+// Where the text of record r of `count` stops: t, or the start that stands at `next`.
+fn stop_in(image: &[u8], next: usize, count: u32, t: u32, r: u32) -> u32
+    ensures { λ n. ⌜ n ≡ stopIn (now (image .entry)) next count t r ⌝ }
+{
+    if (r as usize) + 1 == (count as usize) {
+        return t;
+    }
+    u32_at(image, next)
+}
+
+// Record r of a table at `records`, of `count` records, whose texts stand at `text` and stop at t. For any numbers.
+pub fn entry_in(
+    image: &[u8],
+    records: usize,
+    text: usize,
+    count: u32,
+    t: u32,
+    r: u32,
+) -> RecordEntry
+    ensures { λ e. ⌜ entryOf e ≡ entryIn (now (image .entry)) records text count t r ⌝ }
+{
+    let at = no_further(image, records) + 12 * (r as usize);
+    let start = u32_at(image, at + 4);
+    RecordEntry {
+        kind: u32_at(image, at),
+        start: PText(start),
+        stop: PText(stop_in(image, at + 16, count, t, r)),
+        skip: u32_at(image, at + 8),
+        byte: byte_at(image, no_further(image, text) + (start as usize)),
+    }
+}
+
+pub fn entry_at(image: &[u8], r: PBind) -> RecordEntry
+    ensures { λ e. ⌜ entryOf e ≡ entryAt (now (image .entry)) (r .0) ⌝ }
+{
+    let h = counts_of(image);
+    let t = tables_of(image);
+    entry_in(image, t.records, t.text, h.r, h.t, r.0)
+}
+
+// The table walker: the lent image and a record's number together. The stages call `read_entry`.
+pub struct Walker<'a> {
+    pub image: &'a [u8],
+    pub at: u32,
+}
+
+pub fn walker_at<'a>(image: &'a [u8], r: PBind) -> Walker<'a>
+    ensures { λ w. ⌜ (w .image ≡ image .entry) × (w .at ≡ r .0) ⌝ }
+{
+    Walker { image, at: r.0 }
+}
+
+pub fn entry<'a>(w: Walker<'a>) -> RecordEntry
+    ensures { λ e. ⌜ entryOf e ≡ entryAt (now (w .entry .image)) (w .entry .at) ⌝ }
+{
+    entry_at(w.image, PBind(w.at))
+}
+
+pub fn read_entry(image: &[u8], r: PBind) -> RecordEntry
+    ensures { λ e. ⌜ entryOf e ≡ entryAt (now (image .entry)) (r .0) ⌝ }
+{
+    entry(walker_at(image, r))
 }
