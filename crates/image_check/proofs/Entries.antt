@@ -9,12 +9,8 @@ use Rattle.def_numbers.specs.Basics.{sum, all, tab}
 use Rattle.def_numbers.specs.Limits.{limits}
 use Rattle.def_image.specs.Image.{u32At, bytesFor, counts, tables, componentCount, recordCount, literalWidth}
 use Rattle.def_image.specs.Check.{sparesZero, entriesRight}
-use Rattle.image_check.proofs.Tests.{and-assoc}
+use Rattle.image_check.proofs.Tests.{and-assoc, and-true}
 use Rattle.image_check.specs.Parts.{sizesRight, widthsRight, spareZero}
-
-and-true : (a : Bool) → (a && true) ≡ a
-and-true true = refl
-and-true false = refl
 
 -- the first of a table, and what is still to come
 pub tab-next : {A : Type 0} (g : ℕ → A) (k n : ℕ) → k < n → tab g k (n - k) ≡ g k ∷ tab g (k + 1) (n - (k + 1))

@@ -1,3 +1,4 @@
 -- Laws of the image check's parts over plain variables, which the functions' proofs cite.
 mod Tests
 mod Entries
+mod Records

@@ -1,11 +1,13 @@
 -- The parts of the image check, over numbers that were read already. Each is the definition's own where it is given what the image says.
+use mathlib.Core.Path.{_≡_}
 use Prim.Native.Nat.{_≤_}
 use Rattle.def_numbers.specs.Prelude.{ℕ, _+_, _*_, _/_, _%_, _^_, Bool, true, _&&_, List, map, length, getD, leb, ltb, eqb}
-use Rattle.def_numbers.specs.Basics.{Result, _>>=_, if_then_else_, within, sum, all}
+use Rattle.def_numbers.specs.Basics.{Result, _>>=_, if_then_else_, within, sum, all, tab}
 use Rattle.def_numbers.specs.Limits.{limits}
 use Rattle.def_numbers.specs.Refusals.{need, short-image, bad-count, bad-offset, bad-record, too-deep}
-use Rattle.def_image.specs.Image.{u32At, bytesFor, counts, tables, Entry}
-use Rattle.def_image.specs.Check.{countsRight, offsetsRight, sparesZero, openRight}
+use Rattle.def_image.specs.Image.{u32At, bytesFor, counts, tables, Entry, kinds, delimiter}
+use Rattle.def_image.specs.Check.{countsRight, offsetsRight, sparesZero, textRight, delimiterRight, openRight, checkIn}
+use Rattle.token_tree.specs.Tables.{entryIn}
 use Rattle.image_check.specs.declared.Places.{Places}
 use Rattle.image_check.specs.declared.Delimiter.{Delimiter}
 
@@ -50,24 +52,24 @@ abbrev pub spareZero : List ℕ → ℕ → ℕ → Bool
 spareZero image at w = if eqb (w % 8) 0 then true else ltb (getD image (at + w / 8) 0) (2 ^ (w % 8))
 
 -- 6 and 7: record k of an image whose tables stand at these places
-unfoldable pub entryIn : List ℕ → Places → ℕ → Entry
-entryIn image p k =
-    record {
-      kind = u32At image (p .records + 12 * k);
-      start = u32At image (p .records + 12 * k + 4);
-      stop = if eqb (k + 1) (p .r) then p .t else u32At image (p .records + 12 * (k + 1) + 4);
-      skip = u32At image (p .records + 12 * k + 8);
-      byte = getD image (p .text + u32At image (p .records + 12 * k + 4)) 0;
-    }
+abbrev pub entryOn : List ℕ → Places → ℕ → Entry
+entryOn image p k = entryIn image (p .records) (p .text) (p .count) (p .t) k
 
 abbrev pub placesOf : List ℕ → Places
-placesOf image = record { records = (tables image) .records; text = (tables image) .text; r = (counts image) .r; t = (counts image) .t }
+placesOf image = record { records = (tables image) .records; text = (tables image) .text; count = (counts image) .r; t = (counts image) .t }
 
 abbrev pub delimiterOf : Delimiter → record { opening : ℕ; closing : ℕ }
 delimiterOf d = record { opening = d .opening; closing = d .closing }
 
--- an opener with what follows it: its own record, its closer's kind, and the depth
+-- an opener whose skip stays in its group, with its closer; and any opener, with what follows it, at a depth
+abbrev pub openerRight : ℕ → Entry → Entry → Bool
+openerRight t e closer = textRight t e && delimiterRight ((delimiter (e .kind)) .opening) e && eqb (closer .kind) (kinds .closer)
+
 abbrev pub opener : ℕ → Entry → List Entry → ℕ → Result Unit
 opener t e rest depth = do
   _ ← need (openRight t e rest) bad-record
   need (ltb depth (limits .depth)) too-deep
+
+-- x is the answer of the check of `count` records from record `from` on, whatever fuel is enough
+abbrev pub Says : ℕ → (ℕ → Entry) → ℕ → ℕ → ℕ → Result Unit → Type 0
+Says t g depth from count x = (f : ℕ) → count ≤ f → x ≡ checkIn t f (tab g from count) depth
