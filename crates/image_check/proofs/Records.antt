@@ -59,7 +59,7 @@ closer-tab g e k left h l =
     getD-tab g (k + 1) (left - 1) (e .skip - 2) noEntry (omega arith) ∙ ap g q
 
 pub opener-here : (t : ℕ) (g : ℕ → Entry) (e : Entry) (k left : ℕ) → 2 ≤ e .skip → e .skip ≤ left
-  → openRight t e (tab g (k + 1) (left - 1)) ≡ openerRight t e (g (k + (e .skip - 1)))
+    → openRight t e (tab g (k + 1) (left - 1)) ≡ openerRight t e (g (k + (e .skip - 1)))
 opener-here t g e k left h l =
     let n = length-tab g (k + 1) (left - 1) in
     right-skip t e (tab g (k + 1) (left - 1)) h (omega arith) ∙ ap (openerRight t e) (closer-tab g e k left h l)
@@ -78,20 +78,20 @@ five (refused n i j) b c d e = refl
 
 module _ (t : ℕ) (g : ℕ → Entry) (depth k : ℕ) where
   step-word : (m f : ℕ) → opens ((g k) .kind) ≡ false
-    → checkIn t (suc f) (tab g k (suc m)) depth ≡ firstOf (need (wordRight t (g k)) bad-record) (checkIn t f (tab g (suc k) m) depth)
+      → checkIn t (suc f) (tab g k (suc m)) depth ≡ firstOf (need (wordRight t (g k)) bad-record) (checkIn t f (tab g (suc k) m) depth)
   unfolding checkIn tab
   step-word m f o = rw (o, checkIn)
 
-  pub word-stops : (left : ℕ) (y : Result Unit) → 0 < left → opens ((g k) .kind) ≡ false → y ≡ need (wordRight t (g k)) bad-record → Stops y → Says t g depth k left y
-  word-stops zero y l o e s f h = absurd (omega arith)
-  word-stops (suc m) y l o e s zero h = absurd (omega arith)
-  word-stops (suc m) y l o e s (suc f) h = rw (step-word m f o, ← e) (sym (s (checkIn t f (tab g (suc k) m) depth)))
+  word-stops' : (left : ℕ) (y : Result Unit) → 0 < left → opens ((g k) .kind) ≡ false → y ≡ need (wordRight t (g k)) bad-record → Stops y → Says t g depth k left y
+  word-stops' zero y l o e s f h = absurd (omega arith)
+  word-stops' (suc m) y l o e s zero h = absurd (omega arith)
+  word-stops' (suc m) y l o e s (suc f) h = rw (step-word m f o, ← e) (sym (s (checkIn t f (tab g (suc k) m) depth)))
 
-  pub word-goes : (left : ℕ) (x : Result Unit) → 0 < left → opens ((g k) .kind) ≡ false → ok tt ≡ need (wordRight t (g k)) bad-record
-    → Says t g depth (k + 1) (left - 1) x → Says t g depth k left x
-  word-goes zero x l o e says f h = absurd (omega arith)
-  word-goes (suc m) x l o e says zero h = absurd (omega arith)
-  word-goes (suc m) x l o e says (suc f) h =
+  word-goes' : (left : ℕ) (x : Result Unit) → 0 < left → opens ((g k) .kind) ≡ false → ok tt ≡ need (wordRight t (g k)) bad-record
+      → Says t g depth (k + 1) (left - 1) x → Says t g depth k left x
+  word-goes' zero x l o e says f h = absurd (omega arith)
+  word-goes' (suc m) x l o e says zero h = absurd (omega arith)
+  word-goes' (suc m) x l o e says (suc f) h =
       let q : suc m - 1 ≡ m = omega arith in
       rw (step-word m f o, ← e) (rw (add-one k, q) at (says f (omega arith)))
 
@@ -105,7 +105,7 @@ module _ (t : ℕ) (g : ℕ → Entry) (depth k : ℕ) where
   done m f = firstOf (firstOf (inside m f) (close (closerOf (g k) (tab g (suc k) m)))) (checkIn t f (afterOf (g k) (tab g (suc k) m)) depth)
 
   step-group : (m f : ℕ) → opens ((g k) .kind) ≡ true
-    → checkIn t (suc f) (tab g k (suc m)) depth
+      → checkIn t (suc f) (tab g k (suc m)) depth
       ≡ firstOf (opener t (g k) (tab g (suc k) m) depth) (done m f)
   unfolding checkIn tab
   step-group m f o =
@@ -113,10 +113,10 @@ module _ (t : ℕ) (g : ℕ → Entry) (depth k : ℕ) where
       (five (need (openRight t (g k) (tab g (suc k) m)) bad-record) (need (ltb depth (limits .depth)) too-deep) (inside m f) (close (closerOf (g k) (tab g (suc k) m)))
       (checkIn t f (afterOf (g k) (tab g (suc k) m)) depth))
 
-  pub group-stops : (left : ℕ) (y : Result Unit) → 0 < left → opens ((g k) .kind) ≡ true → y ≡ opener t (g k) (tab g (k + 1) (left - 1)) depth → Stops y → Says t g depth k left y
-  group-stops zero y l o e s f h = absurd (omega arith)
-  group-stops (suc m) y l o e s zero h = absurd (omega arith)
-  group-stops (suc m) y l o e s (suc f) h =
+  group-stops' : (left : ℕ) (y : Result Unit) → 0 < left → opens ((g k) .kind) ≡ true → y ≡ opener t (g k) (tab g (k + 1) (left - 1)) depth → Stops y → Says t g depth k left y
+  group-stops' zero y l o e s f h = absurd (omega arith)
+  group-stops' (suc m) y l o e s zero h = absurd (omega arith)
+  group-stops' (suc m) y l o e s (suc f) h =
       let q : suc m - 1 ≡ m = omega arith in
       let e' : y ≡ opener t (g k) (tab g (suc k) m) depth = rw (add-one k, q) at e in
       rw (step-group m f o, ← e') (sym (s (done m f)))
@@ -127,7 +127,7 @@ module _ (t : ℕ) (g : ℕ → Entry) (depth k : ℕ) where
     closed = firstOf i (close (g (k + ((g k) .skip - 1))))
 
     step-opened : (m f : ℕ) → (g k) .skip ≤ suc m → m ≤ f → ok tt ≡ opener t (g k) (tab g (k + 1) (suc m - 1)) depth
-      → checkIn t (suc f) (tab g k (suc m)) depth ≡ firstOf closed (checkIn t f (tab g (k + (g k) .skip) (suc m - (g k) .skip)) depth)
+        → checkIn t (suc f) (tab g k (suc m)) depth ≡ firstOf closed (checkIn t f (tab g (k + (g k) .skip) (suc m - (g k) .skip)) depth)
     step-opened m f l h e =
         let q : suc m - 1 ≡ m = omega arith in
         let e' : ok tt ≡ opener t (g k) (tab g (suc k) m) depth = rw (add-one k, q) at e in
@@ -139,17 +139,38 @@ module _ (t : ℕ) (g : ℕ → Entry) (depth k : ℕ) where
         let s : i ≡ checkIn t f (tab g (suc k) ((g k) .skip - 2)) (suc depth) = rw (add-one k, add-one depth) at (says f (omega arith)) in
         step-group m f o ∙ rw (← e', c, n, ← s, d, a, b)
 
-    pub inside-stops : (left : ℕ) (y : Result Unit) → (g k) .skip ≤ left → ok tt ≡ opener t (g k) (tab g (k + 1) (left - 1)) depth → y ≡ closed → Stops y → Says t g depth k left y
-    inside-stops zero y l e q s f h = absurd (omega arith)
-    inside-stops (suc m) y l e q s zero h = absurd (omega arith)
-    inside-stops (suc m) y l e q s (suc f) h =
+    inside-stops' : (left : ℕ) (y : Result Unit) → (g k) .skip ≤ left → ok tt ≡ opener t (g k) (tab g (k + 1) (left - 1)) depth → y ≡ closed → Stops y → Says t g depth k left y
+    inside-stops' zero y l e q s f h = absurd (omega arith)
+    inside-stops' (suc m) y l e q s zero h = absurd (omega arith)
+    inside-stops' (suc m) y l e q s (suc f) h =
         rw (step-opened m f l (omega arith) e, ← q) (sym (s (checkIn t f (tab g (k + (g k) .skip) (suc m - (g k) .skip)) depth)))
 
-    pub group-goes : (left : ℕ) (x : Result Unit) → (g k) .skip ≤ left → ok tt ≡ opener t (g k) (tab g (k + 1) (left - 1)) depth → ok tt ≡ closed
-      → Says t g depth (k + (g k) .skip) (left - (g k) .skip) x → Says t g depth k left x
-    group-goes zero x l e q rest f h = absurd (omega arith)
-    group-goes (suc m) x l e q rest zero h = absurd (omega arith)
-    group-goes (suc m) x l e q rest (suc f) h = rw (step-opened m f l (omega arith) e, ← q) (rest f (omega arith))
+    group-goes' : (left : ℕ) (x : Result Unit) → (g k) .skip ≤ left → ok tt ≡ opener t (g k) (tab g (k + 1) (left - 1)) depth → ok tt ≡ closed
+        → Says t g depth (k + (g k) .skip) (left - (g k) .skip) x → Says t g depth k left x
+    group-goes' zero x l e q rest f h = absurd (omega arith)
+    group-goes' (suc m) x l e q rest zero h = absurd (omega arith)
+    group-goes' (suc m) x l e q rest (suc f) h = rw (step-opened m f l (omega arith) e, ← q) (rest f (omega arith))
+
+-- the same of the entry e that was read
+module _ (t : ℕ) (g : ℕ → Entry) (depth k left : ℕ) (e : Entry) (q : e ≡ g k) where
+  pub word-stops : (y : Result Unit) → 0 < left → opens (e .kind) ≡ false → y ≡ need (wordRight t e) bad-record → Stops y → Says t g depth k left y
+  word-stops = rw q (word-stops' t g depth k left)
+
+  pub word-goes : (x : Result Unit) → 0 < left → opens (e .kind) ≡ false → ok tt ≡ need (wordRight t e) bad-record
+      → Says t g depth (k + 1) (left - 1) x → Says t g depth k left x
+  word-goes = rw q (word-goes' t g depth k left)
+
+  pub group-stops : (y : Result Unit) → 0 < left → opens (e .kind) ≡ true → y ≡ opener t e (tab g (k + 1) (left - 1)) depth → Stops y → Says t g depth k left y
+  group-stops = rw q (group-stops' t g depth k left)
+
+  pub inside-stops : (i y : Result Unit) → opens (e .kind) ≡ true → 2 ≤ e .skip → e .skip ≤ left → Says t g (depth + 1) (k + 1) (e .skip - 2) i
+      → ok tt ≡ opener t e (tab g (k + 1) (left - 1)) depth → y ≡ firstOf i (need (closeRight t e (g (k + (e .skip - 1)))) bad-record) → Stops y → Says t g depth k left y
+  inside-stops = rw q (λ i y o two l says. inside-stops' t g depth k i o two says left y l)
+
+  pub group-goes : (i x : Result Unit) → opens (e .kind) ≡ true → 2 ≤ e .skip → e .skip ≤ left → Says t g (depth + 1) (k + 1) (e .skip - 2) i
+      → ok tt ≡ opener t e (tab g (k + 1) (left - 1)) depth → ok tt ≡ firstOf i (need (closeRight t e (g (k + (e .skip - 1)))) bad-record)
+      → Says t g depth (k + e .skip) (left - e .skip) x → Says t g depth k left x
+  group-goes = rw q (λ i x o two l says. group-goes' t g depth k i o two says left x l)
 
 pub says-end : (t : ℕ) (g : ℕ → Entry) (depth k left : ℕ) → left ≤ 0 → Says t g depth k left (ok tt)
 unfolding checkIn tab

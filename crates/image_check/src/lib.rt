@@ -251,14 +251,7 @@ fn closer_of(image: &[u8], p: Places, k: u32, e: RecordEntry) -> RecordEntry
 }
 
 // Opener e, record k, with `left` records from it to the end of the component or group.
-fn open_check(
-    image: &[u8],
-    p: Places,
-    e: RecordEntry,
-    k: u32,
-    left: u32,
-    depth: u32,
-) -> Checked
+fn open_check(image: &[u8], p: Places, e: RecordEntry, k: u32, left: u32, depth: u32) -> Checked
     requires { ⌜ k + left < 2 ^ 32 ⌝ }
     ensures fits { λ r. ⌜ (r ≡ Checked.Passed → (2 ≤ e .skip) × (e .skip ≤ left) × (depth < 32)) ⌝ }
     ensures { λ r. ⌜ resultOf r ≡ opener (p .t) (entryOf e) (tab (entryOn (now (image .entry)) p) (k + 1) (left - 1)) depth ⌝ }

@@ -11,8 +11,13 @@ returns c =
     let b = c .before .before .before in
     let d = b .before .before .before in
     let byte = ap (λ x. x .closing) (d .delimiter-of .ensures) in
-    rw (c .needed .ensures bad-record refl, c .before .both2 .ensures, b .both .ensures, b .before .before .text-right .ensures,
-    b .before .delimited .ensures ∙ ap (λ x. delimiterRight x (entryOf (d .before .args .closer))) byte)
+    rw (
+      c .needed .ensures bad-record refl,
+      c .before .both2 .ensures,
+      b .both .ensures,
+      b .before .before .text-right .ensures,
+      b .before .delimited .ensures ∙ ap (λ x. delimiterRight x (entryOf (d .before .args .closer))) byte,
+    )
 
 pub close-check-spec : {M : Type 1} → statement M
 close-check-spec =

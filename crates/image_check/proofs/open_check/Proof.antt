@@ -17,15 +17,17 @@ use Rattle.image_check.proofs.open_check.Tie as tie
 
 returns : tie.Need-returns
 returns c =
-    let a = c .before .before .before .before .args in
-    (no-pass (c .refuse .result),
-    rw (short-skip (a .p .t) (entryOf (a .e)) (tab (entryOn (a .image .now) (a .p)) (a .k + 1) (a .left - 1)) (c .before .if1 .taken)) (c .refuse .ensures))
+    let a = c .before .before .before .before .args in (
+      no-pass (c .refuse .result),
+      rw (short-skip (a .p .t) (entryOf (a .e)) (tab (entryOn (a .image .now) (a .p)) (a .k + 1) (a .left - 1)) (c .before .if1 .taken)) (c .refuse .ensures),
+    )
 
 returns-2 : tie.Need-returns-2
 returns-2 c =
-    let a = c .before .before .before .before .before .before .args in
-    (no-pass (c .refuse2 .result),
-    rw (opener-long (a .p .t) (entryOn (a .image .now) (a .p)) (entryOf (a .e)) (a .k) (a .left) (c .before .before .before .if1 .left) (c .before .if2 .taken)) (c .refuse2 .ensures))
+    let a = c .before .before .before .before .before .before .args in (
+      no-pass (c .refuse2 .result),
+      rw (opener-long (a .p .t) (entryOn (a .image .now) (a .p)) (entryOf (a .e)) (a .k) (a .left) (c .before .before .before .if1 .left) (c .before .if2 .taken)) (c .refuse2 .ensures),
+    )
 
 returns-3 : tie.Need-returns-3
 returns-3 c =
@@ -34,11 +36,16 @@ returns-3 c =
     let high = b .before .before .if2 .left in
     let a = b .before .before .before .before .before .before .before .args in
     let deep = c .before .needed2 .ensures too-deep refl in
-    let closer = b .opener-right .ensures ∙ ap (openerRight (a .p .t) (entryOf (a .e))) (b .before .closer-of .ensures) in
-    ((λ e. (low, high, ltb-true (a .depth) 32
-    (tested (c .first .result) (resultOf (c .before .before .needed .result)) (resultOf (c .before .needed2 .result)) (ltb (a .depth) 32) too-deep (c .first .ensures) deep e))),
-    rw (opener-here (a .p .t) (entryOn (a .image .now) (a .p)) (entryOf (a .e)) (a .k) (a .left) low high)
-    (c .first .ensures ∙ rw (deep, c .before .before .needed .ensures bad-record refl, closer)))
+    let closer = b .opener-right .ensures ∙ ap (openerRight (a .p .t) (entryOf (a .e))) (b .before .closer-of .ensures) in (
+      (λ e. (
+        low,
+        high,
+        ltb-true (a .depth) 32
+            (tested (c .first .result) (resultOf (c .before .before .needed .result)) (resultOf (c .before .needed2 .result)) (ltb (a .depth) 32) too-deep (c .first .ensures) deep e),
+      )),
+      rw (opener-here (a .p .t) (entryOn (a .image .now) (a .p)) (entryOf (a .e)) (a .k) (a .left) low high)
+          (c .first .ensures ∙ rw (deep, c .before .before .needed .ensures bad-record refl, closer)),
+    )
 
 pub open-check-spec : {M : Type 1} → statement M
 open-check-spec =

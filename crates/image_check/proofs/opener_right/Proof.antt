@@ -10,8 +10,12 @@ returns c =
     let b = c .before .before in
     let d = b .before .before .before in
     let byte = ap (λ x. x .opening) (d .delimiter-of .ensures) in
-    rw (c .both2 .ensures, b .both .ensures, b .before .before .text-right .ensures,
-    b .before .delimited .ensures ∙ ap (λ x. delimiterRight x (entryOf (d .before .args .e))) byte)
+    rw (
+      c .both2 .ensures,
+      b .both .ensures,
+      b .before .before .text-right .ensures,
+      b .before .delimited .ensures ∙ ap (λ x. delimiterRight x (entryOf (d .before .args .e))) byte,
+    )
 
 pub opener-right-spec : {M : Type 1} → statement M
 opener-right-spec =
