@@ -1,4 +1,4 @@
 -- Laws of the image check's parts over plain variables, which the functions' proofs cite.
 mod Tests
-mod Entries
-mod Records
+mod Sums
+mod Groups

@@ -8,8 +8,8 @@ use Rattle.def_numbers.specs.Refusals.{need, short-image, bad-count, bad-offset
 use Rattle.def_image.specs.Image.{u32At, bytesFor, counts, tables, Entry, kinds, delimiter}
 use Rattle.def_image.specs.Check.{countsRight, offsetsRight, sparesZero, textRight, delimiterRight, openRight, checkIn}
 use Rattle.token_tree.specs.Tables.{entryIn}
-use Rattle.image_check.specs.declared.Places.{Places}
-use Rattle.image_check.specs.declared.Delimiter.{Delimiter}
+use Rattle.image_check.specs.declared.records.Places.{Places}
+use Rattle.image_check.specs.declared.records.Delimiter.{Delimiter}
 
 -- the first refusal of two
 abbrev pub firstOf : Result Unit → Result Unit → Result Unit

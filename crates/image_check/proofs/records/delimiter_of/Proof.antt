@@ -1,7 +1,7 @@
 use mathlib.Core.Path.{refl}
 use borrow.Author.Tests.{eq-eqb, ne-eqb}
-use Rattle.image_check.proofs.delimiter_of.Statement.{statement}
-use Rattle.image_check.proofs.delimiter_of.Tie as tie
+use Rattle.image_check.proofs.records.delimiter_of.Statement.{statement}
+use Rattle.image_check.proofs.records.delimiter_of.Tie as tie
 
 returns : tie.Need-returns
 returns c = rw (eq-eqb _ 1 (c .if1 .taken))

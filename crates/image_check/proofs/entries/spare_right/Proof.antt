@@ -2,10 +2,10 @@ use mathlib.Core.Path.{refl, sym, _∙_}
 use borrow.Author.Needs.{needs}
 use Prim.Native.Nat.{_%_}
 use native.Mathlib.Omega.{arith}
-use Rattle.image_check.proofs.Entries.{one-shifted}
+use Rattle.image_check.proofs.Sums.{one-shifted}
 use borrow.Author.Tests.{eq-eqb, ne-eqb}
-use Rattle.image_check.proofs.spare_right.Statement.{statement}
-use Rattle.image_check.proofs.spare_right.Tie as tie
+use Rattle.image_check.proofs.entries.spare_right.Statement.{statement}
+use Rattle.image_check.proofs.entries.spare_right.Tie as tie
 
 returns : tie.Need-returns
 returns c = rw (eq-eqb _ _ (c .if1 .taken))

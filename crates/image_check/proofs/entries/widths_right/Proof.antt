@@ -9,9 +9,9 @@ use borrow.Author.Needs.{needs}
 use Rattle.def_numbers.specs.Basics.{tab}
 use Rattle.def_image.specs.Image.{u32At}
 use Rattle.image_check.specs.Parts.{widthsRight}
-use Rattle.image_check.proofs.Entries.{widths-again, widths-end}
-use Rattle.image_check.proofs.widths_right.Statement.{statement}
-use Rattle.image_check.proofs.widths_right.Tie as tie
+use Rattle.image_check.proofs.Sums.{widths-again, widths-end}
+use Rattle.image_check.proofs.entries.widths_right.Statement.{statement}
+use Rattle.image_check.proofs.entries.widths_right.Tie as tie
 
 abbrev width : List ℕ → ℕ → ℕ → ℕ
 width image components i = u32At image (components + 8 * i + 4)

@@ -3,9 +3,9 @@ use Prim.Native.Nat.{ℕ}
 use native.Mathlib.Omega.{arith}
 use borrow.Author.Needs.{needs}
 use Rattle.token_tree.specs.Tables.{countsOf, tablesOf}
-use Rattle.image_check.proofs.Entries.{entries-whole}
-use Rattle.image_check.proofs.entries_right.Statement.{statement}
-use Rattle.image_check.proofs.entries_right.Tie as tie
+use Rattle.image_check.proofs.Sums.{entries-whole}
+use Rattle.image_check.proofs.entries.entries_right.Statement.{statement}
+use Rattle.image_check.proofs.entries.entries_right.Tie as tie
 
 sizes-right-requires-2 : tie.Need-sizes-right-requires-2
 sizes-right-requires-2 c κs = omega (arith, ap (λ t. t .components) (c .before .tables-of .ensures))

@@ -2,8 +2,8 @@ use mathlib.Core.Path.{refl, ap, _∙_}
 use borrow.Author.Needs.{needs}
 use Rattle.def_image.specs.Check.{delimiterRight}
 use Rattle.token_tree.specs.Tables.{entryOf}
-use Rattle.image_check.proofs.opener_right.Statement.{statement}
-use Rattle.image_check.proofs.opener_right.Tie as tie
+use Rattle.image_check.proofs.records.opener_right.Statement.{statement}
+use Rattle.image_check.proofs.records.opener_right.Tie as tie
 
 returns : tie.Need-returns
 returns c =

@@ -1,8 +1,8 @@
 use mathlib.Core.Path.{refl}
 use borrow.Author.Needs.{needs}
 use Rattle.def_numbers.specs.Refusals.{bad-record}
-use Rattle.image_check.proofs.word_check.Statement.{statement}
-use Rattle.image_check.proofs.word_check.Tie as tie
+use Rattle.image_check.proofs.records.word_check.Statement.{statement}
+use Rattle.image_check.proofs.records.word_check.Tie as tie
 
 returns : tie.Need-returns
 returns c =

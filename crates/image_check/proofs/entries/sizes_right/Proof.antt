@@ -9,9 +9,9 @@ use mathlib.Core.List.{List}
 use Rattle.def_numbers.specs.Basics.{tab}
 use Rattle.def_image.specs.Image.{u32At}
 use Rattle.image_check.specs.Parts.{sizesRight}
-use Rattle.image_check.proofs.Entries.{sizes-again, sizes-end, place-next}
-use Rattle.image_check.proofs.sizes_right.Statement.{statement}
-use Rattle.image_check.proofs.sizes_right.Tie as tie
+use Rattle.image_check.proofs.Sums.{sizes-again, sizes-end, place-next}
+use Rattle.image_check.proofs.entries.sizes_right.Statement.{statement}
+use Rattle.image_check.proofs.entries.sizes_right.Tie as tie
 
 abbrev size : List ℕ → ℕ → ℕ → ℕ → ℕ
 size image from step i = u32At image (from + step * i)

@@ -13,19 +13,19 @@ use Rattle.errors.specs.Refused.{resultOf}
 use Rattle.token_tree.specs.Tables.{entryOf}
 use Rattle.image_check.specs.Parts.{Says, entryOn, firstOf}
 use Rattle.image_check.proofs.Tests.{stops, passed}
-use Rattle.image_check.proofs.Records.{word-stops, word-goes, group-stops, inside-stops, group-goes, says-end}
-use Rattle.image_check.proofs.check_in.Reads as check-in
-use Rattle.image_check.proofs.check_in.Kinds as check-in-kinds
-use Rattle.image_check.proofs.+check_in.Lts-check_in as check-in-lts
-use Rattle.image_check.proofs.close_check.Reads as close-check-reads
-use Rattle.image_check.proofs.closer_of.Reads as closer-of-reads
-use Rattle.image_check.proofs.entry_on.Reads as entry-on-reads
+use Rattle.image_check.proofs.Groups.{word-stops, word-goes, group-stops, inside-stops, group-goes, says-end}
+use Rattle.image_check.proofs.records.check_in.Reads as check-in
+use Rattle.image_check.proofs.records.check_in.Kinds as check-in-kinds
+use Rattle.image_check.proofs.records.+check_in.Lts-check_in as check-in-lts
+use Rattle.image_check.proofs.records.close_check.Reads as close-check-reads
+use Rattle.image_check.proofs.records.closer_of.Reads as closer-of-reads
+use Rattle.image_check.proofs.records.entry_on.Reads as entry-on-reads
 use Rattle.image_check.proofs.first.Reads as first-reads
-use Rattle.image_check.proofs.is_opener.Reads as is-opener-reads
-use Rattle.image_check.proofs.open_check.Reads as open-check-reads
-use Rattle.image_check.proofs.word_check.Reads as word-check-reads
-use Rattle.image_check.proofs.+check_in.{statement}
-use Rattle.image_check.proofs.+check_in.Tie.{close}
+use Rattle.image_check.proofs.records.is_opener.Reads as is-opener-reads
+use Rattle.image_check.proofs.records.open_check.Reads as open-check-reads
+use Rattle.image_check.proofs.records.word_check.Reads as word-check-reads
+use Rattle.image_check.proofs.records.+check_in.{statement}
+use Rattle.image_check.proofs.records.+check_in.Tie.{close}
 
 abbrev μ-check-in : Measures 1 check-in-kinds.ps ℕ
 μ-check-in κs a = a .1 .1 .1 .0

@@ -3,8 +3,8 @@ use borrow.Author.Needs.{needs}
 use Rattle.def_numbers.specs.Refusals.{bad-record}
 use Rattle.def_image.specs.Check.{delimiterRight}
 use Rattle.token_tree.specs.Tables.{entryOf}
-use Rattle.image_check.proofs.close_check.Statement.{statement}
-use Rattle.image_check.proofs.close_check.Tie as tie
+use Rattle.image_check.proofs.records.close_check.Statement.{statement}
+use Rattle.image_check.proofs.records.close_check.Tie as tie
 
 returns : tie.Need-returns
 returns c =

@@ -11,9 +11,9 @@ use Rattle.token_tree.specs.Tables.{entryOf}
 use Rattle.errors.specs.Refused.{resultOf}
 use Rattle.image_check.specs.Parts.{entryOn, openerRight}
 use Rattle.image_check.proofs.Tests.{no-pass, tested}
-use Rattle.image_check.proofs.Records.{short-skip, opener-long, opener-here}
-use Rattle.image_check.proofs.open_check.Statement.{statement}
-use Rattle.image_check.proofs.open_check.Tie as tie
+use Rattle.image_check.proofs.Groups.{short-skip, opener-long, opener-here}
+use Rattle.image_check.proofs.records.open_check.Statement.{statement}
+use Rattle.image_check.proofs.records.open_check.Tie as tie
 
 returns : tie.Need-returns
 returns c =
