@@ -2,3 +2,4 @@
 mod Tests
 mod Sums
 mod Groups
+mod Whole

@@ -1,5 +1,5 @@
 -- Tests and answers.
-use mathlib.Core.Path.{_≡_, refl, _∙_}
+use mathlib.Core.Path.{_≡_, refl, sym, _∙_}
 use Prim.Native.Nat.{_≤_}
 use native.Mathlib.Omega.{arith}
 use borrow.Author.Tests.{leb-true}
@@ -74,3 +74,14 @@ tested r x y b w e q p = go x b (passed r (firstOf x y) e p ∙ rw q)
     go x true h = refl
     go (ok u) false h = cc
     go (refused n i k) false h = cc
+
+pub need-true : (b : Bool) (w : Reason) → ok tt ≡ need b w → b ≡ true
+need-true true w e = refl
+need-true false w e = cc
+
+-- of two answers: the first refuses, or passes and the second is the whole's
+pub first-stops : (y a b : Result Unit) → y ≡ a → Stops y → y ≡ firstOf a b
+first-stops y a b e s = rw (← e) (sym (s b))
+
+pub first-goes : (y a b : Result Unit) → ok tt ≡ a → y ≡ b → y ≡ firstOf a b
+first-goes y a b e q = rw (← e) q

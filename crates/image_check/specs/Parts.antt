@@ -5,8 +5,8 @@ use Rattle.def_numbers.specs.Prelude.{ℕ, _+_, _*_, _/_, _%_, _^_, Bool, true,
 use Rattle.def_numbers.specs.Basics.{Result, _>>=_, if_then_else_, within, sum, all, tab}
 use Rattle.def_numbers.specs.Limits.{limits}
 use Rattle.def_numbers.specs.Refusals.{need, short-image, bad-count, bad-offset, bad-record, too-deep}
-use Rattle.def_image.specs.Image.{u32At, bytesFor, counts, tables, Entry, kinds, delimiter}
-use Rattle.def_image.specs.Check.{countsRight, offsetsRight, sparesZero, textRight, delimiterRight, openRight, checkIn}
+use Rattle.def_image.specs.Image.{u32At, bytesFor, counts, tables, recordCount, startAt, Entry, kinds, delimiter}
+use Rattle.def_image.specs.Check.{countsRight, offsetsRight, sparesZero, textRight, delimiterRight, openRight, checkIn, checkComponents}
 use Rattle.token_tree.specs.Tables.{entryIn}
 use Rattle.image_check.specs.declared.records.Places.{Places}
 use Rattle.image_check.specs.declared.records.Delimiter.{Delimiter}
@@ -73,3 +73,9 @@ opener t e rest depth = do
 -- x is the answer of the check of `count` records from record `from` on, whatever fuel is enough
 abbrev pub Says : ℕ → (ℕ → Entry) → ℕ → ℕ → ℕ → Result Unit → Type 0
 Says t g depth from count x = (f : ℕ) → count ≤ f → x ≡ checkIn t f (tab g from count) depth
+
+-- 6 and 7 of all components
+unfoldable pub records : List ℕ → Result Unit
+records image = do
+  _ ← need (eqb (startAt image 0) 0) bad-record
+  checkComponents image 0 (tab (recordCount image) 0 ((counts image) .n))

@@ -1,8 +1,10 @@
 // Document 01's image check: 2 to 7 in the document's order, for every byte string.
 mod entries;
 mod records;
+
 use errors::Checked;
-use token_tree::{Counts, Tables};
+use token_tree::Counts;
+use token_tree::Tables;
 ghost use mathlib.Core.Path.{_≡_};
 ghost use mathlib.Core.Bool.{_&&_};
 ghost use lib.Dec.{eqb};
@@ -90,4 +92,19 @@ fn header_check(image: &[u8]) -> Checked
             needed(offsets_right(image, at), 4),
         ),
     )
+}
+
+// Document 01's whole image check.
+pub fn check_image(image: &[u8]) -> Checked
+    ensures { λ r. ⌜ resultOf r ≡ checkImage (now (image .entry)) ⌝ }
+{
+    let header = header_check(image);
+    let Checked::Passed = header else {
+        return header;
+    };
+    let entries = needed(entries::entries_right(image), 5);
+    let Checked::Passed = entries else {
+        return entries;
+    };
+    records::records_check(image)
 }

@@ -1,16 +1,21 @@
 // 6 and 7: records one by one, a group by what stands inside it.
-use crate::{between, both, first, needed};
+use crate::between;
+use crate::both;
+use crate::first;
+use crate::needed;
 use errors::Checked;
+use token_tree::PBind;
+use token_tree::PVal;
 use token_tree::RecordEntry;
 ghost use mathlib.Core.Path.{_≡_};
 ghost use Prim.Native.Nat.{_+_, _-_, _^_, _≤_, _<_};
-ghost use Rattle.def_numbers.specs.Basics.{tab};
+ghost use Rattle.def_numbers.specs.Basics.{sum, tab};
 ghost use Rattle.def_numbers.specs.Refusals.{need, bad-record};
-ghost use Rattle.def_image.specs.Image.{opens, delimiter};
-ghost use Rattle.def_image.specs.Check.{textRight, delimiterRight, wordRight, closeRight};
+ghost use Rattle.def_image.specs.Image.{counts, recordCount, opens, delimiter};
+ghost use Rattle.def_image.specs.Check.{textRight, delimiterRight, wordRight, closeRight, checkComponents};
 ghost use Rattle.errors.specs.Refused.{resultOf};
 ghost use Rattle.token_tree.specs.Tables.{entryOf};
-ghost use Rattle.image_check.specs.Parts.{entryOn, delimiterOf, openerRight, opener, Says};
+ghost use Rattle.image_check.specs.Parts.{entryOn, placesOf, delimiterOf, openerRight, opener, Says, records};
 
 // Where the records and their texts stand, how many records there are and where the text stops.
 pub struct Places {
@@ -160,4 +165,39 @@ fn check_in(image: &[u8], p: Places, from: u32, count: u32, depth: u32) -> Check
         }
     }
     Checked::Passed
+}
+
+// The records of n components, one component after the other.
+fn components_check(image: &[u8], p: Places, n: u32) -> Checked
+    requires { ⌜ (p ≡ placesOf (now image)) × (sum (tab (recordCount (now image)) 0 n) < 2 ^ 32) ⌝ }
+    ensures { λ r. ⌜ resultOf r ≡ checkComponents (now (image .entry)) 0 (tab (recordCount (now (image .entry))) 0 n) ⌝ }
+{
+    let mut from: u32 = 0;
+    let mut k: u32 = 0;
+    while k < n {
+        let count = token_tree::record_count(image, PVal(k));
+        let part = check_in(image, p, from, count, 0);
+        let Checked::Passed = part else {
+            return part;
+        };
+        from += count;
+        k += 1;
+    }
+    Checked::Passed
+}
+
+pub(crate) fn records_check(image: &[u8]) -> Checked
+    requires { ⌜ sum (tab (recordCount (now image)) 0 ((counts (now image)) .n)) < 2 ^ 32 ⌝ }
+    ensures { λ r. ⌜ resultOf r ≡ records (now (image .entry)) ⌝ }
+{
+    let h = token_tree::counts_of(image);
+    let at = token_tree::tables_of(image);
+    let p = Places {
+        records: at.records,
+        text: at.text,
+        count: h.r,
+        t: h.t,
+    };
+    let start = token_tree::start_at(image, PBind(0));
+    first(needed(start.0 == 0, 6), components_check(image, p, h.n))
 }
