@@ -5,11 +5,11 @@ use native.Mathlib.Numerals.{add-one}
 use native.Mathlib.Omega.{arith}
 use borrow.Author.Tests.{lt-leb, le-leb}
 use Prim.Native.Nat.{_<_, _≤_, _-_}
-use Rattle.def_numbers.specs.Prelude.{ℕ, zero, suc, _+_, Bool, true, false, _&&_, List, [], _∷_, length, getD, take, drop, leb, ltb, eqb}
-use Rattle.def_numbers.specs.Basics.{Result, ok, refused, _>>=_, tab}
+use Rattle.def_numbers.specs.Prelude.{ℕ, zero, suc, _+_, Bool, true, false, _&&_, List, _∷_, length, getD, take, drop, leb, ltb}
+use Rattle.def_numbers.specs.Basics.{Result, ok, refused, tab}
 use Rattle.def_numbers.specs.Limits.{limits}
 use Rattle.def_numbers.specs.Refusals.{need, bad-record, too-deep}
-use Rattle.def_image.specs.Image.{Entry, opens, delimiter, kinds}
+use Rattle.def_image.specs.Image.{Entry, opens, delimiter}
 use Rattle.def_image.specs.Check.{noEntry, textRight, delimiterRight, wordRight, insideOf, closerOf, afterOf, openRight, closeRight, checkIn}
 use Rattle.image_check.specs.Parts.{firstOf, openerRight, opener, Says}
 use Rattle.image_check.proofs.Tests.{and-true, and-false, Stops}

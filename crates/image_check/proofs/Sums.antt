@@ -6,7 +6,6 @@ use native.Mathlib.Omega.{arith}
 use Prim.Native.Nat.{_<_, _≤_, _-_}
 use Rattle.def_numbers.specs.Prelude.{ℕ, suc, _+_, _*_, _%_, _^_, Bool, true, false, _&&_, List, [], _∷_, map, leb, eqb}
 use Rattle.def_numbers.specs.Basics.{sum, all, tab}
-use Rattle.def_numbers.specs.Limits.{limits}
 use Rattle.def_image.specs.Image.{u32At, bytesFor, counts, tables, componentCount, recordCount, literalWidth}
 use Rattle.def_image.specs.Check.{sparesZero, entriesRight}
 use Rattle.image_check.proofs.Tests.{and-assoc, and-true}

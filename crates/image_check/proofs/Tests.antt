@@ -4,17 +4,13 @@ use Prim.Native.Nat.{_≤_}
 use native.Mathlib.Omega.{arith}
 use borrow.Author.Tests.{leb-true}
 use Rattle.def_numbers.specs.Prelude.{ℕ, Bool, true, false, _&&_, leb}
-use Rattle.def_numbers.specs.Basics.{Result, ok, refused, _>>=_, within}
+use Rattle.def_numbers.specs.Basics.{Result, ok, refused, within}
 use Rattle.def_numbers.specs.Refusals.{Reason, numberOf, need}
 use Rattle.errors.specs.declared.Refusal.{Refusal}
 use Rattle.errors.specs.declared.Checked.{Checked}
 use Rattle.errors.specs.declared.Checked.the-variants.{Passed, Refused}
 use Rattle.errors.specs.Refused.{resultOf}
 use Rattle.image_check.specs.Parts.{firstOf, countsIn, Small}
-
-pub by-test : {G : Type 0} (t : Bool) → (t ≡ true → G) → (t ≡ false → G) → G
-by-test true y n = y refl
-by-test false y n = n refl
 
 pub and-true : (a : Bool) → (a && true) ≡ a
 and-true true = refl

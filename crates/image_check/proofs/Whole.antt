@@ -1,11 +1,10 @@
 -- Component after component, and the whole check in its three parts.
 use mathlib.Core.Path.{_≡_, refl, sym, ap, _∙_}
 use Prim.Native.Nat.{_<_, _≤_, _-_}
-use native.Mathlib.Nat.{add-assoc}
 use native.Mathlib.Omega.{arith}
 use borrow.Author.Tests.{eqb-true}
 use Rattle.def_numbers.specs.Prelude.{ℕ, _+_, Bool, true, false, _&&_, List, map, length, leb, eqb}
-use Rattle.def_numbers.specs.Basics.{Result, ok, refused, _>>=_, sum, all, tab}
+use Rattle.def_numbers.specs.Basics.{Result, ok, refused, sum, all, tab}
 use Rattle.def_numbers.specs.Refusals.{need, short-image, bad-count, bad-offset, bad-entry}
 use Rattle.def_image.specs.Image.{bytesFor, counts, tables, componentCount, recordCount, literalWidth, entryAt}
 use Rattle.def_image.specs.Check.{countsRight, offsetsRight, sparesZero, entriesRight, checkIn, checkComponents, checkImage}

@@ -1,7 +1,7 @@
 -- The parts of the image check, over numbers that were read already. Each is the definition's own where it is given what the image says.
 use mathlib.Core.Path.{_≡_}
 use Prim.Native.Nat.{_≤_}
-use Rattle.def_numbers.specs.Prelude.{ℕ, _+_, _*_, _/_, _%_, _^_, Bool, true, _&&_, List, map, length, getD, leb, ltb, eqb}
+use Rattle.def_numbers.specs.Prelude.{ℕ, _+_, _/_, _%_, _^_, Bool, true, _&&_, List, map, length, getD, leb, ltb, eqb}
 use Rattle.def_numbers.specs.Basics.{Result, _>>=_, if_then_else_, within, sum, all, tab}
 use Rattle.def_numbers.specs.Limits.{limits}
 use Rattle.def_numbers.specs.Refusals.{need, short-image, bad-count, bad-offset, bad-record, too-deep}

@@ -1,5 +1,5 @@
 -- The definition's check in its three parts: a refusal of one is the whole's, and a part that passed leaves the next.
-use mathlib.Core.Path.{_≡_, refl, sym, _∙_}
+use mathlib.Core.Path.{refl, sym, _∙_}
 use borrow.Author.Needs.{needs}
 use Rattle.def_numbers.specs.Refusals.{need, bad-entry}
 use Rattle.def_image.specs.Check.{entriesRight}

@@ -1,4 +1,4 @@
-use mathlib.Core.Path.{refl, sym, _∙_}
+use mathlib.Core.Path.{_∙_}
 use borrow.Author.Needs.{needs}
 use Rattle.image_check.proofs.Tests.{need-refused}
 use Rattle.image_check.proofs.needed.Statement.{statement}

@@ -1,4 +1,3 @@
-use mathlib.Core.Path.{refl}
 use borrow.Author.Needs.{needs}
 use Rattle.image_check.proofs.offsets_right.Statement.{statement}
 use Rattle.image_check.proofs.offsets_right.Tie as tie

@@ -1,4 +1,3 @@
-use mathlib.Core.Path.{refl, sym, _∙_}
 use borrow.Author.Needs.{needs}
 use Prim.Native.Nat.{_%_}
 use native.Mathlib.Omega.{arith}

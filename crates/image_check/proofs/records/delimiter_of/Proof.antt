@@ -1,4 +1,3 @@
-use mathlib.Core.Path.{refl}
 use borrow.Author.Tests.{eq-eqb, ne-eqb}
 use Rattle.image_check.proofs.records.delimiter_of.Statement.{statement}
 use Rattle.image_check.proofs.records.delimiter_of.Tie as tie

@@ -1,5 +1,5 @@
 -- A skip that is too short or reaches past the group refuses, whatever the text; any other is judged with the record that it names.
-use mathlib.Core.Path.{refl, sym, ap, _∙_}
+use mathlib.Core.Path.{refl, ap, _∙_}
 use native.Mathlib.Omega.{arith}
 use borrow.Author.Needs.{needs}
 use borrow.Author.Tests.{ltb-true}

@@ -1,4 +1,4 @@
-use mathlib.Core.Path.{refl, ap, _∙_}
+use mathlib.Core.Path.{ap, _∙_}
 use borrow.Author.Needs.{needs}
 use Rattle.def_image.specs.Check.{delimiterRight}
 use Rattle.token_tree.specs.Tables.{entryOf}

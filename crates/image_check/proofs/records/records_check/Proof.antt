@@ -1,8 +1,6 @@
-use mathlib.Core.Path.{_≡_, refl, ap, _∙_}
-use Prim.Native.Nat.{_<_}
-use lib.Dec.{eqb}
+use mathlib.Core.Path.{refl, ap, _∙_}
 use borrow.Author.Needs.{needs}
-use Rattle.def_numbers.specs.Basics.{sum, tab}
+use Rattle.def_numbers.specs.Basics.{tab}
 use Rattle.def_numbers.specs.Refusals.{bad-record}
 use Rattle.def_image.specs.Image.{recordCount}
 use Rattle.def_image.specs.Check.{checkComponents}
