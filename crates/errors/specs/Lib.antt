@@ -1,0 +1,2 @@
+-- What a refusal in code says of document 01.
+pub mod Refused

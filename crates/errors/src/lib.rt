@@ -1,0 +1,39 @@
+// Refusals (src/errors.rs): numbers and places only, as document 01 gives them.
+ghost use mathlib.Core.Path.{_≡_};
+ghost use Rattle.def_numbers.specs.Basics.{refused, placed};
+ghost use Rattle.errors.specs.Refused.{refusedAs};
+
+// A number of document 01 and two places: concatenation and component, 0 where there is none.
+pub struct Refusal {
+    pub number: u32,
+    pub concatenation: u32,
+    pub component: u32,
+}
+
+// The answer of a check.
+pub enum Checked {
+    Passed,
+    Refused(Refusal),
+}
+
+// A refusal with the places 0 and 0.
+pub fn refuse(number: u32) -> Refusal
+    ensures { λ r. ⌜ refusedAs {A = Unit} r ≡ refused number 0 0 ⌝ }
+{
+    Refusal {
+        number,
+        concatenation: 0,
+        component: 0,
+    }
+}
+
+// The same refusal at other places.
+pub fn placed_at(r: Refusal, concatenation: u32, component: u32) -> Refusal
+    ensures { λ q. ⌜ refusedAs {A = Unit} q ≡ placed concatenation component (refusedAs r) ⌝ }
+{
+    Refusal {
+        number: r.number,
+        concatenation,
+        component,
+    }
+}

@@ -1,0 +1,2 @@
+-- What the numbers of 128 bits mean.
+pub mod Value

@@ -1,0 +1,2 @@
+-- What the reader of the image's tables answers, as the definition's.
+pub mod Tables
