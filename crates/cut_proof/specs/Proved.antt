@@ -1,9 +1,22 @@
 -- Demand 3: cutting a literal changes nothing. The claim stands, with all that it names, in crate `cutting`, Statement.
+use mathlib.Core.Path.{_≡_}
+use Rattle.def_numbers.specs.Prelude.{ℕ, true, List}
+use Rattle.def_numbers.specs.Basics.{ok}
+use Rattle.def_image.specs.Tree.{Tree, imageOf, fits}
+use Rattle.def_run.specs.Run.{run}
+use Rattle.prepared.specs.Statement.{Bytes}
+use Rattle.prepared_back.specs.Every.{every-image}
 use Rattle.cutting.specs.Statement.{Cutting}
 use Rattle.cut_component.specs.Proof.{literal-reads, piece-reads, prefix-kept}
 use Rattle.cut_stages.specs.Early.{cut-early-from}
 use Rattle.cut_stages.specs.Later.{in-turn, cut-later}
+use Rattle.cut_proof.specs.Assemble.{run-accepts}
 use Rattle.cut_proof.specs.Cut as Cut
 
 pub cutting : Cutting
 cutting = Cut.cutting in-turn (cut-early-from literal-reads piece-reads prefix-kept) cut-later
+
+-- "every image": what the run accepts is the image of a tree that fits, so the claim speaks of all of them
+pub every-accepted : (image : List ℕ) → Bytes image → (mode area : ℕ) (answer : List ℕ) → run image mode area ≡ ok answer
+    → (t : Tree) × (fits t ≡ true) × (image ≡ imageOf t)
+every-accepted image b mode area answer h = every-image image b ((run-accepts image mode area answer h) .checked)

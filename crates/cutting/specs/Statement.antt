@@ -1,7 +1,7 @@
 -- Demand 3: cutting a literal changes nothing. A fixed literal of an accepted image is written as neighbouring pieces; the run
 -- accepts the new image too, and the two answers are equal in every field. One claim, for the whole list of places.
 -- Quotations are document 01's, section "Cutting a literal". Every image that the run accepts is the image of a tree that fits
--- (prepared_back, every-image), so "every image" is "every tree that fits" here.
+-- (cut_proof, every-accepted), so "every image" is "every tree that fits" here.
 use mathlib.Core.Path.{_≡_}
 use Prim.Native.Nat.{_≤_, _<_}
 use Rattle.def_numbers.specs.Prelude.{ℕ, suc, _+_, _-_, _/_, _%_, _^_, Bool, true, false, _&&_, not, Option, none, some, List, [], _∷_, _++_, map, length, getD, take, drop, ltb, eqb, ℤ, pos, negsuc, natAbs}

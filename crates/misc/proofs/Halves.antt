@@ -7,8 +7,8 @@ use Prim.Native.Nat.{ℕ, zero, suc, _+_, _*_, _^_, _≤_, _<_}
 use native.Mathlib.Nat.{add-mul, suc-mul, mul-assoc, mul-le-mul-right}
 use native.Mathlib.Omega.{arith}
 use lib.Dec.{ltb, eqb}
-use borrow.Author.Tests.{ltb-true, ltb-false, eqb-true, eqb-false, lt-ltb, le-ltb, eq-eqb, ne-eqb}
-use Rattle.misc.specs.Value.{orderOf}
+use borrow.Author.Tests.{ltb-true, ltb-false, eqb-true, eqb-false, lt-ltb, le-ltb}
+use Rattle.misc.specs.Steps.{orderOf}
 
 pub by-test : {G : Type 0} (t : Bool) → (t ≡ true → G) → (t ≡ false → G) → G
 by-test true f g = f refl
@@ -70,7 +70,7 @@ module _ (B ah al bh bl l c h d : ℕ) where
       whole (B * B) (ah * B + al) (h * B + l + (bh * B + bl)) d (omega arith) k
 
 -- a half that is less leaves room for a whole base
-above : (B a b : ℕ) → a < b → a * B + B ≤ b * B
+pub above : (B a b : ℕ) → a < b → a * B + B ≤ b * B
 above B a b h =
     let k : suc a * B ≤ b * B = mul-le-mul-right B h in
     let e : suc a * B ≡ a * B + B = suc-mul a B in

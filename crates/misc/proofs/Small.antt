@@ -1,12 +1,12 @@
 -- Numbers whose high half is 0, and the others: zero, and what usize takes.
 -- Assumes nothing.
-use mathlib.Core.Path.{_≡_, refl, sym, ap, _∙_}
+use mathlib.Core.Path.{_≡_, sym, ap, _∙_}
 use mathlib.Core.Option.{none, some}
-use Prim.Native.Nat.{_*_, _+_, _^_, _<_}
+use Prim.Native.Nat.{_^_, _<_}
 use native.Mathlib.Omega.{arith}
 use lib.Dec.{ltb, eqb, eqb·suc-zero}
 use lib.IntN.{pos, natAbs}
-use borrow.Author.Tests.{lt-ltb, le-ltb, eq-eqb, ne-eqb}
+use borrow.Author.Tests.{lt-ltb, le-ltb, ne-eqb}
 use Rattle.misc.specs.declared.I128.{I128}
 use Rattle.misc.specs.Value.{bits, valueOf, toUsize, toNonZeroUsize}
 use Rattle.misc.proofs.Halves.{by-test}

@@ -12,8 +12,9 @@ use lib.Signed.{nonNeg, ltZ}
 use borrow.Author.Tests.{ltb-true, ltb-false, lt-leb, le-leb}
 use Rattle.def_numbers.specs.Numbers.{half128, fits128}
 use Rattle.misc.specs.declared.I128.{I128}
-use Rattle.misc.specs.Value.{Wraps, bits, valueOf}
-use Rattle.misc.proofs.Halves.{by-test, same-test}
+use Rattle.misc.specs.Steps.{Wraps}
+use Rattle.misc.specs.Value.{bits, valueOf}
+use Rattle.misc.proofs.Halves.{by-test, same-test, above}
 use Rattle.misc.proofs.Difference.{Is, within-fits}
 
 abbrev pub negative : ℤ → Bool
@@ -32,15 +33,10 @@ pub record Word (z : ℤ) (x : ℕ) : Type 0 where
 
 -- the halves' places in a base: below S, from S on, and both turned over
 low-part : (B S h l : ℕ) → h < S → l < B → h * B + l < S * B
-low-part B S h l p q =
-    let k : suc h * B ≤ S * B = mul-le-mul-right B p in
-    let e : suc h * B ≡ h * B + B = native.Mathlib.Nat.suc-mul h B in
-    omega arith
+low-part B S h l p q = omega (arith, above B h S p)
 
 high-part : (B S h l : ℕ) → S ≤ h → S * B ≤ h * B + l
-high-part B S h l p =
-    let k : S * B ≤ h * B = mul-le-mul-right B p in
-    omega arith
+high-part B S h l p = omega (arith, mul-le-mul-right B p)
 
 turned : (B k h m l : ℕ) → k + h + 1 ≡ B → m + l + 1 ≡ B → suc (k * B + m + (h * B + l)) ≡ B * B
 turned B k h m l p q =
@@ -57,7 +53,11 @@ whole-is = refl
 
 module _ (w : I128) (h : w .high < 2 ^ 64) (l : w .low < 2 ^ 64) where
   word-pos : w .high < 2 ^ 63 → Word (pos (bits w)) (bits w)
-  word-pos p = record { off = 0; sign = (subst (λ (H : ℕ). bits w < H) (sym half-is) (low-part (2 ^ 64) (2 ^ 63) (w .high) (w .low) p l), refl); is = omega arith }
+  word-pos p = record {
+    off = 0;
+    sign = (subst (λ (H : ℕ). bits w < H) (sym half-is) (low-part (2 ^ 64) (2 ^ 63) (w .high) (w .low) p l), refl);
+    is = omega arith;
+  }
 
   word-neg : 2 ^ 63 ≤ w .high → Word (negsuc ((2 ^ 64 - 1 - w .high) * 2 ^ 64 + (2 ^ 64 - 1 - w .low))) (bits w)
   word-neg p = record {

@@ -6,7 +6,8 @@ ghost use lib.Dec.{eqb, ltb};
 ghost use lib.IntN.{pos, negℤ, natAbs, _+ℤ_, _-ℤ_};
 ghost use lib.Signed.{ltZ, nonNeg};
 ghost use Rattle.def_numbers.specs.Numbers.{narrow};
-ghost use Rattle.misc.specs.Value.{Wraps, bits, orderOf, overflow, valueOf, optionOf, optionUsize, toUsize, toNonZeroUsize};
+ghost use Rattle.misc.specs.Steps.{Wraps, orderOf, overflow};
+ghost use Rattle.misc.specs.Value.{bits, valueOf, optionOf, optionUsize, toUsize, toNonZeroUsize};
 
 // Two halves, in two's complement.
 pub struct I128 {

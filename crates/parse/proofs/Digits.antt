@@ -1,9 +1,10 @@
 -- Reading digits one after the other: what each way through the loop gives.
 use mathlib.Core.Path.{_≡_, refl, sym}
 use mathlib.Core.Bool.{Bool, true, false}
+use mathlib.Core.Logic.{_⊎_, inl, inr}
 use mathlib.Core.Option.{Option, none, some}
 use mathlib.Core.List.{List, [], _∷_}
-use Prim.Native.Nat.{ℕ, suc, _+_, _*_, _≤_, _<_}
+use Prim.Native.Nat.{ℕ, _+_, _*_, _≤_, _<_}
 use native.Mathlib.Nat.{mul-le-mul-left}
 use native.Mathlib.Numerals.{add-one}
 use native.Mathlib.Omega.{arith}
@@ -15,24 +16,32 @@ use Rattle.def_numbers.specs.Basics.{if_then_else_}
 use Rattle.def_numbers.specs.Numbers.{digitWorth, digitIn, digitsFrom, digits}
 use Rattle.parse.specs.Parts.{worthByte, capped, cappedOption, full128}
 
--- a byte whose worth is below the radix is a digit of it, and no other byte is
-is-digit : (radix b : ℕ) → radix ≤ 16 → worthByte b < radix → digitIn radix b ≡ some (worthByte b)
+-- each byte has its worth, or is no digit
+abbrev Worth : ℕ → Type 0
+Worth b = (digitWorth b ≡ some (worthByte b)) ⊎ ((digitWorth b ≡ none) × (worthByte b ≡ 255))
+
+byte-worth : (b : ℕ) → Worth b
 unfolding worthByte
-is-digit radix b small h = go (digitWorth b) h
+byte-worth b = go (digitWorth b)
   where
-    go : (o : Option ℕ) → elim o [ none ↦ 255 | some d ↦ d ] < radix
-        → _≡_ {A = Option ℕ} (elim o [ none ↦ none | some d ↦ if ltb d radix then some d else none ]) (some (elim o [ none ↦ 255 | some d ↦ d ]))
-    go none h = absurd (omega arith)
-    go (some d) h = rw (lt-ltb d radix h)
+    go : (o : Option ℕ) → (o ≡ some (elim o [ none ↦ 255 | some d ↦ d ])) ⊎ ((o ≡ none) × (_≡_ {A = ℕ} (elim o [ none ↦ 255 | some d ↦ d ]) 255))
+    go none = inr (refl, refl)
+    go (some d) = inl refl
+
+-- so it is a digit of the radix where its worth is below that
+is-digit : (radix b : ℕ) → radix ≤ 16 → worthByte b < radix → digitIn radix b ≡ some (worthByte b)
+is-digit radix b small h = go (byte-worth b)
+  where
+    go : Worth b → digitIn radix b ≡ some (worthByte b)
+    go (inl e) = rw (e, digitIn) (rw (lt-ltb (worthByte b) radix h))
+    go (inr w) = absurd (omega (arith, w .1))
 
 no-digit : (radix b : ℕ) → radix ≤ worthByte b → digitIn radix b ≡ none
-unfolding worthByte
-no-digit radix b h = go (digitWorth b) h
+no-digit radix b h = go (byte-worth b)
   where
-    go : (o : Option ℕ) → radix ≤ elim o [ none ↦ 255 | some d ↦ d ]
-        → _≡_ {A = Option ℕ} (elim o [ none ↦ none | some d ↦ if ltb d radix then some d else none ]) none
-    go none h = refl
-    go (some d) h = rw (le-ltb d radix h)
+    go : Worth b → digitIn radix b ≡ none
+    go (inl e) = rw (e, digitIn) (rw (le-ltb (worthByte b) radix h))
+    go (inr w) = rw (w .0, digitIn)
 
 -- a number past 128 bits stays past them
 past : (n : ℕ) → capped n ≡ none → full128 ≤ n

@@ -3,3 +3,4 @@ pub mod Product
 pub mod Reading
 pub mod Signs
 pub mod Table
+pub mod Worths

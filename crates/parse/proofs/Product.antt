@@ -1,6 +1,6 @@
 -- A product of a number in two parts with a small one, and a number of 128 bits in two halves.
-use mathlib.Core.Path.{_≡_, refl, sym, ap, _∙_}
-use mathlib.Core.Option.{Option, none, some}
+use mathlib.Core.Path.{_≡_, sym, ap, _∙_}
+use mathlib.Core.Option.{none, some}
 use Prim.Native.Nat.{ℕ, _+_, _*_, _/_, _%_, _^_, _≤_, _<_}
 use native.Mathlib.Nat.{zero-add, add-mul, zero-mul, suc-mul, mul-right-comm, div-add-mod', mul-le-mul-right}
 use native.Mathlib.Omega.{arith}

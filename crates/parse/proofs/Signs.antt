@@ -1,17 +1,17 @@
 -- A number without a sign, in two halves, as a number with one: what each way through the code gives.
-use mathlib.Core.Path.{_≡_, refl, sym}
+use mathlib.Core.Path.{_≡_, refl}
 use mathlib.Core.Bool.{Bool, true, false}
 use mathlib.Core.Option.{Option, none, some}
 use Prim.Native.Nat.{ℕ, zero, suc, _+_, _*_, _^_, _≤_, _<_}
 use native.Mathlib.Nat.{suc-mul, mul-le-mul-right}
 use native.Mathlib.Omega.{arith}
 use lib.Dec.{ltb, lit<}
-use lib.IntN.{ℤ, pos, negsuc, negℤ}
+use lib.IntN.{ℤ, pos, negℤ}
 use borrow.Author.Tests.{lt-ltb, le-ltb, ltb-false}
 use Rattle.def_numbers.specs.Basics.{if_then_else_}
 use Rattle.def_numbers.specs.Numbers.{half128, narrow, signedAs}
 use Rattle.misc.specs.Value.{valueOf}
-use Rattle.parse.specs.Parts.{capped, cappedOption, negated, full128}
+use Rattle.parse.specs.Parts.{cappedOption, negated, full128}
 use Rattle.parse.proofs.Product.{within}
 
 -- past 2^127 there is no number, with either sign

@@ -1,6 +1,5 @@
 -- A rule of a table, proved at all of its entries by one test that antt computes, one entry after the other.
 -- After the kit's examples/laws.
-use mathlib.Core.Path.{_≡_, refl}
 use mathlib.Core.Bool.{Bool, true, false, _&&_}
 use mathlib.Core.List.{List, [], _∷_}
 use Prim.Native.Nat.{ℕ, zero, suc, _+_, _<_}

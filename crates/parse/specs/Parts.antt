@@ -1,5 +1,7 @@
 -- What the parts of reading a number give: a byte's worth, and the digits' value in two halves.
-use Rattle.def_numbers.specs.Prelude.{ℕ, _+_, _*_, _^_, Option, none, some, ltb, eqb, ℤ, pos, negℤ}
+use mathlib.Core.Path.{_≡_}
+use Prim.Native.Nat.{_<_}
+use Rattle.def_numbers.specs.Prelude.{ℕ, _+_, _*_, _^_, Option, none, some, List, getD, ltb, eqb, ℤ, pos, negℤ}
 use Rattle.def_numbers.specs.Basics.{if_then_else_}
 use Rattle.def_numbers.specs.Numbers.{digitWorth}
 use Rattle.parse.specs.declared.U128.{U128}
@@ -9,6 +11,10 @@ use Rattle.parse.specs.declared.OptionU128.the-variants as U
 -- 255 where the byte is no digit
 unfoldable pub worthByte : ℕ → ℕ
 worthByte b = elim (digitWorth b) [ none ↦ 255 | some d ↦ d ]
+
+-- a table of each byte's worth
+abbrev pub Worths : List ℕ → Type 0
+Worths table = (b : ℕ) → b < 256 → getD table b 0 ≡ worthByte b
 
 abbrev pub number : U128 → ℕ
 number w = w .high * 2 ^ 64 + w .low

@@ -3,7 +3,7 @@ ghost use mathlib.Core.Path.{_≡_};
 ghost use Rattle.parse.specs.Parts.{worthByte};
 
 // For each byte its worth as a digit, 0 to 15, and 255 where it is none.
-const WORTH: [u8; 256] = [
+pub const WORTH: [u8; 256] = [
     255,
     255,
     255,

@@ -6,7 +6,7 @@ ghost use Prim.Native.Nat.{_+_, _*_, _^_, _≤_, _<_};
 ghost use lib.IntN.{pos};
 ghost use Rattle.def_numbers.specs.Numbers.{digits, signedAs, inner, radixOf, unsignedParse, tryParse};
 ghost use Rattle.misc.specs.Value.{optionOf};
-ghost use Rattle.parse.specs.Parts.{number, numberOf, capped, cappedOption, negated, radixOption};
+ghost use Rattle.parse.specs.Parts.{worthByte, Worths, number, numberOf, capped, cappedOption, negated, radixOption};
 
 pub mod digit;
 
@@ -52,18 +52,27 @@ fn step(v: U128, radix: u64, d: u64) -> OptionU128
     }
 }
 
-// The digits' value, where there is one and it fits 128 bits.
-fn magnitude(radix: u64, s: &[u8]) -> OptionU128
-    requires { ⌜ (1 ≤ radix) × (radix ≤ 16) ⌝ }
-    ensures { λ r. ⌜ numberOf r ≡ cappedOption (digits radix (now (s .entry))) ⌝ }
+// A byte's worth, by a table of them.
+fn worth_by(worths: &[u8; 256], b: u8) -> u8
+    requires { ⌜ Worths (now worths) ⌝ }
+    ensures { λ r. ⌜ r ≡ worthByte b ⌝ }
 {
-    if s.len() == 0 {
+    let i = b as usize;
+    worths[i]
+}
+
+// The digits' value, where there is one and it fits 128 bits, by the table of worths that is lent.
+fn magnitude_by(worths: &[u8; 256], radix: u64, text: &[u8]) -> OptionU128
+    requires { ⌜ (1 ≤ radix) × (radix ≤ 16) × Worths (now worths) ⌝ }
+    ensures { λ r. ⌜ numberOf r ≡ cappedOption (digits radix (now (text .entry))) ⌝ }
+{
+    if text.len() == 0 {
         return OptionU128::None;
     }
     let mut v = U128 { high: 0, low: 0 };
     let mut i = 0;
-    while i < s.len() {
-        let d = digit::digit_worth(s[i]) as u64;
+    while i < text.len() {
+        let d = worth_by(worths, text[i]) as u64;
         if radix <= d {
             return OptionU128::None;
         }
@@ -74,6 +83,15 @@ fn magnitude(radix: u64, s: &[u8]) -> OptionU128
         i += 1;
     }
     OptionU128::Some(v)
+}
+
+// The table is built where it is named: once for a number, and not for each digit.
+fn magnitude(radix: u64, text: &[u8]) -> OptionU128
+    requires { ⌜ (1 ≤ radix) × (radix ≤ 16) ⌝ }
+    ensures { λ r. ⌜ numberOf r ≡ cappedOption (digits radix (now (text .entry))) ⌝ }
+{
+    let worths = digit::WORTH;
+    magnitude_by(&worths, radix, text)
 }
 
 // The number as it stands, where it is below 2^127.
@@ -97,19 +115,19 @@ fn positive(m: OptionU128) -> OptionI128
 fn negative(m: OptionU128) -> OptionI128
     ensures { λ r. ⌜ optionOf r ≡ signedAs negated (numberOf m) ⌝ }
 {
-    let OptionU128::Some(w) = m else {
+    let OptionU128::Some(v) = m else {
         return OptionI128::None;
     };
-    if w.high < 0x8000_0000_0000_0000 {
+    if v.high < 0x8000_0000_0000_0000 {
         return misc::checked_neg(I128 {
-            high: w.high,
-            low: w.low,
+            high: v.high,
+            low: v.low,
         });
     }
-    if 0x8000_0000_0000_0000 < w.high {
+    if 0x8000_0000_0000_0000 < v.high {
         return OptionI128::None;
     }
-    if 0 < w.low {
+    if 0 < v.low {
         return OptionI128::None;
     }
     OptionI128::Some(I128 {

@@ -1,6 +1,5 @@
 -- `misc::add_bits` meets its contract: the carry law of each half, joined.
 -- Assumes nothing.
-use mathlib.Core.Path.{sym, subst}
 use Prim.Native.Nat.{_^_}
 use borrow.Author.Needs.{needs}
 use Rattle.misc.proofs.Halves.{sum-whole}

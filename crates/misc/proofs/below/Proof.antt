@@ -7,7 +7,7 @@ use mathlib.Core.Bool.{Bool}
 use lib.Dec.{ltb}
 use native.Mathlib.Omega.{arith}
 use borrow.Author.Needs.{needs}
-use Rattle.misc.specs.Value.{orderOf}
+use Rattle.misc.specs.Steps.{orderOf}
 use Rattle.misc.proofs.Halves.{order}
 use Rattle.misc.proofs.below.Statement.{statement}
 use Rattle.misc.proofs.below.Tie as tie

@@ -29,12 +29,16 @@ overflows-requires : tie.Need-overflows-requires
 overflows-requires c κs = search needs
 
 -- at the test
-told : (c : tie.After-overflows) → narrow (valueOf (c .before .before .before .before .before .args .a) +ℤ valueOf (c .before .before .before .before .before .args .b)) ≡ (if c .overflows .result then none else some (valueOf (c .before .before .before .before .add-bits .result)))
+told : (c : tie.After-overflows) →
+    narrow (valueOf (c .before .before .before .before .before .args .a) +ℤ valueOf (c .before .before .before .before .before .args .b))
+    ≡ (if c .overflows .result then none else some (valueOf (c .before .before .before .before .add-bits .result)))
 told c =
     let a = c .before .before .before .before .before .args .a in
     let b = c .before .before .before .before .before .args .b in
     let s = c .before .before .before .before .add-bits .result in
-    add-told (valueOf a) (valueOf b) (valueOf s) (bits a) (bits b) (bits s) (word a (omega arith) (omega arith)) (word b (omega arith) (omega arith)) (word s (omega arith) (omega arith)) (c .before .before .before .before .add-bits .ensures)
+    add-told (valueOf a) (valueOf b) (valueOf s) (bits a) (bits b) (bits s)
+    (word a (omega arith) (omega arith)) (word b (omega arith) (omega arith)) (word s (omega arith) (omega arith))
+    (c .before .before .before .before .add-bits .ensures)
     (c .before .before .before .is-negative .result) (c .before .before .is-negative2 .result) (c .before .is-negative3 .result) (c .overflows .result)
     (c .before .before .before .is-negative .ensures) (c .before .before .is-negative2 .ensures) (c .before .is-negative3 .ensures) (c .overflows .ensures)
 

@@ -2,7 +2,7 @@
 -- Assumes nothing.
 use mathlib.Core.Path.{_∙_, ap}
 use borrow.Author.Needs.{needs}
-use lib.IntN.{ℤ, negℤ, +ℤ-idl}
+use lib.IntN.{negℤ, +ℤ-idl}
 use Rattle.def_numbers.specs.Numbers.{narrow}
 use Rattle.misc.specs.Value.{valueOf}
 use Rattle.misc.proofs.checked_neg.Statement.{statement}

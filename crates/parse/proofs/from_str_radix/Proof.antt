@@ -1,5 +1,5 @@
 -- `parse::from_str_radix` meets its contract: a law for each way through it.
-use mathlib.Core.Path.{_≡_, ap, _∙_}
+use mathlib.Core.Path.{ap, _∙_}
 use lib.IntN.{pos}
 use denote.Ref.{now}
 use Rattle.def_numbers.specs.Numbers.{signedAs}

@@ -1,5 +1,5 @@
 -- `parse::i128_try_parse` meets its contract: a law for each way through it.
-use mathlib.Core.Path.{_≡_, sym, ap, _∙_}
+use mathlib.Core.Path.{sym, ap, _∙_}
 use denote.Ref.{now}
 use Rattle.misc.specs.Value.{optionOf}
 use Rattle.misc.specs.declared.OptionI128.{OptionI128}

@@ -1,7 +1,7 @@
 -- `parse::mul_small` meets its contract: sums and products by parts of 32 bits.
 use native.Mathlib.Omega.{arith}
 use native.Mathlib.Nat.{mul-le-mul-left}
-use Prim.Native.Nat.{ℕ, _*_, _≤_, _/_, _%_, _^_}
+use Prim.Native.Nat.{_/_, _%_, _^_}
 use borrow.Author.Needs.{needs}
 use Rattle.parse.proofs.Product.{by-parts}
 use Rattle.parse.proofs.mul_small.Statement.{statement}

@@ -1,5 +1,5 @@
 -- `parse::negative` meets its contract: a law for each way through it.
-use mathlib.Core.Path.{_≡_, sym, ap, _∙_}
+use mathlib.Core.Path.{_∙_}
 use Rattle.parse.proofs.Signs.{negative-fits, negative-high, negative-low, negative-least}
 use borrow.Author.Needs.{needs}
 use Rattle.parse.proofs.negative.Statement.{statement}

@@ -1,5 +1,4 @@
 -- `parse::positive` meets its contract: a law for each way through it.
-use mathlib.Core.Path.{_≡_, sym, ap, _∙_}
 use Rattle.parse.proofs.Signs.{positive-fits, positive-past}
 use borrow.Author.Needs.{needs}
 use Rattle.parse.proofs.positive.Statement.{statement}

@@ -1,5 +1,5 @@
 -- `parse::unsigned_parse` meets its contract: a law for each way through it.
-use mathlib.Core.Path.{_≡_, ap, _∙_}
+use mathlib.Core.Path.{_∙_}
 use native.Mathlib.Omega.{arith}
 use denote.Ref.{now}
 use Rattle.parse.proofs.Reading.{short-decimal, decimal, no-radix, in-radix}
