@@ -1,7 +1,11 @@
 //! The files that `leaves` writes: read back entry by entry, held to the Rust
 //! and to the check, and to what they must contain.
 
-use std::collections::{BTreeMap, HashSet};
+use std::{
+    collections::{BTreeMap, HashSet},
+    fs,
+    path::Path,
+};
 
 use layout_rust::{
     check::check,
@@ -128,4 +132,12 @@ fn a_seed_gives_the_same_files() {
     assert!(numbers_file(300, 5) == numbers_file(300, 5));
     assert!(images_file(300, 5) == images_file(300, 5));
     assert!(images_file(300, 5) != images_file(300, 6));
+}
+
+/// The replayed files are those that README.md's command writes.
+#[test]
+fn the_replayed_files_are_these() {
+    let data = Path::new(env!("CARGO_MANIFEST_DIR")).join("../crates/leaves_replay/data");
+    assert!(fs::read(data.join("numbers")).unwrap() == numbers_file(2_000, 1));
+    assert!(fs::read(data.join("images")).unwrap() == images_file(2_000, 1));
 }
