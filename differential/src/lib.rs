@@ -29,6 +29,7 @@ pub mod ast;
 pub mod check;
 pub mod generate;
 pub mod image;
+pub mod leaves;
 pub mod listing;
 pub mod refusal;
 pub mod run;

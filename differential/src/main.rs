@@ -3,13 +3,14 @@
 use std::{
     env,
     io::{self, BufRead, Read, Write},
+    path::Path,
     process::ExitCode,
 };
 
-use layout_rust::{generate, listing::listing, run::run, stats, text};
+use layout_rust::{generate, leaves, listing::listing, run::run, stats, text};
 
 const USAGE: &str = "usage: layout-rust run | batch | generate COUNT SEED | names COUNT SEED \
-                     | encode MODE | decode | stats";
+                     | encode MODE | decode | stats | leaves COUNT SEED FOLDER";
 
 fn main() -> ExitCode {
     let args: Vec<String> = env::args().skip(1).collect();
@@ -49,6 +50,10 @@ fn command(words: &[&str]) -> io::Result<()> {
         ["decode"] => {
             let line = text::decode(&input()?).map_err(io::Error::other)?;
             print(format!("{line}\n").as_bytes())
+        }
+        ["leaves", count, seed, folder] => {
+            let count = number(count)?.try_into().map_err(io::Error::other)?;
+            print(leaves::write(count, number(seed)?, Path::new(folder))?.as_bytes())
         }
         ["stats"] => {
             for (outcome, count) in stats::count(&mut io::stdin().lock())? {

@@ -1,0 +1,2 @@
+-- What an entry of data/numbers says.
+pub mod Told
