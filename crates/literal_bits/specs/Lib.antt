@@ -3,3 +3,4 @@ pub mod Put
 pub mod Worth
 pub mod Places
 pub mod Runs
+pub mod Packing

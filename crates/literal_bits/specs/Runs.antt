@@ -6,9 +6,10 @@ use native.Mathlib.Nat.{add-zero, add-suc, suc-add}
 use native.Mathlib.Numerals.{add-one}
 use native.Mathlib.Omega.{arith}
 use lib.ListN.{set, replicate, length-set, length-replicate, replicate-append-replicate}
-use lib.Seq.{sets, length-sets, set-out, getD-set-same, getD-set-other}
-use borrow.Author.Tests.{leb-true, leb-false}
-use Rattle.def_numbers.specs.Prelude.{List, [], _∷_, _++_, length, getD, leb}
+use lib.Seq.{sets, length-sets, set-out, getD-set-same, getD-set-other, getD-drop, ext-getD}
+use borrow.Author.Tests.{leb-true, leb-false, ltb-true, ltb-false}
+use Rattle.def_numbers.specs.Prelude.{List, [], _∷_, _++_, length, getD, drop, leb, ltb}
+use Rattle.def_image.specs.Image.{padded, bytesAt}
 use Rattle.laws.specs.Tests.{by-test}
 
 module _ {A : Type 0} where
@@ -59,3 +60,44 @@ module _ {A : Type 0} where
   getD-sets-in l i (a ∷ vs) (suc k) d h b =
       ap (λ (q : ℕ). getD (sets (set l i a) (suc i) vs) q d) (add-suc i k ∙ sym (suc-add i k))
       ∙ getD-sets-in (set l i a) (suc i) vs k d (rw length-set (omega arith)) (omega arith)
+
+-- ---- the bytes of a region: written back, and after a run as long
+
+pub length-padded : (n : ℕ) (s : List ℕ) → length (padded n s) ≡ n
+unfolding padded
+length-padded zero s = refl
+length-padded (suc n) [] = ap suc (length-padded n [])
+length-padded (suc n) (b ∷ s) = ap suc (length-padded n s)
+
+pub getD-padded : (n : ℕ) (s : List ℕ) (k : ℕ) → k < n → getD (padded n s) k 0 ≡ getD s k 0
+unfolding padded
+getD-padded zero s k h = absurd (omega arith)
+getD-padded (suc n) [] zero h = refl
+getD-padded (suc n) [] (suc k) h = getD-padded n [] k (omega arith)
+getD-padded (suc n) (b ∷ s) zero h = refl
+getD-padded (suc n) (b ∷ s) (suc k) h = getD-padded n s k (omega arith)
+
+pub bytesAt-sets : (l : List ℕ) (i : ℕ) (vs : List ℕ) → i + length vs ≤ length l → bytesAt (sets l i vs) i (length vs) ≡ vs
+bytesAt-sets l i vs h =
+    let r = drop i (sets l i vs) in
+    ext-getD 0 (padded (length vs) r) vs (length-padded (length vs) r) λ k b.
+    let c : k < length vs = rw (length-padded (length vs) r) at b in
+    getD-padded (length vs) r k c ∙ getD-drop i (sets l i vs) k 0 ∙ getD-sets-in l i vs k 0 h c
+
+pub sets-same : (l : List ℕ) (i n : ℕ) → i + n ≤ length l → sets l i (bytesAt l i n) ≡ l
+sets-same l i n h =
+    let e : length (bytesAt l i n) ≡ n = length-padded n (drop i l) in
+    ext-getD 0 (sets l i (bytesAt l i n)) l (length-sets l i (bytesAt l i n)) λ q b.
+    by-test (ltb q i)
+    (λ t. let c = ltb-true q i t in getD-sets-other l i (bytesAt l i n) q 0 (_⊎_.inl c))
+    (λ t. let c = ltb-false q i t in
+    by-test (ltb q (i + n))
+    (λ u. let g = ltb-true q (i + n) u in
+    let k : ℕ = q - i in
+    let at : i + k ≡ q = omega arith in
+    ap (λ (x : ℕ). getD (sets l i (bytesAt l i n)) x 0) (sym at)
+    ∙ getD-sets-in l i (bytesAt l i n) k 0 (omega arith) (omega arith)
+    ∙ getD-padded n (drop i l) k (omega arith)
+    ∙ getD-drop i l k 0
+    ∙ ap (λ (x : ℕ). getD l x 0) at)
+    (λ u. let g = ltb-false q (i + n) u in getD-sets-other l i (bytesAt l i n) q 0 (_⊎_.inr (omega arith))))
