@@ -212,3 +212,30 @@ module _ (d : List ℕ) (at : ℕ) (s : List ℕ) (from w : ℕ) (bd : Small d) 
           by-test (ltb q (at / 8))
           (λ t. let h = ltb-true q (at / 8) t in after-low d at s from w (8 * q + j) (omega arith))
           (λ t. let h = ltb-false q (at / 8) t in after-high d at s from w (8 * q + j) (omega arith))
+
+-- ---- a whole byte, and one byte more of a row of them
+
+pub withBits-whole : (d : List ℕ) (q : ℕ) (s : List ℕ) (from : ℕ) → Small d → Small s → q < length d
+    → withBits d (8 * q) s from 8 ≡ set d q (window s from % 256)
+withBits-whole d q s from bd bs l =
+    let e : 8 * q / 8 ≡ q = omega arith in
+    let z : 8 * q % 8 ≡ 0 = omega arith in
+    let b : getD d q 0 < 256 = bd q in
+    let v : blended (getD d q 0) (window s from) 0 8 ≡ window s from % 256 = omega arith in
+    rw (e, z, v) at (withBits-byte d (8 * q) s from 8 bd bs (omega arith) (omega arith))
+
+pub whole-more : (d s : List ℕ) (q from i v : ℕ) → Small s → q + i < length d
+    → v ≡ (getD s (from / 8 + i) 0 + 256 * getD s (from / 8 + i + 1) 0) / 2 ^ (from % 8) % 256
+    → set (withBits d (8 * q) s from (8 * i)) (q + i) v ≡ withBits d (8 * q) s from (8 * (i + 1))
+whole-more d s q from i v bs l h =
+    let d₁ = withBits d (8 * q) s from (8 * i) in
+    let a : (from + 8 * i) / 8 ≡ from / 8 + i = omega arith in
+    let b : (from + 8 * i) % 8 ≡ from % 8 = omega arith in
+    let e : v ≡ window s (from + 8 * i) % 256 = rw (a, b) h in
+    let x : 8 * (q + i) ≡ 8 * q + 8 * i = omega arith in
+    let y : 8 * i + 8 ≡ 8 * (i + 1) = omega arith in
+    ap (set d₁ (q + i)) e
+    ∙ sym (withBits-whole d₁ (q + i) s (from + 8 * i) (small-withBits d (8 * q) s from (8 * i)) bs (rw length-withBits l))
+    ∙ ap (λ (k : ℕ). withBits d₁ k s (from + 8 * i) 8) x
+    ∙ withBits-more d (8 * q) s from (8 * i) 8
+    ∙ ap (withBits d (8 * q) s from) y

@@ -1,11 +1,10 @@
--- Past the end nothing is written; inside, one byte is.
+-- Past the end nothing is written; whole bytes begin at a byte's first bit.
 use mathlib.Core.Path.{_≡_, sym, ap, _∙_}
-use Prim.Native.Nat.{_+_, _/_, _%_, _≤_, _<_}
+use Prim.Native.Nat.{ℕ, _*_, _/_, _%_, _<_}
 use native.Mathlib.Omega.{arith}
-use lib.ListN.{getD, set}
 use borrow.Author.Needs.{needs}
-use Rattle.literal_bits.specs.Worth.{blended}
-use Rattle.literal_bits.specs.Places.{Small, window, withBits-past, withBits-byte, blended-bound}
+use Rattle.literal_bits.specs.Put.{withBits}
+use Rattle.literal_bits.specs.Places.{withBits-past}
 use Rattle.literal_bits.proofs.put_some.Statement.{statement}
 use Rattle.literal_bits.proofs.put_some.Tie as tie
 
@@ -17,29 +16,23 @@ returns c =
       sym (withBits-past (a .dst .now) (a .at) (a .src .now) (a .from) (a .n) (λ q. c .before .before .slice-known .given q .fits) (omega arith)),
     )
 
-blend-requires : tie.Need-blend-requires
-blend-requires c κs =
-    let d = c .before .before .before .before .before in
-    let a = d .before .args in
-    let w = c .before .before .least .result in
-    let l : a .at % 8 + w ≤ 8 = omega arith in (
-      l,
-      rw (c .bits-at .ensures)
-          (blended-bound (a .dst .now) (a .at) (a .src .now) (a .from) w (λ q. d .slice-known .given q .fits)
-          (λ q. c .before .before .before .before .shared-slice-known .given q .fits) l),
-    )
+put-whole-requires : tie.Need-put-whole-requires
+put-whole-requires c κs =
+    let w = c .before .before .whole in
+    let p : 0 < w .result = omega arith in
+    (omega arith, w .ensures .2 p .1)
 
-returns-2 : tie.Need-returns-2
-returns-2 c =
-    let d = c .before .before .before .before .before .before in
-    let a = d .before .args in
-    let w = c .before .before .before .least .result in
-    let l : a .at % 8 + w ≤ 8 = omega arith in (
+returns-3 : tie.Need-returns-3
+returns-3 c =
+    let b = c .before .before in
+    let w = b .before .before .before .whole in
+    let a = b .before .before .before .before .before .before .before .args in
+    let p : 0 < w .result = omega arith in
+    let z : a .at % 8 ≡ 0 = w .ensures .2 p .0 in
+    let e : 8 * (a .at / 8) ≡ a .at = omega arith in (
       omega arith,
       λ h. omega arith,
-      rw (c .blend .ensures, c .before .bits-at .ensures)
-          (sym (withBits-byte (a .dst .now) (a .at) (a .src .now) (a .from) w (λ q. d .slice-known .given q .fits)
-          (λ q. c .before .before .before .before .before .shared-slice-known .given q .fits) l (c .before .before .before .before .if1 .left))),
+      b .put-whole .ensures ∙ ap (λ (k : ℕ). withBits (a .dst .now) k (a .src .now) (a .from) (8 * w .result)) e,
     )
 
 pub put-some-spec : {M : Type 1} → statement M
@@ -49,9 +42,10 @@ put-some-spec =
     returns
     (λ c. search needs)
     (λ c κs. search needs)
-    (λ c. search needs)
     (λ c κs. search needs)
-    blend-requires
     (λ c. search needs)
     (λ c. search needs)
-    returns-2)
+    put-whole-requires
+    (λ c. search needs)
+    (λ c. search needs)
+    returns-3)
