@@ -4,3 +4,5 @@ pub mod Worth
 pub mod Places
 pub mod Runs
 pub mod Packing
+pub mod Rows
+pub mod Witness

@@ -128,10 +128,10 @@ module _ (o m : ℕ) (bits s : List ℕ) (from n : ℕ) (b : Bits bits) (room : 
   no-bit k h =
       List·getD-eq-default (bits ++ bitsFrom s from n) 0 (rw longer h) ∙ sym (List·getD-eq-default bits 0 (omega arith))
 
-  pub packed-more : (l : List ℕ) → Small l → o + m ≤ length l
+  more : (l : List ℕ) → Small l → o + m ≤ length l
       → withBits (sets l o (padded m (packed bits))) (8 * o + length bits) s from n
       ≡ sets l o (padded m (packed (bits ++ bitsFrom s from n)))
-  packed-more l small fits =
+  more l small fits =
       let all = bits ++ bitsFrom s from n in
       rw (region-bytes m bits (omega arith), region-bytes m all (rw longer room))
       (by-bits (sets l o (tab (byteOf bits) 0 m)) (8 * o + length bits) s from n (sets l o (tab (byteOf all) 0 m))
@@ -164,10 +164,15 @@ module _ (o m : ℕ) (bits s : List ℕ) (from n : ℕ) (b : Bits bits) (room : 
           (λ t. let h = ltb-false i (8 * (o + m)) t in
           bit-out l o m fits bits b i (_⊎_.inr h) ∙ sym (bit-out l o m fits all bits-more i (_⊎_.inr h))))
 
+pub packed-more : (l : List ℕ) (o m : ℕ) (bits s : List ℕ) (from n : ℕ) → Small l → Bits bits → o + m ≤ length l → length bits + n ≤ 8 * m
+    → withBits (sets l o (padded m (packed bits))) (8 * o + length bits) s from n
+    ≡ sets l o (padded m (packed (bits ++ bitsFrom s from n)))
+packed-more l o m bits s from n small b fits room = more o m bits s from n b room l small fits
+
 -- the same of a list that is known to hold the region
 pub held-more : (d : List ℕ) (o m : ℕ) (bits s : List ℕ) (from n : ℕ) → Small d → Bits bits → o + m ≤ length d → length bits + n ≤ 8 * m
     → bytesAt d o m ≡ padded m (packed bits)
     → withBits d (8 * o + length bits) s from n ≡ sets d o (padded m (packed (bits ++ bitsFrom s from n)))
 held-more d o m bits s from n small b fits room h =
     ap (λ (d : List ℕ). withBits d (8 * o + length bits) s from n) (sym (sets-same d o m fits) ∙ ap (sets d o) h)
-    ∙ packed-more o m bits s from n b room d small fits
+    ∙ packed-more d o m bits s from n small b fits room
