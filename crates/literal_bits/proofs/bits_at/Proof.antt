@@ -1,0 +1,12 @@
+-- The two bytes, shifted down.
+use borrow.Author.Needs.{needs}
+use Rattle.literal_bits.proofs.bits_at.Statement.{statement}
+use Rattle.literal_bits.proofs.bits_at.Tie as tie
+
+returns : tie.Need-returns
+returns c = cc
+
+pub bits-at-spec : {M : Type 1} → statement M
+bits-at-spec =
+    tie.close
+    (tie.spec (λ c κs. search needs) (λ c. search needs) (λ c κs. search needs) (λ c κs. search needs) (λ c. search needs) (λ c. search needs) returns)
