@@ -13,7 +13,7 @@ use Rattle.def_image.specs.Tree.{u32}
 use Rattle.def_stages.specs.Text.{Part}
 use Rattle.def_stages.specs.Ranges.{Usb}
 use Rattle.def_run.specs.Answer.{textBytes, xBytes, usbBytes, textAt, boundAt, untwos}
-use Rattle.prepared.specs.Lists.{length-tab, tab-ext}
+use Rattle.laws.specs.Lists.{length-tab, tab-ext}
 use Rattle.prepared.specs.Bytes.{Holds, holds-left, holds-right, holds-getD, u32At-holds}
 use Rattle.answer_read.specs.Statement.{shownBound}
 use Rattle.answer_read.specs.Items.{Stands}

@@ -13,7 +13,7 @@ use Rattle.def_stages.specs.Ranges.{Usb}
 use Rattle.def_stages.specs.Component.{Component, ComponentType, literal, variable, filler}
 use Rattle.def_stages.specs.Concatenation.{bitsOf}
 use Rattle.def_run.specs.Answer.{Field, textBytes, usbBytes, xBytes, typeBytes, componentBytes, literalBytes, componentsBytes, textAt, boundAt}
-use Rattle.prepared.specs.Lists.{length-tab}
+use Rattle.laws.specs.Lists.{length-tab}
 use Rattle.prepared.specs.Bytes.{Holds, holds-left, bytesAt-holds, u32At-holds}
 use Rattle.prepared.specs.Bits.{length-packed}
 use Rattle.answer_read.specs.Statement.{erase, kindOf, textOfType, offsetOf, shownBound, shownField, shownFields}

@@ -12,7 +12,7 @@ use Rattle.def_image.specs.Tree.{Tree, Node, recsOf, allRecs, textOf, soundNode
 use Rattle.def_run.specs.Answer.{Answer}
 use Rattle.def_run.specs.Run.{stages}
 use Rattle.prepared.specs.Statement.{placedFrom, placedTree}
-use Rattle.prepared.specs.Lists.{length-joined}
+use Rattle.laws.specs.Lists.{length-joined}
 use Rattle.prepared.specs.Bytes.{Holds, holds-whole, holds-left, holds-right}
 use Rattle.prepared.specs.Groups.{textOf-append}
 use Rattle.prepared.specs.Components.{sound-cons}

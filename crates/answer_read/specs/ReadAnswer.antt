@@ -14,8 +14,9 @@ use Rattle.def_stages.specs.Text.{Part, noText}
 use Rattle.def_stages.specs.Component.{Component}
 use Rattle.def_stages.specs.Concatenation.{Concatenation, alignNumber}
 use Rattle.def_run.specs.Answer.{Answer, components, flag, widthBytes, textBytes, headBytes, concatenationBytes, componentsBytes, literalBytes, answerBytes, Group, widthAt, textAt, groupAt, fieldAt, readAnswer}
-use Rattle.prepared.specs.Tests.{leb-iff}
-use Rattle.prepared.specs.Lists.{map-append, all-map, all-parts}
+use Rattle.laws.specs.Tests.{leb-iff}
+use mathlib.Core.List.{map-append}
+use Rattle.laws.specs.Lists.{all-map, all-parts}
 use Rattle.prepared.specs.Bytes.{Holds, holds-whole, u32At-holds}
 use Rattle.prepared.specs.Tables.{length-rows, rows-read}
 use Rattle.prepared.specs.Layout.{fits-parts}

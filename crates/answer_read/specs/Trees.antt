@@ -14,7 +14,8 @@ use Rattle.def_stages.specs.Component.{Component, Prefix, Parsed, prefixOf, sta
 use Rattle.def_stages.specs.Concatenation.{Concatenation, isStaticLiteral, fixedLiteral, bitsOf, running, checkFrom, check, stage3, mergeOnto, merge, merged}
 use Rattle.def_stages.specs.Overall.{stage4}
 use Rattle.def_run.specs.Run.{stages}
-use Rattle.prepared.specs.Lists.{map-append, sum-append}
+use mathlib.Core.List.{map-append}
+use Rattle.laws.specs.Lists.{sum-append}
 use Rattle.prepared.specs.Bytes.{Holds}
 use Rattle.answer_read.specs.Facts.{Yields, given, Found, found, missing, Every, every-nil, every-cons, after, bound, yields-placed, every-append, every-split}
 use Rattle.answer_read.specs.Items.{Stands, Run, run-part}

@@ -17,7 +17,8 @@ use Rattle.def_run.specs.Answer.{Answer, Read, Field, components, literalBytes}
 use Rattle.answer_read.specs.Statement.{kindOf, shownField, shownFields, shown}
 use Rattle.cutting.specs.Statement.{Below, runEnd, widthOf, BitPlace, placeOf, bitIn}
 use Rattle.cut_stages.specs.Statement.{bitsBetween}
-use Rattle.prepared.specs.Lists.{map-append, joined-append, length-joined}
+use mathlib.Core.List.{map-append}
+use Rattle.laws.specs.Lists.{joined-append, length-joined}
 use Rattle.prepared.specs.Bits.{Bits, packed-bit}
 use Rattle.answer_read.specs.Facts.{the-given, Every, every-nil, every-cons, every-split}
 use Rattle.cut_bits.specs.Statement.{HoldsBit}

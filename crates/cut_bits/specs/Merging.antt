@@ -7,8 +7,8 @@ use Rattle.def_image.specs.Image.{Placed}
 use Rattle.def_stages.specs.Component.{Component}
 use Rattle.def_stages.specs.Concatenation.{isStaticLiteral, bitsOf, fixedLiteral, mergeOnto, merge}
 use Rattle.cutting.specs.Statement.{runEnd}
-use Rattle.prepared.specs.Tests.{by-test, and-iff}
-use Rattle.prepared.specs.Lists.{all-append}
+use Rattle.laws.specs.Tests.{by-test, and-iff}
+use Rattle.laws.specs.Lists.{all-append}
 use Rattle.prepared.specs.Bits.{Bits}
 use Rattle.answer_read.specs.Facts.{Every, every-nil, every-cons}
 use Rattle.cut_bits.specs.Runs.{Static}

@@ -15,11 +15,12 @@ use Rattle.def_stages.specs.Text.{Item}
 use Rattle.def_stages.specs.Ranges.{Usb, Usbr, val, unbounded, parseRange, singleBit}
 use Rattle.def_stages.specs.Component.{Component, ComponentType, literal, variable, filler, typed, isLiteral, parseComponent, middle, splitOf, stage1Component, simplifyUsb, simplifyEnd, simplifyRange, ifStatic, ifStaticEnd, ifKnown, withEnd, cutLiteral, simplifyLiteral, simplify, isZero, hasEnd}
 use Rattle.def_stages.specs.Concatenation.{isStaticLiteral, bitsOf}
-use Rattle.prepared.specs.Tests.{by-test, leb-iff}
-use Rattle.prepared.specs.Lists.{all-by}
+use Rattle.laws.specs.Tests.{by-test, leb-iff}
+use Rattle.laws.specs.Lists.{all-by}
 use Rattle.prepared.specs.Bits.{Bits, bit-bound}
 use Rattle.answer_read.specs.Facts.{Yields, given, nothing, after, bound, yields-if}
-use Rattle.cut_bits.specs.Widths.{upTo, difference, reversed-known}
+use Rattle.cut_bits.specs.Widths.{upTo, reversed-known}
+use Rattle.laws.specs.Numbers.{difference}
 
 -- bits, no more than the greatest width
 abbrev pub Short : List ℕ → Type 0

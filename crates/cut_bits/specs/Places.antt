@@ -13,8 +13,9 @@ use Rattle.def_stages.specs.Component.{Component}
 use Rattle.def_stages.specs.Concatenation.{merge}
 use Rattle.cutting.specs.Statement.{Below, runEnd, widthOf, BitPlace, placeOf, pieceAt, rising, piecesOf}
 use Rattle.cut_stages.specs.Statement.{bitsBetween, pieceComponents}
-use Rattle.prepared.specs.Tests.{by-test, and-iff, leb-iff}
-use Rattle.prepared.specs.Lists.{map-append, sum-append}
+use Rattle.laws.specs.Tests.{by-test, and-iff, leb-iff}
+use mathlib.Core.List.{map-append}
+use Rattle.laws.specs.Lists.{sum-append}
 use Rattle.answer_read.specs.Facts.{Every, every-nil, every-cons}
 use Rattle.cut_bits.specs.Statement.{SamePlace}
 use Rattle.cut_bits.specs.Runs.{Static, run-longer}

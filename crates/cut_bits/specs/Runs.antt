@@ -6,7 +6,7 @@ use Rattle.def_image.specs.Image.{Placed}
 use Rattle.def_stages.specs.Component.{Component}
 use Rattle.def_stages.specs.Concatenation.{isStaticLiteral}
 use Rattle.cutting.specs.Statement.{Below, runEnd}
-use Rattle.prepared.specs.Tests.{by-test, and-iff}
+use Rattle.laws.specs.Tests.{by-test, and-iff}
 use Rattle.answer_read.specs.Facts.{Every, every-nil, every-cons}
 
 -- a literal with a static range

@@ -12,8 +12,8 @@ use Rattle.def_stages.specs.Overall.{stage4}
 use Rattle.def_run.specs.Answer.{components}
 use Rattle.cut_component.specs.Statement.{bare}
 use Rattle.cut_stages.specs.Statement.{bareTree, early, later}
-use Rattle.prepared.specs.Tests.{and-iff, tested}
-use Rattle.prepared.specs.Lists.{all-append}
+use Rattle.laws.specs.Tests.{and-iff, tested}
+use Rattle.laws.specs.Lists.{all-append}
 use Rattle.prepared.specs.Components.{sound-cons}
 use Rattle.answer_read.specs.Facts.{Yields, given, Every, every-nil, every-cons, after, bound, every-append}
 use Rattle.answer_read.specs.Trees.{each-kept, stage3-comps, merged-comps}

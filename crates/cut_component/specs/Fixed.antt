@@ -12,14 +12,12 @@ use Rattle.def_stages.specs.Ranges.{Usb, Usbr, val, text, staticVal}
 use Rattle.def_stages.specs.Component.{Component, literal, simplifyUsb, simplifyEnd, ifStatic, ifStaticEnd, ifKnown, simplifyRange, theEnd, simplifyLiteral, simplify}
 use Rattle.cutting.specs.Statement.{fixedBound, fixedRange}
 use Rattle.cut_component.specs.Statement.{cutTo}
-use Rattle.cut_component.specs.Laws.{by-test, bind-ok, need-ok}
+use Rattle.laws.specs.Numbers.{difference}
+use Rattle.laws.specs.Tests.{by-test}
+use Rattle.laws.specs.Results.{bind-ok, need-then}
 use Rattle.cut_component.specs.Fitting.{FitBound, simplify-fit}
 
 -- ── Differences ──
-
-difference : (d c : ℕ) → c ≤ d → pos d -ℤ pos c ≡ pos (d - c)
-difference d zero h = ap pos (omega arith)
-difference d (suc c) h = rw (le-ltb d (suc c) h)
 
 below : (d c : ℕ) → d < c → pos d -ℤ pos c ≡ negsuc (c - suc d)
 below d zero h = absurd (omega arith)
@@ -160,21 +158,21 @@ passed-range : (at at′ a b : ℕ) {r : Usbr} → a < half128 → checkedRange 
     (a < b) × (record { start = numberAt at a; «end» = some (numberAt at′ b) } ≡ r)
 passed-range at at′ a b {r} f h =
     let e : Usbr = record { start = numberAt at a; «end» = some (numberAt at′ b) } in
-    let (n, h₁) = need-ok (ifKnown nonNeg e) reversed _ h in
-    let (z, h₂) = need-ok (ifKnown (ltZ (pos 0)) e) zero-width _ h₁ in
+    let (n, h₁) = need-then (ifKnown nonNeg e) reversed _ h in
+    let (z, h₂) = need-then (ifKnown (ltZ (pos 0)) e) zero-width _ h₁ in
     (rises at at′ a b f n z, cc)
 
 passed-literal : (bits : List ℕ) (at at′ a b : ℕ) {c′ : Component} → simplifyLiteral bits (record { start = numberAt at a; «end» = some (numberAt at′ b) }) ≡ ok c′ → b ≤ length bits
 unfolding simplifyLiteral
 passed-literal bits at at′ a b h =
-    let (_, h₁) = need-ok (ltb a (length bits)) start-above-width _ h in
-    let (l, _) = need-ok (leb b (length bits)) end-above-width _ h₁ in
+    let (_, h₁) = need-then (ltb a (length bits)) start-above-width _ h in
+    let (l, _) = need-then (leb b (length bits)) end-above-width _ h₁ in
     leb-true b (length bits) l
 
 passed : (bits : List ℕ) (at a b : ℕ) (e : Option Usb) {c′ : Component} → EndAt (length bits) b e → a < half128 →
     (checkedRange (numberAt at a) e >>= simplifyLiteral bits) ≡ ok c′ → (a < b) × (b ≤ length bits)
 unfolding simplifyLiteral
-passed bits at a b e omitted f h = (ltb-true a b (need-ok (ltb a b) start-above-width _ h .0), omega arith)
+passed bits at a b e omitted f h = (ltb-true a b (need-then (ltb a b) start-above-width _ h .0), omega arith)
 passed bits at a b e {c′} (written at′) f h =
     let (r, p, q) = bind-ok (checkedRange (numberAt at a) (some (numberAt at′ b))) (simplifyLiteral bits) h in
     go r (passed-range at at′ a b f p) q

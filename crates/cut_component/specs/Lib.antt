@@ -1,5 +1,4 @@
 -- Stages 1 and 2 of a literal and of its pieces: stated in Statement, proved in Proof from the files above it.
-pub mod Laws
 pub mod Forests
 pub mod Colons
 pub mod Offsets

@@ -14,7 +14,7 @@ use Rattle.def_stages.specs.Ranges.{Usb, Usbr, val, text, withX, unbounded, par
 use Rattle.def_stages.specs.Component.{literal, variable, filler, Component, isLiteral, typed, parseComponent, simplifyUsb, simplify}
 use Rattle.cutting.specs.Statement.{fixedBound, fixedRange, readsAs}
 use Rattle.cut_component.specs.Statement.{cutTo}
-use Rattle.cut_component.specs.Laws.{bind-ok, need-ok}
+use Rattle.laws.specs.Results.{bind-ok, need-then}
 use Rattle.cut_component.specs.Fitting.{FitRange, zero-fits, range-fit}
 use Rattle.cut_component.specs.Fixed.{fixed-cut}
 use Rattle.cut_component.specs.Offsets.{bareUsb, bareRange, inResult, inOption, rangeIn, readRange, reads-anywhere}
@@ -46,7 +46,7 @@ typed-read mid bits r c f h b = go (isLiteral mid) refl h
         (ok c) →
         LiteralRead mid bits c
     go true l h =
-        let (w, e) = need-ok (not (isEmpty bits)) no-literal (ok (record { c-type = literal bits; range = r })) h in
+        let (w, e) = need-then (not (isEmpty bits)) no-literal (ok (record { c-type = literal bits; range = r })) h in
         record { begins = l; wide = not-true (isEmpty bits) w; range = r; fits = f; is = cc }
     go false l h = other (record { c-type = variable (partOf mid); range = r }) c h refl b
 
@@ -54,7 +54,7 @@ pub literal-read : (mid : List Item) (range : Option (List Item)) (bits : List �
     parseComponent mid range bits ≡ ok c → fixedOf c ≡ some ab → LiteralRead mid bits c
 unfolding parseComponent
 literal-read mid (some is) bits c h b =
-    let (_, h₁) = need-ok (not (isEmpty mid)) nothing-before-range _ h in
+    let (_, h₁) = need-then (not (isEmpty mid)) nothing-before-range _ h in
     let (r, p, q) = bind-ok (parseRange is) (λ r. typed mid bits (rangeIn is r)) h₁ in
     typed-read mid bits (rangeIn is r) c (fit r (subst FitRange p (range-fit is))) q b
   where
@@ -62,7 +62,7 @@ literal-read mid (some is) bits c h b =
     fit none f = zero-fits
     fit (some r) f = f
 literal-read mid none bits c {ab} h b =
-    let (_, h₁) = need-ok (not (isEmpty mid)) nothing-before-range _ h in
+    let (_, h₁) = need-then (not (isEmpty mid)) nothing-before-range _ h in
     let (r, _, q) = bind-ok (parseRange mid) open-read h₁ in
     go r q
   where

@@ -12,7 +12,7 @@ use Rattle.def_stages.specs.Component.{Component, literal, Split, splitRange, P
 use Rattle.cutting.specs.Statement.{_⊕_, unranged, Colon, atColon, prefixPart, middlePart, unparsed, fixedRange, fixedLiteral, readsAs, piece}
 use Rattle.cut_component.specs.Statement.{cutTo, LiteralReads, ReadAs, PieceReads, PrefixKept}
 use Rattle.cut_component.specs.Forests.{chunksOf, Opened, bracket, sound-opened, unranged-opened, mid-items, bracket-items, opened-after, ⊕-assoc}
-use Rattle.cut_component.specs.Laws.{ok-same}
+use Rattle.laws.specs.Results.{ok-same}
 use Rattle.cut_component.specs.Colons.{Agrees, neither, both, colon-agrees}
 use Rattle.cut_component.specs.Fixed.{fixed-cut, fixed-bounds}
 use Rattle.cut_component.specs.Literals.{fixedOf, LiteralRead, literal-read, bracket-read}

@@ -12,24 +12,12 @@ use Rattle.def_image.specs.Tree.{Node, Tree, imageOf, fits, literalsOf}
 use Rattle.def_stages.specs.Component.{Component, Parsed}
 use Rattle.def_run.specs.Answer.{Answer, answerBytes, readAnswer, Read}
 use Rattle.def_run.specs.Run.{run, stages, areaAfter}
-use Rattle.prepared.specs.Statement.{PassesCheck, ReadBack, placedTree}
+use Rattle.laws.specs.Results.{bind-ok, need-ok, ok-same}
 use Rattle.answer_read.specs.Statement.{EraseStages, ReadsAnswer, eraseTree, eraseAnswer, onOk, shown}
 use Rattle.cutting.specs.Statement.{Given, Premises, Same, BitKept, Cutting, treeWith, newTree}
 use Rattle.cut_component.specs.Statement.{bare}
 use Rattle.cut_stages.specs.Statement.{bareTree, early, later, InTurn, CutEarly, CutLater}
 use Rattle.cut_bits.specs.Statement.{SamePlace, HoldsBit}
-
--- what succeeds in a sequence succeeded before
-pub bind-ok : {A B : Type 0} (m : Result A) (f : A → Result B) (b : B) → (m >>= f) ≡ ok b → (a : A) × (m ≡ ok a) × (f a ≡ ok b)
-bind-ok (ok a) f b h = (a, refl, h)
-bind-ok (refused n i k) f b h = let z : _≡_ {A = ℕ} 0 1 = cc in absurd (omega arith)
-
-pub need-ok : (t : Bool) (r : Reason) (u : Unit {0}) → need t r ≡ ok u → t ≡ true
-need-ok true r u h = refl
-need-ok false r u h = cc
-
-pub ok-path : {A : Type 0} {a b : A} → _≡_ {A = Result A} (ok a) (ok b) → a ≡ b
-ok-path h = cc
 
 -- a run that accepts: its mode, its image and its area are right, and the stages accept
 pub record Accepts (image : List ℕ) (mode area : ℕ) (answer : List ℕ) : Type 0 where
@@ -43,17 +31,17 @@ pub record Accepts (image : List ℕ) (mode area : ℕ) (answer : List ℕ) : Ty
 pub run-accepts : (image : List ℕ) (mode area : ℕ) (answer : List ℕ) → run image mode area ≡ ok answer → Accepts image mode area answer
 unfolding run
 run-accepts image mode area answer h =
-    let first = bind-ok (need (leb mode 2) mode-above-2) _ answer h in
-    let second = bind-ok (checkImage image) _ answer (first .2) in
-    let third = bind-ok (need (leb (areaNeeded ((counts image) .c) ((counts image) .n) ((counts image) .b)) area) short-area) _ answer (second .2) in
-    let fourth = bind-ok (stages mode (treeOf image)) (λ a. ok (answerBytes a)) answer (third .2) in
+    let first = bind-ok (need (leb mode 2) mode-above-2) _ h in
+    let second = bind-ok (checkImage image) _ (first .2) in
+    let third = bind-ok (need (leb (areaNeeded ((counts image) .c) ((counts image) .n) ((counts image) .b)) area) short-area) _ (second .2) in
+    let fourth = bind-ok (stages mode (treeOf image)) (λ a. ok (answerBytes a)) (third .2) in
     record {
-      mode-right = need-ok (leb mode 2) mode-above-2 (first .0) (first .1);
+      mode-right = need-ok (leb mode 2) mode-above-2 (first .1);
       checked = second .1;
-      area-right = need-ok _ short-area (third .0) (third .1);
+      area-right = need-ok _ short-area (third .1);
       said = fourth .0;
       staged = fourth .1;
-      bytes = ok-path (fourth .2);
+      bytes = ok-same refl (fourth .2);
     }
 
 pub accepts-run : (image : List ℕ) (mode area : ℕ) (answer : List ℕ) → Accepts image mode area answer → run image mode area ≡ ok answer
@@ -62,5 +50,5 @@ accepts-run image mode area answer h = rw (h .mode-right, h .checked, h .area-ri
 
 -- what is known to succeed after a change of the answer succeeded
 pub on-ok : {A B : Type 0} (f : A → B) (r : Result A) (b : B) → onOk f r ≡ ok b → (a : A) × (r ≡ ok a) × (f a ≡ b)
-on-ok f (ok a) b h = (a, refl, ok-path h)
+on-ok f (ok a) b h = (a, refl, ok-same refl h)
 on-ok f (refused n i k) b h = let z : _≡_ {A = ℕ} 0 1 = cc in absurd (omega arith)

@@ -10,8 +10,9 @@ use Rattle.def_image.specs.Tree.{Node, Tree, imageOf, fits, literalsOf, soundNo
 use Rattle.def_stages.specs.Component.{Component, Parsed, stage1, stage2}
 use Rattle.def_run.specs.Answer.{Answer, answerBytes, readAnswer, Read}
 use Rattle.def_run.specs.Run.{run, stages, areaAfter}
-use Rattle.prepared.specs.Tests.{leb-iff, and-iff}
-use Rattle.prepared.specs.Lists.{all-append, all-joined}
+use Rattle.laws.specs.Results.{bind-ok}
+use Rattle.laws.specs.Tests.{leb-iff, and-iff}
+use Rattle.laws.specs.Lists.{all-append, all-joined}
 use Rattle.prepared.specs.Components.{Sound, sound-parts}
 use Rattle.prepared.specs.Layout.{fits-parts}
 use Rattle.prepared.specs.Prepared.{passes-check, read-back}
@@ -23,7 +24,7 @@ use Rattle.cutting.specs.Statement.{Given, Premises, Same, BitKept, Cutting, tr
 use Rattle.cut_stages.specs.Statement.{bareTree, early, later, InTurn, CutEarly, CutLater, CutParsed, Cuttable, bitsBetween, pieceComponents}
 use Rattle.cut_bits.specs.Places.{same-place}
 use Rattle.cut_bits.specs.Holding.{holds-bit}
-use Rattle.cut_proof.specs.Assemble.{bind-ok, ok-path, on-ok, Accepts, run-accepts, accepts-run}
+use Rattle.cut_proof.specs.Assemble.{on-ok, Accepts, run-accepts, accepts-run}
 use Rattle.cut_proof.specs.Bare.{erase-placed, erase-place}
 
 -- a node of a tree passes what all of them pass
@@ -45,7 +46,7 @@ module _ (in-turn : InTurn) (cut-early : CutEarly) (cut-later : CutLater) where
   staged t mode a h =
       let all-bare : (early (bareTree t) >>= later mode) ≡ ok (eraseAnswer a) =
       sym (in-turn mode (bareTree t)) ∙ ap (stages mode) (sym (erase-placed t)) ∙ erase-stages mode (placedTree t) ∙ ap (onOk eraseAnswer) h in
-      let inv = bind-ok (early (bareTree t)) (later mode) (eraseAnswer a) all-bare in
+      let inv = bind-ok (early (bareTree t)) (later mode) all-bare in
       record { parsed = inv .0; bare-early = inv .1; bare-later = inv .2 }
 
   unstaged : (t : Tree) (mode : ℕ) (p : Parsed) (a : Answer) → early (bareTree t) ≡ ok p → later mode p ≡ ok a
@@ -160,7 +161,7 @@ module _ (in-turn : InTurn) (cut-early : CutEarly) (cut-later : CutLater) where
           new-value = ap (λ r. bitIn r here) (new-read) ∙ value;
         }
 
-  cutting : Cutting
+  pub cutting : Cutting
   cutting g pr =
       record {
         new-answer = newAnswer g pr;

@@ -2,3 +2,4 @@
 pub mod Assemble
 pub mod Bare
 pub mod Cut
+pub mod Proved

@@ -11,8 +11,8 @@ use Rattle.def_numbers.specs.Basics.{sum, all, tab}
 use Rattle.def_image.specs.Image.{bytesFor, bitsAt}
 use Rattle.def_image.specs.Tree.{byteOf, packed}
 use Rattle.prepared.specs.Statement.{Bytes}
-use Rattle.prepared.specs.Tests.{leb-iff, eqb-iff, tested}
-use Rattle.prepared.specs.Lists.{length-tab, getD-tab, tab-ext, tab-getD, all-getD, all-by, sum-tab-add, sum-tab-zero}
+use Rattle.laws.specs.Tests.{leb-iff, eqb-iff, tested}
+use Rattle.laws.specs.Lists.{length-tab, getD-tab, tab-ext, tab-getD, all-getD, all-by, sum-tab-add, sum-tab-zero}
 use Rattle.prepared.specs.Bytes.{Holds, holds-getD}
 
 -- a list of bits

@@ -12,8 +12,8 @@ use Rattle.def_numbers.specs.Basics.{all, tab}
 use Rattle.def_image.specs.Image.{u32At, padded, bytesAt}
 use Rattle.def_image.specs.Tree.{u32}
 use Rattle.prepared.specs.Statement.{Bytes}
-use Rattle.prepared.specs.Tests.{leb-iff, tested}
-use Rattle.prepared.specs.Lists.{all-getD, tab-getD}
+use Rattle.laws.specs.Tests.{leb-iff, tested}
+use Rattle.laws.specs.Lists.{all-getD, tab-getD}
 
 -- ---- what stands at place i of s: m, and then a rest
 

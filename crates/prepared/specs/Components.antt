@@ -11,8 +11,8 @@ use Rattle.def_image.specs.Image.{Rec, Entry, counts, tables, bytesFor, bitsAt,
 use Rattle.def_image.specs.Check.{sparesZero, checkIn, checkComponents}
 use Rattle.def_image.specs.Tree.{Node, recsOf, allRecs, textOf, literalsOf, packed, soundForest, depth, soundNode}
 use Rattle.prepared.specs.Statement.{entriesFrom, placedFrom}
-use Rattle.prepared.specs.Tests.{by-test, and-iff, leb-iff, eqb-apart, tested}
-use Rattle.prepared.specs.Lists.{length-tab, tab-add, append-split, all-append}
+use Rattle.laws.specs.Tests.{by-test, and-iff, leb-iff, eqb-apart, tested}
+use Rattle.laws.specs.Lists.{length-tab, tab-add, append-split, all-append}
 use Rattle.prepared.specs.Bytes.{Holds, holds-left, holds-right, holds-getD}
 use Rattle.prepared.specs.Bits.{Bits, length-packed, packed-spare, bitsAt-holds}
 use Rattle.prepared.specs.Groups.{textOf-append, entries-append, length-entries, check-forest}

@@ -12,7 +12,7 @@ use Rattle.def_image.specs.Image.{Rec, Entry, kinds, opens, delimiter}
 use Rattle.def_image.specs.Check.{checkIn, noEntry, openRight, closeRight, wordRight, insideOf, closerOf, afterOf}
 use Rattle.def_image.specs.Tree.{Forest, end, word, group, flat, textOf, soundForest, depth}
 use Rattle.prepared.specs.Statement.{entriesFrom}
-use Rattle.prepared.specs.Tests.{leb-iff, tested}
+use Rattle.laws.specs.Tests.{leb-iff, tested}
 
 -- texts and entries of records in two parts
 pub textOf-append : (a b : List Rec) → textOf (a ++ b) ≡ textOf a ++ textOf b

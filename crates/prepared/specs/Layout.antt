@@ -9,7 +9,7 @@ use Rattle.def_numbers.specs.Basics.{all, joined, tab}
 use Rattle.def_numbers.specs.Limits.{limits}
 use Rattle.def_image.specs.Image.{Rec, u32At, tablesFor}
 use Rattle.def_image.specs.Tree.{Tree, Node, recsOf, allRecs, textOf, literalsOf, u32, recordBytes, imageOf, fits, soundNode}
-use Rattle.prepared.specs.Tests.{leb-iff, tested}
+use Rattle.laws.specs.Tests.{leb-iff, tested}
 use Rattle.prepared.specs.Bytes.{Holds, holds-whole, holds-left, holds-right, u32At-holds}
 use Rattle.prepared.specs.Tables.{length-rows, rows-read}
 

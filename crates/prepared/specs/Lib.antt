@@ -4,10 +4,8 @@ pub mod Bytes
 pub mod Components
 pub mod Groups
 pub mod Layout
-pub mod Lists
 pub mod Prepared
 pub mod Records
 pub mod Statement
 pub mod Tables
-pub mod Tests
 pub mod Written

@@ -12,8 +12,8 @@ use Rattle.def_image.specs.Image.{Rec, kinds, u32At, tablesFor, counts, tables,
 use Rattle.def_image.specs.Check.{countsRight, offsetsRight, entriesRight, sparesZero, checkComponents, checkImage}
 use Rattle.def_image.specs.Tree.{end, word, group, flat, soundForest, depth, fits, Tree, Node, recsOf, allRecs, textOf, literalsOf, packed, u32, imageOf, soundNode}
 use Rattle.prepared.specs.Statement.{entriesFrom, placedFrom, placedTree, PassesCheck, ReadBack}
-use Rattle.prepared.specs.Tests.{leb-iff, tested}
-use Rattle.prepared.specs.Lists.{length-joined, all-map, all-of, all-parts, joined-some}
+use Rattle.laws.specs.Tests.{leb-iff, tested}
+use Rattle.laws.specs.Lists.{length-joined, all-map, all-of, all-parts, joined-some}
 use Rattle.prepared.specs.Bytes.{Holds, holds-left, holds-right, bytesAt-holds, u32At-holds}
 use Rattle.prepared.specs.Bits.{length-packed}
 use Rattle.prepared.specs.Tables.{rows-read}

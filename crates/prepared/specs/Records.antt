@@ -10,8 +10,8 @@ use Rattle.def_numbers.specs.Basics.{if_then_else_, isEmpty, all, tab}
 use Rattle.def_image.specs.Image.{Rec, Entry, u32At, counts, tables, bytesAt, startAt, entryAt, recsFrom, kinds, delimiter}
 use Rattle.def_image.specs.Tree.{Forest, end, word, group, flat, soundForest, textOf, u32, recordBytes}
 use Rattle.prepared.specs.Statement.{entriesFrom}
-use Rattle.prepared.specs.Tests.{and-iff, eqb-iff, eqb-false, tested}
-use Rattle.prepared.specs.Lists.{all-append}
+use Rattle.laws.specs.Tests.{and-iff, eqb-iff, eqb-false, tested}
+use Rattle.laws.specs.Lists.{all-append}
 use Rattle.prepared.specs.Bytes.{Holds, holds-left, holds-right, holds-getD, bytesAt-holds, u32At-next}
 use Rattle.prepared.specs.Groups.{nonempty}
 

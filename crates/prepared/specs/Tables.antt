@@ -6,8 +6,8 @@ use lib.ListN.{length-append}
 use Rattle.def_numbers.specs.Prelude.{Bool, true, List, [], _∷_, map, length, ltb}
 use Rattle.def_numbers.specs.Basics.{all, joined, tab}
 use Rattle.prepared.specs.Statement.{Bytes}
-use Rattle.prepared.specs.Tests.{and-iff}
-use Rattle.prepared.specs.Lists.{all-joined, all-map, all-of}
+use Rattle.laws.specs.Tests.{and-iff}
+use Rattle.laws.specs.Lists.{all-joined, all-map, all-of}
 use Rattle.prepared.specs.Bytes.{Holds, holds-left, holds-right}
 
 -- rows of w bytes, row a being `row a`

@@ -7,8 +7,8 @@ use Rattle.def_numbers.specs.Basics.{all, joined}
 use Rattle.def_image.specs.Image.{Rec}
 use Rattle.def_image.specs.Tree.{Tree, recsOf, allRecs, textOf, literalsOf, packed, u32, recordBytes, imageOf, soundNode}
 use Rattle.prepared.specs.Statement.{Bytes}
-use Rattle.prepared.specs.Tests.{tested}
-use Rattle.prepared.specs.Lists.{all-append}
+use Rattle.laws.specs.Tests.{tested}
+use Rattle.laws.specs.Lists.{all-append}
 use Rattle.prepared.specs.Bytes.{u32-bytes}
 use Rattle.prepared.specs.Bits.{packed-bytes}
 use Rattle.prepared.specs.Tables.{rows-bytes}

@@ -11,8 +11,8 @@ use Rattle.def_image.specs.Image.{u32At, bytesFor, counts, tables, recordCount,
 use Rattle.def_image.specs.Check.{countsRight, offsetsRight, sparesZero, entriesRight, checkIn, checkComponents, checkImage}
 use Rattle.def_image.specs.Tree.{u32}
 use Rattle.prepared.specs.Statement.{Bytes, EveryImage}
-use Rattle.prepared.specs.Tests.{and-iff, leb-iff, eqb-iff, tested}
-use Rattle.prepared_back.specs.Answers.{bind-ok, need-ok}
+use Rattle.laws.specs.Tests.{and-iff, leb-iff, eqb-iff, tested}
+use Rattle.laws.specs.Results.{bind-ok, need-then}
 use Rattle.prepared_back.specs.Nodes.{AllPassed}
 use Rattle.prepared_back.specs.Tables.{singles}
 use Rattle.prepared_back.specs.Whole.{text-size, Checked, built-tree}
@@ -84,11 +84,11 @@ record Tested (image : List ℕ) : Type 0 where
 all-tested : (image : List ℕ) → checkImage image ≡ ok tt → Tested image
 unfolding checkImage
 all-tested image h =
-    let (p, h₁) = need-ok (leb 40 (length image)) short-image _ h in
-    let (q, h₂) = need-ok (countsRight image) bad-count _ h₁ in
-    let (o, h₃) = need-ok (offsetsRight image) bad-offset _ h₂ in
-    let (e, h₄) = need-ok (entriesRight image) bad-entry _ h₃ in
-    let (f, w) = need-ok (eqb (startAt image 0) 0) bad-record _ h₄ in
+    let (p, h₁) = need-then (leb 40 (length image)) short-image _ h in
+    let (q, h₂) = need-then (countsRight image) bad-count _ h₁ in
+    let (o, h₃) = need-then (offsetsRight image) bad-offset _ h₂ in
+    let (e, h₄) = need-then (entriesRight image) bad-entry _ h₃ in
+    let (f, w) = need-then (eqb (startAt image 0) 0) bad-record _ h₄ in
     record { long = p; counted = q; placed = o; entered = e; first = f; walked = w }
 
 checked : (image : List ℕ) → Bytes image → Tested image → let h = counts image in Checked image (h .c) (h .n) (h .r) (h .t) (h .b)

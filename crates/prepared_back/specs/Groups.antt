@@ -13,9 +13,11 @@ use Rattle.def_image.specs.Image.{Entry, Rec, kinds, opens, delimiter}
 use Rattle.def_image.specs.Check.{checkIn, noEntry, textRight, wordRight, insideOf, closerOf, afterOf, openRight, closeRight}
 use Rattle.def_image.specs.Tree.{Forest, end, word, group, flat, soundForest, depth}
 use Rattle.prepared.specs.Statement.{Bytes}
-use Rattle.prepared.specs.Tests.{by-test, and-iff, leb-iff, eqb-iff, tested}
-use Rattle.prepared.specs.Lists.{all-getD, all-append, map-append}
-use Rattle.prepared_back.specs.Answers.{bind-ok, need-ok, all-take, all-drop}
+use Rattle.laws.specs.Tests.{by-test, and-iff, leb-iff, eqb-iff, tested}
+use mathlib.Core.List.{map-append}
+use Rattle.laws.specs.Lists.{all-getD, all-append}
+use Rattle.laws.specs.Results.{bind-ok, need-then}
+use Rattle.laws.specs.Lists.{all-take, all-drop}
 
 -- the record that an entry of the record table stands for, its text being cut out of the text table
 abbrev pub recOf : List ℕ → Entry → Rec
@@ -45,17 +47,17 @@ opened : (t fuel : ℕ) (e : Entry) (rest : List Entry) (above : ℕ) → opens 
     → checkIn t (suc fuel) (e ∷ rest) above ≡ ok tt → Opened t fuel e rest above
 unfolding checkIn
 opened t fuel e rest above o h =
-    let (p, h₁) = need-ok (openRight t e rest) bad-record _ (rw (o, checkIn) at h) in
-    let (q, h₂) = need-ok (ltb above (limits .depth)) too-deep _ h₁ in
+    let (p, h₁) = need-then (openRight t e rest) bad-record _ (rw (o, checkIn) at h) in
+    let (q, h₂) = need-then (ltb above (limits .depth)) too-deep _ h₁ in
     let (_, i, h₃) = bind-ok (checkIn t fuel (insideOf e rest) (suc above)) _ h₂ in
-    let (c, a) = need-ok (closeRight t e (closerOf e rest)) bad-record _ h₃ in
+    let (c, a) = need-then (closeRight t e (closerOf e rest)) bad-record _ h₃ in
     record { opener = p; room = (leb-iff (suc above) (limits .depth)) .0 q; inside = i; closer = c; after = a }
 
 -- and of a word
 word-kept : (t fuel : ℕ) (e : Entry) (rest : List Entry) (above : ℕ) → opens (e .kind) ≡ false
     → checkIn t (suc fuel) (e ∷ rest) above ≡ ok tt → (wordRight t e ≡ true) × (checkIn t fuel rest above ≡ ok tt)
 unfolding checkIn
-word-kept t fuel e rest above o h = need-ok (wordRight t e) bad-record _ (rw (o, checkIn) at h)
+word-kept t fuel e rest above o h = need-then (wordRight t e) bad-record _ (rw (o, checkIn) at h)
 
 -- where an entry's text lies: what `textRight` says
 abbrev InText : List ℕ → Entry → Type 0

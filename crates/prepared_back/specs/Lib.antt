@@ -1,5 +1,4 @@
 -- Every image that passes the check is the image of a tree that fits: the proof of Statement's EveryImage, by topics.
-pub mod Answers
 pub mod Cuts
 pub mod Every
 pub mod Groups

@@ -10,12 +10,12 @@ use Rattle.def_numbers.specs.Basics.{sum}
 use Rattle.def_image.specs.Image.{bytesFor, bitsAt}
 use Rattle.def_image.specs.Tree.{byteOf, packed}
 use Rattle.prepared.specs.Statement.{Bytes}
-use Rattle.prepared.specs.Tests.{by-test, leb-iff}
-use Rattle.prepared.specs.Lists.{length-tab, getD-tab, tab-shift, tab-ext, tab-getD}
+use Rattle.laws.specs.Tests.{by-test, leb-iff}
+use Rattle.laws.specs.Lists.{length-tab, getD-tab, tab-shift, tab-ext, tab-getD}
 use Rattle.prepared.specs.Bytes.{byte-at}
 use Rattle.prepared.specs.Bits.{Bits, byte-of-bits}
 use borrow.Author.Tests.{ltb-false}
-use Rattle.prepared_back.specs.Answers.{all-tab}
+use Rattle.laws.specs.Lists.{all-tab}
 use Rattle.prepared_back.specs.Cuts.{cut}
 
 -- a bit above all bits of a number

@@ -11,10 +11,11 @@ use Rattle.def_image.specs.Image.{Entry, bytesFor, bitsAt}
 use Rattle.def_image.specs.Check.{checkIn, textRight}
 use Rattle.def_image.specs.Tree.{Node, recsOf, allRecs, literalsOf, u32, soundForest, depth, soundNode}
 use Rattle.prepared.specs.Statement.{Bytes}
-use Rattle.prepared.specs.Tests.{and-iff, tested}
-use Rattle.prepared.specs.Lists.{length-tab, tab-add, all-append, map-append}
+use Rattle.laws.specs.Tests.{and-iff, tested}
+use mathlib.Core.List.{map-append}
+use Rattle.laws.specs.Lists.{length-tab, tab-add, all-append}
 use Rattle.prepared.specs.Bits.{Bits}
-use Rattle.prepared_back.specs.Answers.{all-tab}
+use Rattle.laws.specs.Lists.{all-tab}
 use Rattle.prepared_back.specs.Cuts.{cut, cut-add}
 use Rattle.prepared_back.specs.Groups.{recOf, byteRight, Built, built}
 use Rattle.prepared_back.specs.Literals.{packed-bitsAt, bitsAt-bits}

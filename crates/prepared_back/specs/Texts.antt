@@ -11,7 +11,7 @@ use Rattle.def_numbers.specs.Basics.{if_then_else_, all, joined, tab}
 use Rattle.def_image.specs.Image.{Entry}
 use Rattle.def_image.specs.Check.{textRight}
 use Rattle.def_image.specs.Tree.{textOf, u32, recordBytes}
-use Rattle.prepared.specs.Tests.{and-iff, tested}
+use Rattle.laws.specs.Tests.{and-iff, tested}
 use Rattle.prepared_back.specs.Cuts.{cut, length-cut}
 use Rattle.prepared_back.specs.Groups.{recOf}
 

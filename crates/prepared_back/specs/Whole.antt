@@ -13,9 +13,9 @@ use Rattle.def_numbers.specs.Limits.{limits}
 use Rattle.def_image.specs.Image.{Entry, u32At, tablesFor, bytesFor, parts}
 use Rattle.def_image.specs.Tree.{Tree, u32, recsOf, allRecs, textOf, recordBytes, literalsOf, imageOf, soundNode, fits}
 use Rattle.prepared.specs.Statement.{Bytes}
-use Rattle.prepared.specs.Tests.{by-test, leb-iff, eqb-iff, tested}
-use Rattle.prepared.specs.Lists.{length-tab, all-map}
-use Rattle.prepared_back.specs.Answers.{all-take, all-drop}
+use Rattle.laws.specs.Tests.{by-test, leb-iff, eqb-iff, tested}
+use Rattle.laws.specs.Lists.{length-tab, all-map}
+use Rattle.laws.specs.Lists.{all-take, all-drop}
 use Rattle.prepared_back.specs.Cuts.{cut, length-cut}
 use Rattle.prepared_back.specs.Groups.{recOf}
 use Rattle.prepared_back.specs.Nodes.{AllPassed, Nodes, nodes-of}

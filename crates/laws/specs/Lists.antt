@@ -8,7 +8,7 @@ use lib.ListN.{length-append}
 use lib.Seq.{drop-cons}
 use Rattle.def_numbers.specs.Prelude.{Bool, true, false, _&&_, List, [], _∷_, map, _++_, length, getD, take, drop, leb}
 use Rattle.def_numbers.specs.Basics.{sum, all, joined, tab}
-use Rattle.prepared.specs.Tests.{and-iff, leb-iff}
+use Rattle.laws.specs.Tests.{and-iff, leb-iff}
 
 module _ {A : Type 0} where
   -- ---- tables of values
@@ -118,13 +118,29 @@ module _ {A : Type 0} where
       let f : 1 ≤ length x = (leb-iff 1 (length x)) .0 ((and-iff (leb 1 (length x)) (all (λ x. leb 1 (length x)) l)) .0 t .0) in
       omega arith
 
+-- ---- tests of a part, and of a table
+
+module _ {A : Type 0} (p : A → Bool) where
+  pub all-take : (n : ℕ) (l : List A) → all p l ≡ true → all p (take n l) ≡ true
+  unfolding all
+  all-take zero l h = refl
+  all-take (suc n) [] h = refl
+  all-take (suc n) (a ∷ l) h = let (q, r) = (and-iff (p a) (all p l)) .0 h in (and-iff _ _) .1 (q, all-take n l r)
+
+  pub all-drop : (n : ℕ) (l : List A) → all p l ≡ true → all p (drop n l) ≡ true
+  unfolding all
+  all-drop zero l h = h
+  all-drop (suc n) [] h = refl
+  all-drop (suc n) (a ∷ l) h = all-drop n l ((and-iff (p a) (all p l)) .0 h .1)
+
+  pub all-tab : (f : ℕ → A) → ((i : ℕ) → p (f i) ≡ true) → (from n : ℕ) → all p (tab f from n) ≡ true
+  unfolding all tab
+  all-tab f h from zero = refl
+  all-tab f h from (suc n) = (and-iff _ _) .1 (h from, all-tab f h (suc from) n)
+
 -- ---- along a map
 
 module _ {A B : Type 0} where
-  pub map-append : (f : A → B) (k l : List A) → map f (k ++ l) ≡ map f k ++ map f l
-  map-append f [] l = refl
-  map-append f (x ∷ k) l = rw (map-append f k l)
-
   pub all-map : (p : B → Bool) (f : A → B) (l : List A) → all p (map f l) ≡ all (λ a. p (f a)) l
   unfolding all
   all-map p f [] = refl

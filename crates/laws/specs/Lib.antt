@@ -1,0 +1,5 @@
+-- Laws that the theorems share: tests, lists, and answers that may refuse.
+pub mod Lists
+pub mod Numbers
+pub mod Results
+pub mod Tests

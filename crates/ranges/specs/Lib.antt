@@ -1,0 +1,2 @@
+-- Bounds and ranges in code, as the definition's.
+pub mod Usb
