@@ -1,6 +1,9 @@
 -- The structs of the reader, as the definition's records.
-use Rattle.def_numbers.specs.Prelude.{ℕ}
-use Rattle.def_image.specs.Image.{Entry}
+use mathlib.Core.Path.{_≡_, refl, ap, _∙_}
+use Prim.Native.Nat.{_≤_}
+use Rattle.def_numbers.specs.Prelude.{ℕ, _+_, _*_, List, length, getD, eqb}
+use Rattle.def_numbers.specs.Basics.{if_then_else_}
+use Rattle.def_image.specs.Image.{u32At, counts, tables, Entry, entryAt}
 use Rattle.token_tree.specs.declared.Counts.{Counts}
 use Rattle.token_tree.specs.declared.Tables.{Tables}
 use Rattle.token_tree.specs.declared.RecordEntry.{RecordEntry}
@@ -13,3 +16,39 @@ tablesOf t = record { concatenations = t .concatenations; components = t .compon
 
 abbrev pub entryOf : RecordEntry → Entry
 entryOf e = record { kind = e .kind; start = e .start .0; stop = e .stop .0; skip = e .skip; byte = e .byte }
+
+-- p is no further than the end, and the same bytes are read from it as from `at`
+pub record SameFrom (s : List ℕ) (at p : ℕ) : Type 0 where
+  pub short : p ≤ length s
+  pub same : (d : ℕ) → getD s (p + d) 0 ≡ getD s (at + d) 0
+
+-- "a record's text ends at the next start, the last at T": of record r of `count`, the next start standing at `next`
+abbrev pub stopIn : List ℕ → ℕ → ℕ → ℕ → ℕ → ℕ
+stopIn image next count t r = if eqb (r + 1) count then t else u32At image next
+
+-- record r of a table at `records`, of `count` records, whose texts stand at `text` and stop at t
+unfoldable pub entryIn : List ℕ → ℕ → ℕ → ℕ → ℕ → ℕ → Entry
+entryIn image records text count t r =
+    let at = records + 12 * r in
+    let start = u32At image (at + 4) in
+    record {
+      kind = u32At image at;
+      start = start;
+      stop = stopIn image (records + 12 * (r + 1) + 4) count t r;
+      skip = u32At image (at + 8);
+      byte = getD image (text + start) 0;
+    }
+
+-- at the image's own tables and counts it is the definition's
+pub entry-own : (image : List ℕ) (r : ℕ) →
+    entryIn image ((tables image) .records) ((tables image) .text) ((counts image) .r) ((counts image) .t) r ≡ entryAt image r
+unfolding entryIn
+entry-own image r = refl
+
+-- and so it is at the tables and counts that were read
+pub entry-read : (image : List ℕ) (t : Tables) (h : Counts) (r : ℕ) → tablesOf t ≡ tables image → countsOf h ≡ counts image →
+    entryIn image (t .records) (t .text) (h .r) (h .t) r ≡ entryAt image r
+entry-read image t h r p q =
+    ap (λ x. entryIn image (x .records) (x .text) (h .r) (h .t) r) p
+    ∙ ap (λ x. entryIn image ((tables image) .records) ((tables image) .text) (x .r) (x .t) r) q
+    ∙ entry-own image r

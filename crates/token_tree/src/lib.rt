@@ -1,9 +1,10 @@
 // The prepared image and its tables (src/token_tree.rs, whose arena the image replaces). Nothing is asked of a caller: a byte that
 // is missing counts as 0.
 ghost use mathlib.Core.Path.{_≡_};
+ghost use Prim.Native.Nat.{_+_, _*_, _^_, _<_};
 ghost use lib.ListN.{getD};
 ghost use Rattle.def_image.specs.Image.{u32At, counts, tables, componentCount, recordCount, literalWidth, startAt, entryAt};
-ghost use Rattle.token_tree.specs.Tables.{countsOf, tablesOf, entryOf};
+ghost use Rattle.token_tree.specs.Tables.{countsOf, tablesOf, entryOf, SameFrom, stopIn, entryIn};
 
 // A text place, a record number and a component number, kept apart as the crate keeps its pointers.
 pub struct PText(pub u32);
@@ -40,7 +41,9 @@ pub struct RecordEntry {
     pub byte: u8,
 }
 
-fn join4(a: u8, b: u8, c: u8, d: u8) -> u32 {
+fn join4(a: u8, b: u8, c: u8, d: u8) -> u32
+    ensures { λ r. ⌜ r ≡ a + 256 * b + 65536 * c + 16777216 * d ⌝ }
+{
     (a as u32) + 256 * (b as u32) + 65536 * (c as u32) + 16777216 * (d as u32)
 }
 
@@ -50,19 +53,36 @@ pub fn byte_at(s: &[u8], at: usize) -> u8
     if at < s.len() { s[at] } else { 0 }
 }
 
-pub fn u32_at(s: &[u8], at: usize) -> u32
-    ensures { λ r. ⌜ r ≡ u32At (now (s .entry)) at ⌝ }
+// The byte n places on, whatever the two numbers.
+fn byte_on(s: &[u8], at: usize, n: usize) -> u8
+    ensures { λ r. ⌜ r ≡ getD (now (s .entry)) (at + n) 0 ⌝ }
 {
     if s.len() <= at {
         return 0;
     }
-    if s.len() - at < 4 {
-        return join4(
-            s[at],
-            byte_at(s, at + 1),
-            if s.len() - at < 3 { 0 } else { s[at + 2] },
-            0,
-        );
+    if n < s.len() - at { s[at + n] } else { 0 }
+}
+
+// Four bytes of which some may be missing.
+fn short_at(s: &[u8], at: usize) -> u32
+    ensures { λ r. ⌜ r ≡ u32At (now (s .entry)) at ⌝ }
+{
+    join4(
+        byte_at(s, at),
+        byte_on(s, at, 1),
+        byte_on(s, at, 2),
+        byte_on(s, at, 3),
+    )
+}
+
+pub fn u32_at(s: &[u8], at: usize) -> u32
+    ensures { λ r. ⌜ r ≡ u32At (now (s .entry)) at ⌝ }
+{
+    if s.len() < 4 {
+        return short_at(s, at);
+    }
+    if s.len() - 4 < at {
+        return short_at(s, at);
     }
     join4(s[at], s[at + 1], s[at + 2], s[at + 3])
 }
@@ -104,24 +124,106 @@ pub fn component_count(image: &[u8], i: u32) -> u32
     u32_at(image, 40 + 4 * (i as usize))
 }
 
+// Where the entry of component k stands. With the bound no sum after it can wrap.
+fn component_place(image: &[u8], k: u32) -> usize
+    ensures { λ p. ⌜ (p ≡ (tables (now (image .entry))) .components + 8 * k) × (p < 2 ^ 40) ⌝ }
+{
+    40 + 4 * (u32_at(image, 0) as usize) + 8 * (k as usize)
+}
+
 pub fn record_count(image: &[u8], k: PVal) -> u32
     ensures { λ r. ⌜ r ≡ recordCount (now (image .entry)) (k .0) ⌝ }
 {
-    let t = tables_of(image);
-    u32_at(image, t.components + 8 * (k.0 as usize))
+    u32_at(image, component_place(image, k.0))
 }
 
 pub fn literal_width(image: &[u8], k: PVal) -> u32
     ensures { λ r. ⌜ r ≡ literalWidth (now (image .entry)) (k .0) ⌝ }
 {
-    let t = tables_of(image);
-    u32_at(image, t.components + 8 * (k.0 as usize) + 4)
+    u32_at(image, component_place(image, k.0) + 4)
+}
+
+// Where the entry of record r stands.
+fn record_place(image: &[u8], r: u32) -> usize
+    ensures { λ p. ⌜ (p ≡ (tables (now (image .entry))) .records + 12 * r) × (p < 2 ^ 40) ⌝ }
+{
+    40 + 4 * (u32_at(image, 0) as usize) + 8 * (u32_at(image, 4) as usize) + 12 * (r as usize)
 }
 
 // Where the text of record r starts.
 pub fn start_at(image: &[u8], r: PBind) -> PText
     ensures { λ p. ⌜ p .0 ≡ startAt (now (image .entry)) (r .0) ⌝ }
 {
+    PText(u32_at(image, record_place(image, r.0) + 4))
+}
+
+// A place no further than the end, from which the same bytes are read: no sum after it can wrap.
+fn no_further(s: &[u8], at: usize) -> usize
+    ensures { λ p. ⌜ SameFrom (now (s .entry)) at p ⌝ }
+{
+    if at < s.len() { at } else { s.len() }
+}
+
+// Where the text of record r of `count` stops: t, or the start that stands at `next`.
+fn stop_in(image: &[u8], next: usize, count: u32, t: u32, r: u32) -> u32
+    ensures { λ n. ⌜ n ≡ stopIn (now (image .entry)) next count t r ⌝ }
+{
+    if (r as usize) + 1 == (count as usize) {
+        return t;
+    }
+    u32_at(image, next)
+}
+
+// Record r of a table at `records`, of `count` records, whose texts stand at `text` and stop at t. For any numbers.
+pub fn entry_in(
+    image: &[u8],
+    records: usize,
+    text: usize,
+    count: u32,
+    t: u32,
+    r: u32,
+) -> RecordEntry
+    ensures { λ e. ⌜ entryOf e ≡ entryIn (now (image .entry)) records text count t r ⌝ }
+{
+    let at = no_further(image, records) + 12 * (r as usize);
+    let start = u32_at(image, at + 4);
+    RecordEntry {
+        kind: u32_at(image, at),
+        start: PText(start),
+        stop: PText(stop_in(image, at + 16, count, t, r)),
+        skip: u32_at(image, at + 8),
+        byte: byte_at(image, no_further(image, text) + (start as usize)),
+    }
+}
+
+pub fn entry_at(image: &[u8], r: PBind) -> RecordEntry
+    ensures { λ e. ⌜ entryOf e ≡ entryAt (now (image .entry)) (r .0) ⌝ }
+{
+    let h = counts_of(image);
     let t = tables_of(image);
-    PText(u32_at(image, t.records + 12 * (r.0 as usize) + 4))
+    entry_in(image, t.records, t.text, h.r, h.t, r.0)
+}
+
+// The table walker: the lent image and a record's number together. The stages call `read_entry`.
+pub struct Walker<'a> {
+    pub image: &'a [u8],
+    pub at: u32,
+}
+
+pub fn walker_at<'a>(image: &'a [u8], r: PBind) -> Walker<'a>
+    ensures { λ w. ⌜ (w .image ≡ image .entry) × (w .at ≡ r .0) ⌝ }
+{
+    Walker { image, at: r.0 }
+}
+
+pub fn entry<'a>(w: Walker<'a>) -> RecordEntry
+    ensures { λ e. ⌜ entryOf e ≡ entryAt (now (w .entry .image)) (w .entry .at) ⌝ }
+{
+    entry_at(w.image, PBind(w.at))
+}
+
+pub fn read_entry(image: &[u8], r: PBind) -> RecordEntry
+    ensures { λ e. ⌜ entryOf e ≡ entryAt (now (image .entry)) (r .0) ⌝ }
+{
+    entry(walker_at(image, r))
 }

@@ -1,0 +1,13 @@
+use borrow.Author.Needs.{needs}
+use Rattle.token_tree.proofs.Entries.{entry-told}
+use Rattle.token_tree.proofs.entry_at.Statement.{statement}
+use Rattle.token_tree.proofs.entry_at.Tie as tie
+
+returns : tie.Need-returns
+returns c =
+    let a = c .before .before .before .before .args in
+    entry-told (a .image .now) (c .before .tables-of .result) (c .before .before .counts-of .result) (a .r .0)
+    (c .before .tables-of .ensures) (c .before .before .counts-of .ensures) (c .entry-in .ensures)
+
+pub entry-at-spec : {M : Type 1} → statement M
+entry-at-spec = tie.close (tie.spec (λ c κs. search needs) (λ c κs. search needs) (λ c κs. search needs) returns)
