@@ -6,46 +6,14 @@ ghost use Rattle.def_numbers.specs.Numbers.{tryParse};
 ghost use Rattle.def_stages.specs.Ranges.{staticVal, staticRange, staticWidth};
 ghost use Rattle.def_stages.specs.Component.{simplifyUsb, simplifyRange};
 ghost use Rattle.misc.specs.Value.{optionOf};
-ghost use Rattle.ranges.specs.Usb.{bytesOf, usbOf, usbrOf, resultUsb, resultUsbr};
-use errors::Refusal;
-use misc::I128;
+ghost use Rattle.usb.specs.Usb.{bytesOf, usbOf, usbrOf, resultUsb, resultUsbr};
 use misc::OptionI128;
-
-// A part of a component's text: its offset there, and its length.
-pub struct Part {
-    pub at: usize,
-    pub len: usize,
-}
-
-// Usize and/or string bound: the text s plus the number x.
-pub struct Usb {
-    pub s: Part,
-    pub x: I128,
-}
-
-// Option<Usb>
-pub enum OptionUsb {
-    Some(Usb),
-    None,
-}
-
-// A range: its start, and its end if there is one.
-pub struct Usbr {
-    pub start: Usb,
-    pub end: OptionUsb,
-}
-
-// Result<Usb, _>
-pub enum ResultUsb {
-    Ok(Usb),
-    Refused(Refusal),
-}
-
-// Result<Usbr, _>
-pub enum ResultUsbr {
-    Ok(Usbr),
-    Refused(Refusal),
-}
+use usb::OptionUsb;
+use usb::Part;
+use usb::ResultUsb;
+use usb::ResultUsbr;
+use usb::Usb;
+use usb::Usbr;
 
 // Whether two texts have the same bytes.
 pub fn same_text(image: &[u8], text: usize, p: Part, q: Part) -> bool

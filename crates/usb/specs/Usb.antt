@@ -7,15 +7,15 @@ use Rattle.def_stages.specs.Text as Text
 use Rattle.def_stages.specs.Ranges as Ranges
 use Rattle.misc.specs.Value.{valueOf}
 use Rattle.errors.specs.Refused.{refusedAs}
-use Rattle.ranges.specs.declared.Part.{Part}
-use Rattle.ranges.specs.declared.Usb.{Usb}
-use Rattle.ranges.specs.declared.OptionUsb.{OptionUsb}
-use Rattle.ranges.specs.declared.OptionUsb.the-variants as O
-use Rattle.ranges.specs.declared.Usbr.{Usbr}
-use Rattle.ranges.specs.declared.ResultUsb.{ResultUsb}
-use Rattle.ranges.specs.declared.ResultUsb.the-variants as R
-use Rattle.ranges.specs.declared.ResultUsbr.{ResultUsbr}
-use Rattle.ranges.specs.declared.ResultUsbr.the-variants as RR
+use Rattle.usb.specs.declared.Part.{Part}
+use Rattle.usb.specs.declared.Usb.{Usb}
+use Rattle.usb.specs.declared.OptionUsb.{OptionUsb}
+use Rattle.usb.specs.declared.OptionUsb.the-variants as O
+use Rattle.usb.specs.declared.Usbr.{Usbr}
+use Rattle.usb.specs.declared.ResultUsb.{ResultUsb}
+use Rattle.usb.specs.declared.ResultUsb.the-variants as R
+use Rattle.usb.specs.declared.ResultUsbr.{ResultUsbr}
+use Rattle.usb.specs.declared.ResultUsbr.the-variants as RR
 
 -- the bytes that a part names
 abbrev pub bytesOf : List ℕ → ℕ → Part → List ℕ
