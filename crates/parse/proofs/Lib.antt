@@ -1,0 +1,5 @@
+pub mod Digits
+pub mod Product
+pub mod Reading
+pub mod Signs
+pub mod Table

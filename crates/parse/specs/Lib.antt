@@ -1,0 +1,2 @@
+-- What the parts of reading a number give.
+pub mod Parts

@@ -1,0 +1,37 @@
+-- What the parts of reading a number give: a byte's worth, and the digits' value in two halves.
+use Rattle.def_numbers.specs.Prelude.{ℕ, _+_, _*_, _^_, Option, none, some, ltb, eqb, ℤ, pos, negℤ}
+use Rattle.def_numbers.specs.Basics.{if_then_else_}
+use Rattle.def_numbers.specs.Numbers.{digitWorth}
+use Rattle.parse.specs.declared.U128.{U128}
+use Rattle.parse.specs.declared.OptionU128.{OptionU128}
+use Rattle.parse.specs.declared.OptionU128.the-variants as U
+
+-- 255 where the byte is no digit
+unfoldable pub worthByte : ℕ → ℕ
+worthByte b = elim (digitWorth b) [ none ↦ 255 | some d ↦ d ]
+
+abbrev pub number : U128 → ℕ
+number w = w .high * 2 ^ 64 + w .low
+
+abbrev pub numberOf : OptionU128 → Option ℕ
+numberOf (U.Some w) = some (number w)
+numberOf U.None = none
+
+-- 2^128, kept shut in proofs
+unfoldable pub full128 : ℕ
+full128 = 2 ^ 64 * 2 ^ 64
+
+-- no number past 128 bits
+abbrev pub capped : ℕ → Option ℕ
+capped n = if ltb n full128 then some n else none
+
+abbrev pub cappedOption : Option ℕ → Option ℕ
+cappedOption none = none
+cappedOption (some n) = capped n
+
+abbrev pub negated : ℕ → ℤ
+negated n = negℤ (pos n)
+
+-- a radix, with 0 for none
+abbrev pub radixOption : ℕ → Option ℕ
+radixOption radix = if eqb radix 0 then none else some radix
