@@ -1,2 +1,5 @@
+pub mod Answers
+pub mod Bounds
 pub mod Bytes
 pub mod Missing
+pub mod Ranges
