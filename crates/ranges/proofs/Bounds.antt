@@ -25,6 +25,7 @@ use Rattle.usb.specs.declared.OptionUsb.{OptionUsb}
 use Rattle.usb.specs.declared.OptionUsb.the-variants as O
 use Rattle.usb.specs.Usb.{bytesOf, usbOf, optionUsbOf}
 use Rattle.ranges.specs.Checks.{boundNumber, endNumber, endVal}
+use Rattle.ranges.specs.Literal.{endOr}
 use Rattle.ranges.proofs.Answers.{via, refused-as}
 
 pub empty-is : (n : ℕ) (s : List ℕ) → isEmpty (padded n s) ≡ eqb n 0
@@ -50,6 +51,14 @@ module _ (image : List ℕ) (at : ℕ) where
 
 pub end-some : (e : OptionUsb) (u : Usb) {r : Option ℤ} → e ≡ O.Some u → r ≡ staticVal (usbOf [] 0 u) → r ≡ endNumber e
 end-some e u p h = h ∙ static-is [] 0 u ∙ sym (ap endNumber p)
+
+-- the end of a literal of w bits
+module _ (image : List ℕ) (at w : ℕ) (e : OptionUsb) where
+  pub end-or-none : (v : D.Usb) (x : ℤ) → e ≡ O.None → v ≡ D.val x → x ≡ pos w → v ≡ endOr w (optionUsbOf image at e)
+  end-or-none v x p h q = h ∙ ap D.val q ∙ sym (ap (λ (e : OptionUsb). endOr w (optionUsbOf image at e)) p)
+
+  pub end-or-some : (u : Usb) → e ≡ O.Some u → usbOf image at u ≡ endOr w (optionUsbOf image at e)
+  end-or-some u p = sym (ap (λ (e : OptionUsb). endOr w (optionUsbOf image at e)) p)
 
 -- is_guaranteed_zero of the number
 abbrev pub zeroOf : Option ℤ → Bool

@@ -82,7 +82,7 @@ gate r true true false = refl
 gate r true false c = refl
 gate r false b c = refl
 
-ends-pass : (p : ℤ → Bool) (s : D.Usb) (e : Option D.Usb) → passes p (endVal e) ≡ ifStaticEnd p (record { start = s; «end» = e })
+pub ends-pass : (p : ℤ → Bool) (s : D.Usb) (e : Option D.Usb) → passes p (endVal e) ≡ ifStaticEnd p (record { start = s; «end» = e })
 ends-pass p s none = refl
 ends-pass p s (some e) = refl
 

@@ -2,6 +2,10 @@
 // component's text begins; a part's offset counts from there.
 pub use bound::simplify_usb;
 pub use bound::static_val;
+pub use literal::CutLiteral;
+pub use literal::CutResult;
+pub use literal::simplify_both;
+pub use literal::simplify_literal;
 pub use range::simplify;
 pub use range::simplify_filler;
 pub use range::static_range;
@@ -11,5 +15,6 @@ pub use text::same_text;
 
 mod bound;
 mod checks;
+mod literal;
 mod range;
 mod text;

@@ -64,7 +64,7 @@ pub fn static_range(r: Usbr) -> bool
 }
 
 // The width from a to b, where they have the same text and it fits.
-fn width(image: &[u8], text: usize, a: Usb, b: Usb) -> OptionI128
+pub fn width(image: &[u8], text: usize, a: Usb, b: Usb) -> OptionI128
     ensures { λ r. ⌜ optionOf r ≡ widthOf (usbOf (now (image .entry)) text a) (usbOf (now (image .entry)) text b) ⌝ }
 {
     if same_text(image, text, a.s, b.s) {
