@@ -48,9 +48,10 @@ pub enum CutResult {
 fn literal_checks(start: OptionI128, end: OptionI128, width: OptionI128, w: I128) -> Checked
     ensures { λ r. ⌜ resultOf r ≡ literalChecks (valueOf w) (optionOf start) (optionOf end) (optionOf width) ⌝ }
 {
-    let bounds = first(needs(below(start, w), 24), needs(at_most(end, w), 25));
+    let start_ok = needs(below(start, w), 24);
+    let end_ok = needs(at_most(end, w), 25);
     let rest = first(needs(at_most(width, w), 26), needs(above_zero(end), 27));
-    first(bounds, rest)
+    first(first(start_ok, end_ok), rest)
 }
 
 // A literal without an end ends at its width.

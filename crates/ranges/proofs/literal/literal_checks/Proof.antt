@@ -9,8 +9,8 @@ returns : tie.Need-returns
 returns c =
     let a = c .before .before .before .before .before .before .before .before .before .before .before .args in
     literal-told (valueOf (a .w)) (optionOf (a .start)) (optionOf (a .«end»)) (optionOf (a .width)) (c .before .before .before .before .before .before .before .before .before .before .below .ensures) (c .before .before .before .before .before .before .before .before .before .needs .ensures)
-    (c .before .before .before .before .before .before .before .before .at-most .ensures) (c .before .before .before .before .before .before .before .needs2 .ensures) (c .before .before .before .before .before .before .first .ensures) (c .before .before .before .before .before .at-most2 .ensures) (c .before .before .before .before .needs3 .ensures)
-    (c .before .before .before .above-zero .ensures) (c .before .before .needs4 .ensures) (c .before .first2 .ensures) (c .first3 .ensures)
+    (c .before .before .before .before .before .before .before .before .at-most .ensures) (c .before .before .before .before .before .before .before .needs2 .ensures) (c .before .first2 .ensures) (c .before .before .before .before .before .before .at-most2 .ensures) (c .before .before .before .before .before .needs3 .ensures)
+    (c .before .before .before .before .above-zero .ensures) (c .before .before .before .needs4 .ensures) (c .before .before .first .ensures) (c .first3 .ensures)
 
 pub literal-checks-spec : {M : Type 1} → statement M
 literal-checks-spec =
