@@ -26,7 +26,7 @@ not-ltb : (a b : ℕ) → not (ltb b a) ≡ leb a b
 not-ltb a b =
     by-test (leb a b) (λ e. ap not (le-ltb b a (leb-true a b e)) ∙ sym e) (λ e. ap not (lt-ltb b a (leb-false a b e)) ∙ sym e)
 
-pub not-less : (a b : ℤ) → not (ltZ b a) ≡ leZ a b
+not-less : (a b : ℤ) → not (ltZ b a) ≡ leZ a b
 not-less (pos a) (pos b) = not-ltb a b
 not-less (pos a) (negsuc b) = refl
 not-less (negsuc a) (pos b) = refl
@@ -34,6 +34,12 @@ not-less (negsuc a) (negsuc b) = not-ltb b a
 
 pub passes-some : (p : ℤ → Bool) (n : OptionI128) (x : I128) {r : Bool} → n ≡ I.Some x → r ≡ p (valueOf x) → r ≡ passes p (optionOf n)
 passes-some p n x e h = rw e h
+
+pub below-some : (n : OptionI128) (x : I128) (w : ℕ) {z : ℤ} {r : Bool} → n ≡ I.Some x → z ≡ pos w → r ≡ ltZ (valueOf x) z → r ≡ passes (λ x. ltZ x (pos w)) (optionOf n)
+below-some n x w e q h = rw e (h ∙ rw q)
+
+pub at-most-some : (n : OptionI128) (x : I128) (w : ℕ) {z : ℤ} {r : Bool} → n ≡ I.Some x → z ≡ pos w → r ≡ ltZ z (valueOf x) → not r ≡ passes (λ x. leZ x (pos w)) (optionOf n)
+at-most-some n x w e q h = rw e (ap not (h ∙ ap (λ (z : ℤ). ltZ z (valueOf x)) q) ∙ not-less (valueOf x) (pos w))
 
 pub above-some : (n : OptionI128) (x : I128) (z : ℤ) {r : Bool} → n ≡ I.Some x → z ≡ pos 0 → r ≡ ltZ z (valueOf x) → r ≡ passes (ltZ (pos 0)) (optionOf n)
 above-some n x z e q h = rw e (h ∙ rw q)

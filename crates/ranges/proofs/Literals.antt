@@ -15,8 +15,7 @@ use Rattle.def_numbers.specs.Refusals.{need, start-above-width, end-above-width
 use Rattle.def_stages.specs.Ranges as D
 use Rattle.def_stages.specs.Ranges.{staticVal, staticWidth}
 use Rattle.def_stages.specs.Component.{Component, ifStatic, ifStaticEnd, ifKnown, withEnd, simplifyUsb, simplifyEnd, simplifyRange, simplifyLiteral}
-use Rattle.misc.specs.Value.{valueOf, optionOf}
-use Rattle.misc.specs.declared.I128.{I128}
+use Rattle.misc.specs.Value.{optionOf}
 use Rattle.misc.specs.declared.OptionI128.{OptionI128}
 use Rattle.errors.specs.declared.Refusal.{Refusal}
 use Rattle.errors.specs.declared.Checked.{Checked}
@@ -83,16 +82,16 @@ end-place : (w : ℕ) (e : Option D.Usb) → w < 2 ^ 64 → passes (λ x. leZ x 
 end-place w none h l n = lt-ltb w (2 ^ 64) h
 end-place w (some e) h l n = known-place w (staticVal e) h l n
 
-same-checks : {w v : ℤ} {s t e f k l : Option ℤ} → w ≡ v → s ≡ t → e ≡ f → k ≡ l → literalChecks w s e k ≡ literalChecks v t f l
-same-checks p q r o = rw (p, q, r, o)
+same-checks : (w : ℤ) {s t e f k l : Option ℤ} → s ≡ t → e ≡ f → k ≡ l → literalChecks w s e k ≡ literalChecks w t f l
+same-checks w q r o = rw (q, r, o)
 
 -- the code's tests of a literal of w bits, whose end is e
 module _ (image : List ℕ) (at w : ℕ) (small : w < 2 ^ 64) (r : Usbr) (e : Usb) (ends : usbOf image at e ≡ endOr w (optionUsbOf image at (r .«end»)))
-    (a b k : OptionI128) (wide : I128) (pa : optionOf a ≡ staticVal (usbOf image at (r .start))) (pb : optionOf b ≡ endNumber (r .«end»))
-    (pk : optionOf k ≡ widthOf (usbOf image at (r .start)) (usbOf image at e)) (pw : valueOf wide ≡ pos w) (ch : Checked)
-    (told : resultOf ch ≡ literalChecks (valueOf wide) (optionOf a) (optionOf b) (optionOf k)) (bits : List ℕ) (len : length bits ≡ w) where
+    (a b k : OptionI128) (pa : optionOf a ≡ staticVal (usbOf image at (r .start))) (pb : optionOf b ≡ endNumber (r .«end»))
+    (pk : optionOf k ≡ widthOf (usbOf image at (r .start)) (usbOf image at e)) (ch : Checked)
+    (told : resultOf ch ≡ literalChecks (pos w) (optionOf a) (optionOf b) (optionOf k)) (bits : List ℕ) (len : length bits ≡ w) where
   tests : resultOf ch ≡ literalChecks (pos w) (staticVal (usbOf image at (r .start))) (endVal (optionUsbOf image at (r .«end»))) (widthOf (usbOf image at (r .start)) (endOr w (optionUsbOf image at (r .«end»))))
-  tests = told ∙ same-checks pw pa (pb ∙ sym (end-is image at (r .«end»))) (pk ∙ ap (widthOf (usbOf image at (r .start))) ends)
+  tests = told ∙ same-checks (pos w) pa (pb ∙ sym (end-is image at (r .«end»))) (pk ∙ ap (widthOf (usbOf image at (r .start))) ends)
 
   whole : andThen (resultOf ch) (ok (cutBetween bits (usbOf image at (r .start)) (endOr w (optionUsbOf image at (r .«end»))))) ≡ simplifyLiteral bits (usbrOf image at r)
   whole = rw tests (rw (← len) (literal-is bits (usbrOf image at r)))

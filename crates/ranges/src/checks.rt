@@ -3,11 +3,10 @@ ghost use mathlib.Core.Path.{_≡_};
 ghost use mathlib.Core.Bool.{_&&_, _||_};
 ghost use lib.IntN.{pos};
 ghost use lib.Signed.{ltZ, leZ, nonNeg};
-ghost use Rattle.misc.specs.Value.{valueOf, optionOf};
+ghost use Rattle.misc.specs.Value.{optionOf};
 ghost use Rattle.errors.specs.Refused.{resultOf};
 ghost use Rattle.ranges.specs.Checks.{needed, andThen, passes};
 use errors::Checked;
-use misc::I128;
 use misc::OptionI128;
 
 pub fn both(a: bool, b: bool) -> bool
@@ -43,23 +42,23 @@ pub fn first(a: Checked, b: Checked) -> Checked
 }
 
 // n < w
-pub fn below(n: OptionI128, w: I128) -> bool
-    ensures { λ r. ⌜ r ≡ passes (λ x. ltZ x (valueOf w)) (optionOf n) ⌝ }
+pub fn below(n: OptionI128, w: usize) -> bool
+    ensures { λ r. ⌜ r ≡ passes (λ x. ltZ x (pos w)) (optionOf n) ⌝ }
 {
     let OptionI128::Some(x) = n else {
         return true;
     };
-    misc::less(x, w)
+    misc::less(x, misc::usize_to_i128(w))
 }
 
 // n <= w
-pub fn at_most(n: OptionI128, w: I128) -> bool
-    ensures { λ r. ⌜ r ≡ passes (λ x. leZ x (valueOf w)) (optionOf n) ⌝ }
+pub fn at_most(n: OptionI128, w: usize) -> bool
+    ensures { λ r. ⌜ r ≡ passes (λ x. leZ x (pos w)) (optionOf n) ⌝ }
 {
     let OptionI128::Some(x) = n else {
         return true;
     };
-    !misc::less(w, x)
+    !misc::less(misc::usize_to_i128(w), x)
 }
 
 // 0 <= n

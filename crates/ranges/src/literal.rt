@@ -3,6 +3,7 @@ ghost use mathlib.Core.Path.{_≡_};
 ghost use mathlib.Core.Bool.{true};
 ghost use mathlib.Core.List.{List};
 ghost use Prim.Native.Nat.{ℕ};
+ghost use lib.IntN.{pos};
 ghost use lib.ListN.{length};
 ghost use lib.Signed.{nonNeg};
 ghost use Rattle.def_stages.specs.Ranges.{staticVal};
@@ -45,8 +46,8 @@ pub enum CutResult {
 }
 
 // 24 to 27, of the numbers of start, end and width; a literal has w bits.
-fn literal_checks(start: OptionI128, end: OptionI128, width: OptionI128, w: I128) -> Checked
-    ensures { λ r. ⌜ resultOf r ≡ literalChecks (valueOf w) (optionOf start) (optionOf end) (optionOf width) ⌝ }
+fn literal_checks(start: OptionI128, end: OptionI128, width: OptionI128, w: usize) -> Checked
+    ensures { λ r. ⌜ resultOf r ≡ literalChecks (pos w) (optionOf start) (optionOf end) (optionOf width) ⌝ }
 {
     let start_ok = needs(below(start, w), 24);
     let end_ok = needs(at_most(end, w), 25);
@@ -128,12 +129,7 @@ pub fn simplify_literal(image: &[u8], text: usize, w: usize, r: Usbr) -> CutResu
     let end = r.end;
     let e = end_or(w, end);
     let known = width(image, text, start, e);
-    let c = literal_checks(
-        static_val(start),
-        end_val(end),
-        known,
-        misc::usize_to_i128(w),
-    );
+    let c = literal_checks(static_val(start), end_val(end), known, w);
     match c {
         Checked::Passed => CutResult::Ok(cut(w, start, e)),
         Checked::Refused(q) => CutResult::Refused(q),
