@@ -1,13 +1,13 @@
 -- Tests of numbers that may be unknown, and answers that pass or refuse.
 use mathlib.Core.Path.{_≡_, refl, sym, ap, _∙_}
 use mathlib.Core.Bool.{Bool, true, false, not}
-use mathlib.Core.Option.{Option, none, some}
+use mathlib.Core.Option.{Option}
 use Prim.Native.Nat.{ℕ}
 use lib.Dec.{leb, ltb}
 use lib.IntN.{ℤ, pos, negsuc}
 use lib.Signed.{ltZ, leZ}
 use borrow.Author.Tests.{leb-true, leb-false, lt-ltb, le-ltb}
-use Rattle.def_numbers.specs.Basics.{Result, ok, refused}
+use Rattle.def_numbers.specs.Basics.{Result, refused}
 use Rattle.def_numbers.specs.Refusals.{Reason, numberOf, need}
 use Rattle.misc.specs.Value.{valueOf, optionOf}
 use Rattle.misc.specs.declared.I128.{I128}

@@ -1,6 +1,6 @@
 -- The cut of a literal: numbers that are places among its bits, their difference, and what each way of cutting gives.
 use mathlib.Core.Path.{_≡_, refl, sym, ap, _∙_}
-use mathlib.Core.Bool.{Bool, true, false}
+use mathlib.Core.Bool.{true}
 use mathlib.Core.Option.{Option, none, some}
 use mathlib.Core.List.{List}
 use Prim.Native.Nat.{ℕ, zero, suc, _+_, _-_, _^_, _≤_, _<_}
@@ -10,11 +10,11 @@ use lib.Dec.{ltb, lit≤}
 use lib.IntN.{ℤ, pos, negsuc, _-ℤ_}
 use lib.ListN.{length, take, drop}
 use lib.Seq.{take-all}
-use borrow.Author.Tests.{ltb-true, ltb-false, lt-ltb}
+use borrow.Author.Tests.{ltb-true, lt-ltb}
 use Rattle.def_numbers.specs.Basics.{isEmpty}
 use Rattle.def_numbers.specs.Numbers.{half128, narrow}
 use Rattle.def_stages.specs.Ranges.{Usb, val, staticVal}
-use Rattle.def_stages.specs.Component.{Component, literal}
+use Rattle.def_stages.specs.Component.{literal}
 use Rattle.misc.specs.Value.{valueOf, optionOf, optionUsize, toUsize}
 use Rattle.misc.specs.declared.I128.{I128}
 use Rattle.misc.specs.declared.OptionI128.{OptionI128}

@@ -5,7 +5,6 @@ use mathlib.Core.Option.{Option, none, some}
 use mathlib.Core.List.{List}
 use Prim.Native.Nat.{ℕ, _^_, _≤_, _<_}
 use native.Mathlib.Omega.{arith}
-use lib.Dec.{ltb, leb}
 use lib.IntN.{ℤ, pos, negsuc}
 use lib.ListN.{length}
 use lib.Signed.{ltZ, leZ, nonNeg}
@@ -26,7 +25,7 @@ use Rattle.usb.specs.declared.Usbr.{Usbr}
 use Rattle.usb.specs.declared.ResultUsbr.{ResultUsbr}
 use Rattle.usb.specs.declared.ResultUsbr.the-variants as RR
 use Rattle.usb.specs.Usb.{usbOf, optionUsbOf, usbrOf, resultUsbr}
-use Rattle.ranges.specs.Checks.{needed, andThen, passes, endNumber, endVal, widthOf, rangeChecks, checkedRange, restOf}
+use Rattle.ranges.specs.Checks.{needed, andThen, passes, endNumber, endVal, widthOf, checkedRange, restOf}
 use Rattle.ranges.specs.Literal.{literalChecks, endOr, IsPlace, cutBetween, bothOf}
 use Rattle.ranges.proofs.Bounds.{end-is}
 use Rattle.ranges.proofs.Ranges.{ends-pass, range-is}
@@ -90,7 +89,8 @@ module _ (image : List ℕ) (at w : ℕ) (small : w < 2 ^ 64) (r : Usbr) (e : Us
     (a b k : OptionI128) (pa : optionOf a ≡ staticVal (usbOf image at (r .start))) (pb : optionOf b ≡ endNumber (r .«end»))
     (pk : optionOf k ≡ widthOf (usbOf image at (r .start)) (usbOf image at e)) (ch : Checked)
     (told : resultOf ch ≡ literalChecks (pos w) (optionOf a) (optionOf b) (optionOf k)) (bits : List ℕ) (len : length bits ≡ w) where
-  tests : resultOf ch ≡ literalChecks (pos w) (staticVal (usbOf image at (r .start))) (endVal (optionUsbOf image at (r .«end»))) (widthOf (usbOf image at (r .start)) (endOr w (optionUsbOf image at (r .«end»))))
+  tests : let s = usbOf image at (r .start) in let o = optionUsbOf image at (r .«end») in
+      resultOf ch ≡ literalChecks (pos w) (staticVal s) (endVal o) (widthOf s (endOr w o))
   tests = told ∙ same-checks (pos w) pa (pb ∙ sym (end-is image at (r .«end»))) (pk ∙ ap (widthOf (usbOf image at (r .start))) ends)
 
   whole : andThen (resultOf ch) (ok (cutBetween bits (usbOf image at (r .start)) (endOr w (optionUsbOf image at (r .«end»))))) ≡ simplifyLiteral bits (usbrOf image at r)
@@ -103,8 +103,12 @@ module _ (image : List ℕ) (at w : ℕ) (small : w < 2 ^ 64) (r : Usbr) (e : Us
       → (IsPlace (staticVal (usbOf image at (r .start))) → IsPlace (staticVal (usbOf image at e)) → x ≡ cutBetween bits (usbOf image at (r .start)) (usbOf image at e))
       → ok x ≡ simplifyLiteral bits (usbrOf image at r)
   literal-ok q n h =
-      let f = checks-pass (pos w) (staticVal (usbOf image at (r .start))) (endVal (optionUsbOf image at (r .«end»))) (widthOf (usbOf image at (r .start)) (endOr w (optionUsbOf image at (r .«end»)))) (sym tests ∙ ap resultOf q) in
-      ap ok (h (start-place w (staticVal (usbOf image at (r .start))) small n (f .0)) (subst (λ (u : D.Usb). IsPlace (staticVal u)) (sym ends) (end-place w (optionUsbOf image at (r .«end»)) small (f .1) (f .2))) ∙ ap (cutBetween bits (usbOf image at (r .start))) ends) ∙ (rw q at whole)
+      let s = usbOf image at (r .start) in
+      let o = optionUsbOf image at (r .«end») in
+      let f = checks-pass (pos w) (staticVal s) (endVal o) (widthOf s (endOr w o)) (sym tests ∙ ap resultOf q) in
+      let start : IsPlace (staticVal s) = start-place w (staticVal s) small n (f .0) in
+      let stop : IsPlace (staticVal (usbOf image at e)) = subst (λ (u : D.Usb). IsPlace (staticVal u)) (sym ends) (end-place w o small (f .1) (f .2)) in
+      ap ok (h start stop ∙ ap (cutBetween bits s) ends) ∙ (rw q at whole)
 
 -- both steps: a range that is simplified has no number below 0 as its start
 bind-ok : {A B : Type 0} (m : Result A) (f : A → Result B) {b : B} → (m >>= f) ≡ ok b → (a : A) × (f a ≡ ok b)
@@ -137,5 +141,7 @@ module _ (image : List ℕ) (at : ℕ) (r : Usbr) (m : ResultUsbr) (h : resultUs
   pub both-refused : (x : Refusal) → m ≡ RR.Refused x → refusedAs x ≡ bothOf bits (usbrOf image at r)
   both-refused x q = rw (← h, q)
 
-  pub both-ok : (v : Usbr) {x : Result Component} → m ≡ RR.Ok v → (ifStatic nonNeg (usbOf image at (v .start)) ≡ true → x ≡ simplifyLiteral bits (usbrOf image at v)) → x ≡ bothOf bits (usbrOf image at r)
+  pub both-ok : (v : Usbr) {x : Result Component} → m ≡ RR.Ok v
+      → (ifStatic nonNeg (usbOf image at (v .start)) ≡ true → x ≡ simplifyLiteral bits (usbrOf image at v))
+      → x ≡ bothOf bits (usbrOf image at r)
   both-ok v q t = rw (← h, q) (t (start-passed (usbrOf image at r) (usbrOf image at v) (sym h ∙ ap (resultUsbr image at) q)))

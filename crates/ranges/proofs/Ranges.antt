@@ -7,7 +7,7 @@ use Prim.Native.Nat.{ℕ}
 use lib.Dec.{eqb}
 use lib.IntN.{ℤ, pos, _-ℤ_}
 use lib.Signed.{ltZ, nonNeg}
-use Rattle.def_numbers.specs.Basics.{Result, ok, refused, _>>=_, isEmpty, sameBytes}
+use Rattle.def_numbers.specs.Basics.{Result, ok, refused, _>>=_, sameBytes}
 use Rattle.def_numbers.specs.Numbers.{narrow}
 use Rattle.def_numbers.specs.Refusals.{need, negative-bound, reversed, zero-width, open-start}
 use Rattle.def_stages.specs.Ranges as D
@@ -89,7 +89,8 @@ ends-pass p s (some e) = refl
 checks-are : (s : D.Usb) (e : Option D.Usb) → let r : D.Usbr = record { start = s; «end» = e } in checkedRange r
     ≡ (need (ifStatic nonNeg s && ifStaticEnd nonNeg r) negative-bound >>= λ _. (need (ifKnown nonNeg r) reversed >>= λ _. (need (ifKnown (ltZ (pos 0)) r) zero-width >>= λ _. ok r)))
 checks-are s e =
-    rw (ends-pass nonNeg s e) (gate (record { start = s; «end» = e }) (ifStatic nonNeg s && ifStaticEnd nonNeg (record { start = s; «end» = e })) (ifKnown nonNeg (record { start = s; «end» = e })) (ifKnown (ltZ (pos 0)) (record { start = s; «end» = e })))
+    let r : D.Usbr = record { start = s; «end» = e } in
+    rw (ends-pass nonNeg s e) (gate r (ifStatic nonNeg s && ifStaticEnd nonNeg r) (ifKnown nonNeg r) (ifKnown (ltZ (pos 0)) r))
 
 -- a bind whose steps agree
 bind-same : {A B : Type 0} (m : Result A) {f g : A → Result B} → ((a : A) → f a ≡ g a) → (m >>= f) ≡ (m >>= g)
@@ -113,7 +114,8 @@ module _ (image : List ℕ) (at : ℕ) where
     checked-refused x e = sym (ap (λ (k : Checked). andThen (resultOf k) (ok (usbrOf image at r))) e) ∙ told
 
   module _ (s : Usb) (e : OptionUsb) (m : ResultEnd) (h : resultEnd image at m ≡ simplifyEnd (optionUsbOf image at e)) where
-    pub rest-ok : (v : OptionUsb) {x : Result D.Usbr} → m ≡ E.Ok v → x ≡ checkedRange (usbrOf image at (record { start = s; «end» = v })) → x ≡ restOf (usbOf image at s) (optionUsbOf image at e)
+    pub rest-ok : (v : OptionUsb) {x : Result D.Usbr} → m ≡ E.Ok v
+        → x ≡ checkedRange (usbrOf image at (record { start = s; «end» = v })) → x ≡ restOf (usbOf image at s) (optionUsbOf image at e)
     rest-ok v q t = rw (← h, q) t
 
     pub rest-refused : (x : Refusal) → m ≡ E.Refused x → refusedAs x ≡ restOf (usbOf image at s) (optionUsbOf image at e)

@@ -1,5 +1,5 @@
 -- The tests of a range on plain numbers: none is a bound with a text, a width that is not known, or no end.
-use Rattle.def_numbers.specs.Prelude.{ℕ, Bool, true, false, _&&_, Option, none, some, List, eqb, ℤ, pos, _-ℤ_, ltZ, leZ, nonNeg}
+use Rattle.def_numbers.specs.Prelude.{ℕ, Bool, true, false, _&&_, Option, none, some, List, eqb, ℤ, pos, _-ℤ_, ltZ, nonNeg}
 use Rattle.def_numbers.specs.Basics.{Result, ok, refused, _>>=_, if_then_else_, sameBytes}
 use Rattle.def_numbers.specs.Numbers.{narrow}
 use Rattle.def_numbers.specs.Refusals.{numberOf, negative-bound, reversed, zero-width}

@@ -62,3 +62,7 @@ cutOf image text bits c = record { c-type = literal (drop (c .from) (take (c .to
 abbrev pub resultCut : List ℕ → ℕ → List ℕ → CutResult → Result Component
 resultCut image text bits (R.Ok c) = ok (cutOf image text bits c)
 resultCut image text bits (R.Refused r) = refusedAs r
+
+-- a cut is the definition's where the bounds are texts or places
+abbrev pub CutsAt : List ℕ → ℕ → List ℕ → CutLiteral → Usb → Usb → Type 0
+CutsAt image text bits c s e = IsPlace (staticVal s) → IsPlace (staticVal e) → cutOf image text bits c ≡ cutBetween bits s e

@@ -7,11 +7,11 @@ ghost use lib.IntN.{pos};
 ghost use lib.ListN.{length};
 ghost use lib.Signed.{nonNeg};
 ghost use Rattle.def_stages.specs.Ranges.{staticVal};
-ghost use Rattle.def_stages.specs.Component.{ifStatic, theEnd, simplifyLiteral};
+ghost use Rattle.def_stages.specs.Component.{ifStatic, simplifyLiteral};
 ghost use Rattle.misc.specs.Value.{valueOf, optionOf, optionUsize};
 ghost use Rattle.errors.specs.Refused.{resultOf};
 ghost use Rattle.usb.specs.Usb.{usbOf, optionUsbOf, usbrOf};
-ghost use Rattle.ranges.specs.Literal.{literalChecks, endOr, placeOf, IsPlace, keptOf, wholeOf, cutBetween, cutOf, resultCut, bothOf};
+ghost use Rattle.ranges.specs.Literal.{literalChecks, endOr, placeOf, CutsAt, keptOf, wholeOf, cutOf, resultCut, bothOf};
 use super::bound::end_val;
 use super::bound::static_val;
 use super::bound::value;
@@ -107,7 +107,7 @@ fn between(from: usize, to: usize, d: I128) -> CutLiteral
 
 // The cut at number bounds, which are places among the bits.
 fn cut(w: usize, start: Usb, end: Usb) -> CutLiteral
-    ensures { λ r. ⌜ ((image : List ℕ) (text : ℕ) (bits : List ℕ) → length bits ≡ w → IsPlace (staticVal (usbOf image text start)) → IsPlace (staticVal (usbOf image text end)) → cutOf image text bits r ≡ cutBetween bits (usbOf image text start) (usbOf image text end)) ⌝ }
+    ensures { λ r. ⌜ ((image : List ℕ) (text : ℕ) (bits : List ℕ) → length bits ≡ w → CutsAt image text bits r (usbOf image text start) (usbOf image text end)) ⌝ }
 {
     let OptionUsize::Some(to) = place_of(end) else {
         return kept(w, start, end);

@@ -1,4 +1,4 @@
--- `ranges::bound::end_val` meets its contract.
+-- `ranges::bound::end_val` meets its contract: by the end.
 use mathlib.Core.List.{[]}
 use Rattle.ranges.proofs.Bounds.{end-some}
 use borrow.Author.Needs.{needs}

@@ -1,4 +1,4 @@
--- `ranges::bound::simplify_usb` meets its contract.
+-- `ranges::bound::simplify_usb` meets its contract: an empty text is no number.
 use denote.Ref.{now}
 use Rattle.ranges.proofs.Bounds.{simplify-none, simplify-over, simplify-sum}
 use borrow.Author.Needs.{needs}

@@ -1,4 +1,4 @@
--- `ranges::bound::static_val` meets its contract.
+-- `ranges::bound::static_val` meets its contract: a part is empty where its length is 0.
 use Rattle.ranges.proofs.Bounds.{static-some, static-none}
 use borrow.Author.Needs.{needs}
 use Rattle.ranges.proofs.bound.static_val.Statement.{statement}

@@ -1,4 +1,4 @@
--- `ranges::checks::above_zero` meets its contract.
+-- `ranges::checks::above_zero` meets its contract: a number that is not known passes.
 use borrow.Author.Needs.{needs}
 use Rattle.ranges.proofs.Answers.{above-some}
 use Rattle.ranges.proofs.checks.above_zero.Statement.{statement}

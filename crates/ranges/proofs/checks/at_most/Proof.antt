@@ -1,4 +1,4 @@
--- `ranges::checks::at_most` meets its contract.
+-- `ranges::checks::at_most` meets its contract: a number that is not known passes.
 use borrow.Author.Needs.{needs}
 use Rattle.ranges.proofs.Answers.{at-most-some}
 use Rattle.ranges.proofs.checks.at_most.Statement.{statement}

@@ -1,4 +1,4 @@
--- `ranges::checks::below` meets its contract.
+-- `ranges::checks::below` meets its contract: a number that is not known passes.
 use borrow.Author.Needs.{needs}
 use Rattle.ranges.proofs.Answers.{below-some}
 use Rattle.ranges.proofs.checks.below.Statement.{statement}

@@ -1,4 +1,4 @@
--- `ranges::checks::needs` meets its contract.
+-- `ranges::checks::needs` meets its contract: by the test.
 use Rattle.ranges.proofs.Answers.{needed-not}
 use borrow.Author.Needs.{needs}
 use Rattle.ranges.proofs.checks.needs.Statement.{statement}

@@ -1,4 +1,4 @@
--- `ranges::checks::not_negative` meets its contract.
+-- `ranges::checks::not_negative` meets its contract: a number that is not known passes.
 use mathlib.Core.Path.{ap, _∙_}
 use mathlib.Core.Bool.{not}
 use lib.Signed.{nonNeg}

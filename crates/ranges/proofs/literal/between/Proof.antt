@@ -1,5 +1,4 @@
--- `ranges::literal::between` meets its contract.
-use mathlib.Core.Path.{ap}
+-- `ranges::literal::between` meets its contract: both bounds are numbers.
 use Rattle.ranges.proofs.Cuts.{between-told}
 use borrow.Author.Needs.{needs}
 use Rattle.ranges.proofs.literal.between.Statement.{statement}

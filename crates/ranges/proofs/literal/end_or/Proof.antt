@@ -1,4 +1,4 @@
--- `ranges::literal::end_or` meets its contract.
+-- `ranges::literal::end_or` meets its contract: by the end.
 use Rattle.misc.specs.Value.{valueOf}
 use Rattle.usb.specs.Usb.{usbOf}
 use Rattle.ranges.proofs.Bounds.{end-or-none, end-or-some}

@@ -1,4 +1,4 @@
--- `ranges::literal::literal_checks` meets its contract.
+-- `ranges::literal::literal_checks` meets its contract: the tests in their order.
 use lib.IntN.{pos}
 use Rattle.misc.specs.Value.{optionOf}
 use Rattle.ranges.proofs.Literals.{literal-told}

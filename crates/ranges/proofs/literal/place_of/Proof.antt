@@ -1,4 +1,4 @@
--- `ranges::literal::place_of` meets its contract.
+-- `ranges::literal::place_of` meets its contract: by its number.
 use mathlib.Core.Path.{_∙_}
 use Rattle.def_stages.specs.Ranges.{staticVal}
 use Rattle.usb.specs.Usb.{usbOf}

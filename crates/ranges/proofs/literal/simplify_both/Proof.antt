@@ -1,4 +1,4 @@
--- `ranges::literal::simplify_both` meets its contract.
+-- `ranges::literal::simplify_both` meets its contract: by the answer of the first.
 use denote.Ref.{now}
 use Rattle.ranges.proofs.Literals.{both-ok, both-refused}
 use borrow.Author.Needs.{needs}

@@ -1,4 +1,4 @@
--- `ranges::range::checked_range` meets its contract.
+-- `ranges::range::checked_range` meets its contract: by the answer of the tests.
 use denote.Ref.{now}
 use Rattle.ranges.proofs.Ranges.{checked-ok, checked-refused}
 use borrow.Author.Needs.{needs}

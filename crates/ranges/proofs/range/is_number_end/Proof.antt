@@ -1,4 +1,4 @@
--- `ranges::range::is_number_end` meets its contract.
+-- `ranges::range::is_number_end` meets its contract: by the end.
 use mathlib.Core.Path.{sym, ap, _∙_}
 use Rattle.ranges.specs.Checks.{isNumberEnd}
 use borrow.Author.Needs.{needs}

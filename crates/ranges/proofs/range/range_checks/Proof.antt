@@ -1,4 +1,4 @@
--- `ranges::range::range_checks` meets its contract.
+-- `ranges::range::range_checks` meets its contract: the tests in their order.
 use Rattle.misc.specs.Value.{optionOf}
 use Rattle.ranges.proofs.Ranges.{range-told}
 use borrow.Author.Needs.{needs}

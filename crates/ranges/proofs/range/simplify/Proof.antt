@@ -1,4 +1,4 @@
--- `ranges::range::simplify` meets its contract.
+-- `ranges::range::simplify` meets its contract: by the answer of the start.
 use denote.Ref.{now}
 use Rattle.ranges.proofs.Ranges.{range-ok, range-refused}
 use borrow.Author.Needs.{needs}

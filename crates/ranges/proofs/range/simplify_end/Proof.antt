@@ -1,4 +1,4 @@
--- `ranges::range::simplify_end` meets its contract.
+-- `ranges::range::simplify_end` meets its contract: by the end and its answer.
 use denote.Ref.{now}
 use Rattle.ranges.proofs.Ranges.{end-none, end-ok, end-refused}
 use borrow.Author.Needs.{needs}

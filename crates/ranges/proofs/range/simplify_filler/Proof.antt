@@ -1,4 +1,4 @@
--- `ranges::range::simplify_filler` meets its contract.
+-- `ranges::range::simplify_filler` meets its contract: by the start and the end.
 use Rattle.ranges.proofs.Ranges.{filler-told}
 use borrow.Author.Needs.{needs}
 use Rattle.ranges.proofs.range.simplify_filler.Statement.{statement}

@@ -1,4 +1,4 @@
--- `ranges::range::simplify_rest` meets its contract.
+-- `ranges::range::simplify_rest` meets its contract: by the answer of the end.
 use denote.Ref.{now}
 use Rattle.ranges.proofs.Ranges.{rest-ok, rest-refused}
 use borrow.Author.Needs.{needs}

@@ -1,4 +1,4 @@
--- `ranges::range::static_range` meets its contract.
+-- `ranges::range::static_range` meets its contract: by both bounds.
 use Rattle.ranges.proofs.Ranges.{static-told}
 use borrow.Author.Needs.{needs}
 use Rattle.ranges.proofs.range.static_range.Statement.{statement}

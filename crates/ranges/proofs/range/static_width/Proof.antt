@@ -1,4 +1,4 @@
--- `ranges::range::static_width` meets its contract.
+-- `ranges::range::static_width` meets its contract: by the end.
 use denote.Ref.{now}
 use Rattle.ranges.proofs.Ranges.{width-told}
 use borrow.Author.Needs.{needs}

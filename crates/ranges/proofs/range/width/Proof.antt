@@ -1,4 +1,4 @@
--- `ranges::range::width` meets its contract.
+-- `ranges::range::width` meets its contract: by the texts.
 use denote.Ref.{now}
 use Rattle.ranges.proofs.Ranges.{width-known, width-unknown}
 use borrow.Author.Needs.{needs}

@@ -1,5 +1,5 @@
 -- `ranges::text::parse_text` meets its contract: a text that lacks a byte is no number.
-use mathlib.Core.Path.{_≡_, sym, ap, _∙_}
+use mathlib.Core.Path.{_∙_}
 use Prim.Native.Nat.{_+_, _-_}
 use native.Mathlib.Omega.{arith}
 use denote.Ref.{now}
