@@ -1,1 +1,2 @@
 -- What the writers of the answer area say.
+pub mod Numbers

@@ -1,10 +1,20 @@
 // The answer area (document 01): writers of its blocks into a lent area. Each writes its bytes from a place on, those that lie
 // inside the area, and leaves all other bytes as they were.
+use misc::I128;
+use misc::OptionUsize;
+use usb::Part;
+use usb::Usb;
 ghost use mathlib.Core.Path.{_≡_};
-ghost use mathlib.Core.List.{[], _∷_, _++_};
-ghost use Prim.Native.Nat.{_/_, _%_, _^_};
+ghost use mathlib.Core.List.{List, [], _∷_, _++_};
+ghost use Prim.Native.Nat.{ℕ, _/_, _%_, _^_};
+ghost use lib.ListN.{length};
 ghost use lib.Seq.{sets};
 ghost use Rattle.def_image.specs.Tree.{u32};
+ghost use Rattle.def_stages.specs.Text as Text;
+ghost use Rattle.def_run.specs.Answer.{widthBytes, textBytes, xBytes, usbBytes};
+ghost use Rattle.misc.specs.Value.{optionUsize, valueOf};
+ghost use Rattle.usb.specs.Usb.{usbOf};
+ghost use Rattle.answer.specs.Numbers.{numberOf, startOf};
 
 fn put_byte(area: &mut [u8], at: usize, b: u8)
     ensures { λ _. ⌜ now (area .exit) ≡ sets (now (area .entry)) at (b ∷ []) ⌝ }
@@ -25,4 +35,76 @@ pub fn put_u32(area: &mut [u8], at: usize, n: u32)
     put_byte(area, at + 1, (n / 256 % 256) as u8);
     put_byte(area, at + 2, (n / 65536 % 256) as u8);
     put_byte(area, at + 3, (n / 16777216 % 256) as u8);
+}
+
+// Two numbers of 32 bits, the low half first.
+pub fn put_u64(area: &mut [u8], at: usize, n: u64)
+    ensures { λ _. ⌜ now (area .exit) ≡ sets (now (area .entry)) at (u32 (n % 2 ^ 32) ++ u32 (n / 2 ^ 32)) ⌝ }
+{
+    if area.len() <= at {
+        return;
+    }
+    put_u32(area, at, (n % 4294967296) as u32);
+    put_u32(area, at + 4, (n / 4294967296) as u32);
+}
+
+// An absent width is 0.
+fn width_number(w: OptionUsize) -> u64
+    ensures { λ r. ⌜ r ≡ numberOf (optionUsize w) ⌝ }
+{
+    match w {
+        OptionUsize::Some(n) => n as u64,
+        OptionUsize::None => 0,
+    }
+}
+
+pub fn put_width(area: &mut [u8], at: usize, w: OptionUsize)
+    ensures { λ _. ⌜ now (area .exit) ≡ sets (now (area .entry)) at (widthBytes (optionUsize w)) ⌝ }
+{
+    put_u64(area, at, width_number(w));
+}
+
+// Where a text starts, of a component whose own text starts at `base`; an empty one starts at 0.
+fn text_start(base: u32, p: Part) -> u32
+    ensures { λ r. ⌜ r ≡ startOf base (p .at) (p .len) ⌝ }
+{
+    if p.len == 0 {
+        return 0;
+    }
+    let start = std::num::wrapping_add_usize(base as usize, p.at);
+    (start % 4294967296) as u32
+}
+
+// The text of every part with this offset and this number of bytes.
+pub fn put_text(area: &mut [u8], at: usize, base: u32, p: Part)
+    ensures { λ _. ⌜ ((d : Text.Part) → d .at ≡ p .at → length (d .bytes) ≡ p .len
+        → now (area .exit) ≡ sets (now (area .entry)) at (textBytes base d)) ⌝ }
+{
+    if area.len() <= at {
+        return;
+    }
+    put_u32(area, at, text_start(base, p));
+    put_u32(area, at + 4, (p.len % 4294967296) as u32);
+}
+
+// Two's complement in 16 bytes, the low half first.
+pub fn put_x(area: &mut [u8], at: usize, x: I128)
+    ensures { λ _. ⌜ now (area .exit) ≡ sets (now (area .entry)) at (xBytes (valueOf x)) ⌝ }
+{
+    if area.len() <= at {
+        return;
+    }
+    put_u64(area, at, x.low);
+    put_u64(area, at + 8, x.high);
+}
+
+pub fn put_usb(area: &mut [u8], at: usize, base: u32, u: Usb)
+    ensures { λ _. ⌜ ((image : List ℕ) (text : ℕ)
+        → now (area .exit) ≡ sets (now (area .entry)) at (usbBytes base (usbOf image text u))) ⌝ }
+{
+    if area.len() <= at {
+        return;
+    }
+    put_text(area, at, base, u.s);
+    put_x(area, at + 8, u.x);
 }
