@@ -5,7 +5,7 @@ use mathlib.Core.List.{List, [], _∷_, _++_}
 use Prim.Native.Nat.{ℕ, zero, suc, _+_, _≤_}
 use native.Mathlib.Nat.{add-zero, add-suc, suc-add, zero-add}
 use native.Mathlib.Omega.{arith}
-use lib.ListN.{length, take, drop, set, length-set}
+use lib.ListN.{length, take, drop, set, length-append}
 use lib.Seq.{sets, sets-eq, set-out}
 
 pub sets-append : (l : List ℕ) (i : ℕ) (a b : List ℕ) → sets (sets l i a) (i + length a) b ≡ sets l i (a ++ b)
@@ -29,3 +29,11 @@ pub four : (l : List ℕ) (i a b c d : ℕ) {l₁ l₂ l₃ e : List ℕ} → l�
     → e ≡ sets l i (a ∷ b ∷ c ∷ d ∷ [])
 four l i a b c d p q r s =
     and-then l i 3 (a ∷ b ∷ c ∷ []) (d ∷ []) (and-then l i 2 (a ∷ b ∷ []) (c ∷ []) (and-then l i 1 (a ∷ []) (b ∷ []) p refl q) refl r) refl s
+
+-- four blocks, each next to the one before
+pub four-blocks : (l : List ℕ) (i n₁ n₂ n₃ : ℕ) (a b c d : List ℕ) {m₁ m₂ m₃ e : List ℕ} → m₁ ≡ sets l i a → length a ≡ n₁
+    → m₂ ≡ sets m₁ (i + n₁) b → n₁ + length b ≡ n₂ → m₃ ≡ sets m₂ (i + n₂) c → n₂ + length c ≡ n₃ → e ≡ sets m₃ (i + n₃) d
+    → e ≡ sets l i (a ++ b ++ c ++ d)
+four-blocks l i n₁ n₂ n₃ a b c d p₁ q₁ p₂ q₂ p₃ q₃ p₄ =
+    and-then l i n₃ ((a ++ b) ++ c) d
+    (and-then l i n₂ (a ++ b) c (and-then l i n₁ a b p₁ q₁ p₂) (simp length-append (omega arith)) p₃) (simp length-append (omega arith)) p₄

@@ -2,3 +2,4 @@
 pub mod Laws
 pub mod Blocks
 pub mod Words
+pub mod Components

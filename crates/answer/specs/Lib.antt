@@ -1,2 +1,3 @@
 -- What the writers of the answer area say.
 pub mod Numbers
+pub mod Kinds

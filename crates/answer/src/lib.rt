@@ -2,8 +2,10 @@
 // inside the area, and leaves all other bytes as they were.
 use misc::I128;
 use misc::OptionUsize;
+use usb::OptionUsb;
 use usb::Part;
 use usb::Usb;
+use usb::Usbr;
 ghost use mathlib.Core.Path.{_≡_};
 ghost use mathlib.Core.List.{List, [], _∷_, _++_};
 ghost use Prim.Native.Nat.{ℕ, _/_, _%_, _^_};
@@ -11,9 +13,11 @@ ghost use lib.ListN.{length};
 ghost use lib.Seq.{sets};
 ghost use Rattle.def_image.specs.Tree.{u32};
 ghost use Rattle.def_stages.specs.Text as Text;
-ghost use Rattle.def_run.specs.Answer.{widthBytes, textBytes, xBytes, usbBytes};
+ghost use Rattle.def_stages.specs.Component.{Component};
+ghost use Rattle.def_run.specs.Answer.{widthBytes, textBytes, xBytes, usbBytes, componentBytes};
 ghost use Rattle.misc.specs.Value.{optionUsize, valueOf};
-ghost use Rattle.usb.specs.Usb.{usbOf};
+ghost use Rattle.usb.specs.Usb.{usbOf, usbrOf};
+ghost use Rattle.answer.specs.Kinds.{HasKind, fieldsOf, hasEnd, endOrZero};
 ghost use Rattle.answer.specs.Numbers.{numberOf, startOf};
 
 fn put_byte(area: &mut [u8], at: usize, b: u8)
@@ -107,4 +111,94 @@ pub fn put_usb(area: &mut [u8], at: usize, base: u32, u: Usb)
     }
     put_text(area, at, base, u.s);
     put_x(area, at + 8, u.x);
+}
+
+// What a component is: a literal of so many bits, a variable with its text, or a filler.
+pub enum Kind {
+    Literal(u32),
+    Variable(Part),
+    Filler,
+}
+
+// The first fields of a component.
+struct Fields {
+    kind: u32,
+    text: Part,
+    width: u32,
+    offset: u32,
+}
+
+fn fields_of(kind: Kind, offset: u32) -> Fields
+    ensures { λ r. ⌜ r ≡ fieldsOf kind offset ⌝ }
+{
+    match kind {
+        Kind::Literal(w) => Fields {
+            kind: 1,
+            text: Part { at: 0, len: 0 },
+            width: w,
+            offset,
+        },
+        Kind::Variable(p) => Fields {
+            kind: 2,
+            text: p,
+            width: 0,
+            offset: 0,
+        },
+        Kind::Filler => Fields {
+            kind: 3,
+            text: Part { at: 0, len: 0 },
+            width: 0,
+            offset: 0,
+        },
+    }
+}
+
+fn put_fields(area: &mut [u8], at: usize, base: u32, f: Fields)
+    ensures { λ _. ⌜ ((d : Text.Part) → d .at ≡ f .text .at → length (d .bytes) ≡ f .text .len
+        → now (area .exit) ≡ sets (now (area .entry)) at (u32 (f .kind) ++ textBytes base d ++ u32 (f .width) ++ u32 (f .offset))) ⌝ }
+{
+    if area.len() <= at {
+        return;
+    }
+    put_u32(area, at, f.kind);
+    put_text(area, at + 4, base, f.text);
+    put_u32(area, at + 12, f.width);
+    put_u32(area, at + 16, f.offset);
+}
+
+fn has_end(e: OptionUsb) -> u32
+    ensures { λ r. ⌜ r ≡ hasEnd e ⌝ }
+{
+    match e {
+        OptionUsb::Some(_) => 1,
+        OptionUsb::None => 0,
+    }
+}
+
+// An absent end is written as 0 without a text: zeros.
+fn end_or_zero(e: OptionUsb) -> Usb
+    ensures { λ r. ⌜ r ≡ endOrZero e ⌝ }
+{
+    match e {
+        OptionUsb::Some(u) => u,
+        OptionUsb::None => Usb {
+            s: Part { at: 0, len: 0 },
+            x: I128 { high: 0, low: 0 },
+        },
+    }
+}
+
+// 72 bytes, of every component of this kind and this range.
+pub fn put_component(area: &mut [u8], at: usize, base: u32, offset: u32, kind: Kind, range: Usbr)
+    ensures { λ _. ⌜ ((image : List ℕ) (text : ℕ) (c : Component) → HasKind image text kind (c .c-type) → c .range ≡ usbrOf image text range
+        → now (area .exit) ≡ sets (now (area .entry)) at (componentBytes offset (record { base = base; value = c }))) ⌝ }
+{
+    if area.len() <= at {
+        return;
+    }
+    let stop = range.end;
+    put_fields(area, at, base, fields_of(kind, offset));
+    put_u32(area, at + 20, has_end(stop));
+    put_usb(area, at + 24, base, range.start);
+    put_usb(area, at + 48, base, end_or_zero(stop));
 }
