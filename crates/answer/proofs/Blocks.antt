@@ -24,10 +24,6 @@ pub wide-of : (o : Option ℕ) {n : ℕ} → n ≡ numberOf o → u32 (n % 2 ^ 3
 wide-of none e = rw e
 wide-of (some n) e = rw e
 
-pub length-wide : (o : Option ℕ) → length (widthBytes o) ≡ 8
-length-wide none = refl
-length-wide (some n) = refl
-
 -- a byte of a number, and of the number modulo a higher power
 byte : (n m k : ℕ) → n % 2 ^ (m + 8 + k) / 2 ^ k % 2 ^ 8 ≡ n / 2 ^ k % 2 ^ 8
 byte n m k = rw (field n (m + 8) k) (mod-mod-pow (n / 2 ^ k) m 8)

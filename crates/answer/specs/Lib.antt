@@ -1,3 +1,5 @@
--- What the writers of the answer area say.
+-- What the writers of the answer area say, and the laws of writing that their callers cite too.
+pub mod Writing
 pub mod Numbers
 pub mod Kinds
+pub mod Heads

@@ -8,15 +8,17 @@ use usb::Usb;
 use usb::Usbr;
 ghost use mathlib.Core.Path.{_≡_};
 ghost use mathlib.Core.List.{List, [], _∷_, _++_};
-ghost use Prim.Native.Nat.{ℕ, _/_, _%_, _^_};
+ghost use Prim.Native.Nat.{ℕ, _+_, _≤_, _/_, _%_, _^_};
 ghost use lib.ListN.{length};
 ghost use lib.Seq.{sets};
 ghost use Rattle.def_image.specs.Tree.{u32};
 ghost use Rattle.def_stages.specs.Text as Text;
 ghost use Rattle.def_stages.specs.Component.{Component};
-ghost use Rattle.def_run.specs.Answer.{widthBytes, textBytes, xBytes, usbBytes, componentBytes};
+ghost use Rattle.def_stages.specs.Concatenation.{Concatenation};
+ghost use Rattle.def_run.specs.Answer.{flag as flagOf, Answer, widthBytes, textBytes, xBytes, usbBytes, componentBytes, concatenationBytes, headBytes};
 ghost use Rattle.misc.specs.Value.{optionUsize, valueOf};
 ghost use Rattle.usb.specs.Usb.{usbOf, usbrOf};
+ghost use Rattle.answer.specs.Heads.{IsConcatenation, IsHead, initOf, startText};
 ghost use Rattle.answer.specs.Kinds.{HasKind, fieldsOf, hasEnd, endOrZero};
 ghost use Rattle.answer.specs.Numbers.{numberOf, startOf};
 
@@ -201,4 +203,99 @@ pub fn put_component(area: &mut [u8], at: usize, base: u32, offset: u32, kind: K
     put_u32(area, at + 20, has_end(stop));
     put_usb(area, at + 24, base, range.start);
     put_usb(area, at + 48, base, end_or_zero(stop));
+}
+
+fn flag(b: bool, n: u32) -> u32
+    ensures { λ r. ⌜ (r ≡ flagOf b n) × (r ≤ n) ⌝ }
+{
+    if b { n } else { 0 }
+}
+
+// 1 deterministic, 2 nonzero, 4 starting value given.
+fn flags(deterministic: bool, nonzero: bool, given: bool) -> u32
+    ensures { λ r. ⌜ r ≡ flagOf deterministic 1 + flagOf nonzero 2 + flagOf given 4 ⌝ }
+{
+    let d = flag(deterministic, 1);
+    let z = flag(nonzero, 2);
+    let g = flag(given, 4);
+    d + z + g
+}
+
+// 20 bytes, of every concatenation that has as many components, this alignment, these flags and this width.
+pub fn put_concatenation(
+    area: &mut [u8],
+    at: usize,
+    size: u32,
+    align: u32,
+    deterministic: bool,
+    nonzero: bool,
+    width: OptionUsize,
+)
+    ensures { λ _. ⌜ ((c : Concatenation) → IsConcatenation size align deterministic nonzero (optionUsize width) c
+        → now (area .exit) ≡ sets (now (area .entry)) at (concatenationBytes c)) ⌝ }
+{
+    if area.len() <= at {
+        return;
+    }
+    put_u32(area, at, size);
+    put_u32(area, at + 4, align);
+    put_u32(area, at + 8, flags(deterministic, nonzero, false));
+    put_width(area, at + 12, width);
+}
+
+// The starting value, if there is one: where its component's text starts, and its part of that text.
+pub enum Init {
+    Given(u32, Part),
+    Missing,
+}
+
+struct Start {
+    given: bool,
+    base: u32,
+    text: Part,
+}
+
+fn start_of(init: Init) -> Start
+    ensures { λ r. ⌜ r ≡ startText init ⌝ }
+{
+    match init {
+        Init::Given(base, text) => Start {
+            given: true,
+            base,
+            text,
+        },
+        Init::Missing => Start {
+            given: false,
+            base: 0,
+            text: Part { at: 0, len: 0 },
+        },
+    }
+}
+
+// 32 bytes, of every answer with these counts, this width, alignment and flags, and this starting value.
+pub fn put_head(
+    area: &mut [u8],
+    at: usize,
+    size: u32,
+    merged: u32,
+    align: u32,
+    deterministic: bool,
+    nonzero: bool,
+    width: OptionUsize,
+    init: Init,
+)
+    ensures { λ _. ⌜ ((image : List ℕ) (text : ℕ) (a : Answer)
+        → IsHead size merged align deterministic nonzero (optionUsize width) (initOf image text init) a
+        → now (area .exit) ≡ sets (now (area .entry)) at (headBytes a)) ⌝ }
+{
+    if area.len() <= at {
+        return;
+    }
+    let start = start_of(init);
+    put_u32(area, at, size);
+    put_u32(area, at + 4, merged);
+    put_width(area, at + 8, width);
+    put_u32(area, at + 16, flags(deterministic, nonzero, start.given));
+    put_u32(area, at + 20, align);
+    put_text(area, at + 24, start.base, start.text);
 }

@@ -2,7 +2,7 @@
 -- Assumes nothing.
 use mathlib.Core.List.{[], _∷_}
 use borrow.Author.Needs.{needs}
-use Rattle.answer.proofs.Laws.{sets-out}
+use Rattle.answer.specs.Writing.{sets-out}
 use Rattle.answer.proofs.put_byte.Statement.{statement}
 use Rattle.answer.proofs.put_byte.Tie as tie
 

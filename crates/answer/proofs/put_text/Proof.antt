@@ -6,7 +6,7 @@ use lib.Seq.{sets}
 use borrow.Author.Needs.{needs}
 use Rattle.def_image.specs.Tree.{u32}
 use Rattle.def_run.specs.Answer.{textBytes}
-use Rattle.answer.proofs.Laws.{sets-out, and-then}
+use Rattle.answer.specs.Writing.{sets-out, and-then}
 use Rattle.answer.proofs.Blocks.{text-of}
 use Rattle.answer.proofs.put_text.Statement.{statement}
 use Rattle.answer.proofs.put_text.Tie as tie

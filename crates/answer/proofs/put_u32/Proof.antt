@@ -2,7 +2,7 @@
 -- Assumes nothing.
 use borrow.Author.Needs.{needs}
 use Rattle.def_image.specs.Tree.{u32}
-use Rattle.answer.proofs.Laws.{sets-out, four}
+use Rattle.answer.specs.Writing.{sets-out, four}
 use Rattle.answer.proofs.put_u32.Statement.{statement}
 use Rattle.answer.proofs.put_u32.Tie as tie
 

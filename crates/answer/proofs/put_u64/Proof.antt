@@ -5,7 +5,7 @@ use mathlib.Core.List.{_++_}
 use Prim.Native.Nat.{_/_, _%_, _^_}
 use borrow.Author.Needs.{needs}
 use Rattle.def_image.specs.Tree.{u32}
-use Rattle.answer.proofs.Laws.{sets-out, and-then}
+use Rattle.answer.specs.Writing.{sets-out, and-then}
 use Rattle.answer.proofs.put_u64.Statement.{statement}
 use Rattle.answer.proofs.put_u64.Tie as tie
 

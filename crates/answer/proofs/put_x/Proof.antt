@@ -9,7 +9,7 @@ use borrow.Author.Needs.{needs}
 use Rattle.def_image.specs.Tree.{u32}
 use Rattle.def_run.specs.Answer.{xBytes}
 use Rattle.misc.specs.Value.{valueOf}
-use Rattle.answer.proofs.Laws.{sets-out, and-then}
+use Rattle.answer.specs.Writing.{sets-out, and-then}
 use Rattle.answer.proofs.Words.{x-of}
 use Rattle.answer.proofs.put_x.Statement.{statement}
 use Rattle.answer.proofs.put_x.Tie as tie

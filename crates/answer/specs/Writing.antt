@@ -37,3 +37,13 @@ pub four-blocks : (l : List ℕ) (i n₁ n₂ n₃ : ℕ) (a b c d : List ℕ) {
 four-blocks l i n₁ n₂ n₃ a b c d p₁ q₁ p₂ q₂ p₃ q₃ p₄ =
     and-then l i n₃ ((a ++ b) ++ c) d
     (and-then l i n₂ (a ++ b) c (and-then l i n₁ a b p₁ q₁ p₂) (simp length-append (omega arith)) p₃) (simp length-append (omega arith)) p₄
+
+-- and two more
+pub six-blocks : (l : List ℕ) (i n₁ n₂ n₃ n₄ n₅ : ℕ) (a b c d e f : List ℕ) {m₁ m₂ m₃ m₄ m₅ m₆ : List ℕ} → m₁ ≡ sets l i a → length a ≡ n₁
+    → m₂ ≡ sets m₁ (i + n₁) b → n₁ + length b ≡ n₂ → m₃ ≡ sets m₂ (i + n₂) c → n₂ + length c ≡ n₃ → m₄ ≡ sets m₃ (i + n₃) d
+    → n₃ + length d ≡ n₄ → m₅ ≡ sets m₄ (i + n₄) e → n₄ + length e ≡ n₅ → m₆ ≡ sets m₅ (i + n₅) f
+    → m₆ ≡ sets l i (a ++ b ++ c ++ d ++ e ++ f)
+six-blocks l i n₁ n₂ n₃ n₄ n₅ a b c d e f p₁ q₁ p₂ q₂ p₃ q₃ p₄ q₄ p₅ q₅ p₆ =
+    and-then l i n₅ (a ++ b ++ c ++ d ++ e) f
+    (and-then l i n₄ (a ++ b ++ c ++ d) e (four-blocks l i n₁ n₂ n₃ a b c d p₁ q₁ p₂ q₂ p₃ q₃ p₄) (simp length-append (omega arith)) p₅)
+    (simp length-append (omega arith)) p₆
