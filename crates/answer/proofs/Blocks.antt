@@ -1,22 +1,18 @@
 -- The definition's blocks of bytes, from the numbers that are written.
 -- Assumes nothing.
-use mathlib.Core.Path.{_≡_, refl, sym, ap, ap₂, _∙_}
+use mathlib.Core.Path.{_≡_, refl, ap, ap₂}
 use mathlib.Core.List.{List, [], _∷_, _++_}
 use Prim.Native.Nat.{ℕ, zero, suc, _+_, _/_, _%_, _^_}
 use native.Mathlib.Omega.{arith}
 use mathlib.Core.Option.{Option, none, some}
-use lib.IntN.{ℤ}
-use lib.ListN.{length, drop, length-append}
+use lib.ListN.{length, drop}
 use lib.Pow.{field, mod-mod-pow}
-use Rattle.def_numbers.specs.Basics.{tab}
 use Rattle.def_image.specs.Image.{padded}
 use Rattle.def_image.specs.Tree.{u32}
 use Rattle.def_stages.specs.Text.{Part}
-use Rattle.def_stages.specs.Ranges.{Usb}
-use Rattle.def_run.specs.Answer.{widthBytes, textBytes, twos, xBytes, usbBytes}
+use Rattle.def_run.specs.Answer.{widthBytes, textBytes}
 use Rattle.usb.specs.Usb.{bytesOf}
 use Rattle.usb.specs.declared.Part as usb
-use Rattle.laws.specs.Lists.{length-tab}
 use Rattle.laws.specs.Tests.{eqb-false}
 use Rattle.answer.specs.Numbers.{numberOf, startOf}
 
@@ -45,25 +41,12 @@ text-of base d {at} {len} {r} e p q = rw (e, ← p, ← q) (go (d .bytes))
     go [] = refl
     go (b ∷ s) = rw (eqb-false (suc (length s)) 0 (λ e. omega arith)) (ap₂ (λ (x y : List ℕ). x ++ y) (u32-mod (base + d .at)) (u32-mod (length (b ∷ s))))
 
-pub length-text : (base : ℕ) (d : Part) → length (textBytes base d) ≡ 8
-length-text base d = go (d .bytes)
-  where
-    go : (s : List ℕ) → length (textBytes base (record { at = d .at; bytes = s })) ≡ 8
-    go [] = refl
-    go (b ∷ s) = refl
-
 -- the start of a text, empty and not
 pub start-empty : (base at len : ℕ) → len ≡ 0 → 0 ≡ startOf base at len
 start-empty base at len h = rw h
 
 pub start-some : (base at len : ℕ) (s : ℕ) → (len ≡ 0 → ⊥) → s ≡ (base + at) % 2 ^ 64 → s % 2 ^ 32 ≡ startOf base at len
 start-some base at len s h e = rw (eqb-false len 0 h, e) (omega arith)
-
-pub length-x : (z : ℤ) → length (xBytes z) ≡ 16
-length-x z = length-tab (λ i. twos z / 256 ^ i % 256) 0 16
-
-pub length-usb : (base : ℕ) (u : Usb) → length (usbBytes base u) ≡ 24
-length-usb base u = let a = length-text base (u .s) in let b = length-x (u .x) in simp (length-append) (omega arith)
 
 -- as many bytes as a part names
 length-padded : (n : ℕ) (s : List ℕ) → length (padded n s) ≡ n

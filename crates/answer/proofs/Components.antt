@@ -1,6 +1,6 @@
 -- The bytes of a component, from those of its fields, of whether it has an end, and of its bounds.
 -- Assumes nothing.
-use mathlib.Core.Path.{_≡_, refl, ap, ap₂, _∙_}
+use mathlib.Core.Path.{_≡_, refl, ap, ap₂}
 use mathlib.Core.List.{List, _++_}
 use Prim.Native.Nat.{ℕ}
 use native.Mathlib.Omega.{arith}
@@ -22,7 +22,7 @@ use Rattle.answer.specs.declared.Fields.{Fields}
 use Rattle.answer.specs.declared.Kind.{Kind}
 use Rattle.answer.specs.declared.Kind.the-variants.{Literal, Variable, Filler}
 use Rattle.answer.specs.Kinds.{HasKind, fieldsOf, hasEnd, endOrZero}
-use Rattle.answer.proofs.Blocks.{length-text, length-usb}
+use Rattle.answer.specs.Sizes.{length-text}
 
 module _ (image : List ℕ) (text base : ℕ) where
   -- what is written of the fields

@@ -7,7 +7,7 @@ use borrow.Author.Needs.{needs}
 use Rattle.def_image.specs.Tree.{u32}
 use Rattle.def_run.specs.Answer.{textBytes}
 use Rattle.answer.specs.Writing.{sets-out, four-blocks}
-use Rattle.answer.proofs.Blocks.{length-text}
+use Rattle.answer.specs.Sizes.{length-text}
 use Rattle.answer.proofs.put_fields.Statement.{statement}
 use Rattle.answer.proofs.put_fields.Tie as tie
 

@@ -7,7 +7,8 @@ use Rattle.def_run.specs.Answer.{textBytes, xBytes, usbBytes}
 use Rattle.misc.specs.Value.{valueOf}
 use Rattle.usb.specs.Usb.{bytesOf, partOf, usbOf}
 use Rattle.answer.specs.Writing.{sets-out, and-then}
-use Rattle.answer.proofs.Blocks.{length-text, length-bytes}
+use Rattle.answer.specs.Sizes.{length-text}
+use Rattle.answer.proofs.Blocks.{length-bytes}
 use Rattle.answer.proofs.put_usb.Statement.{statement}
 use Rattle.answer.proofs.put_usb.Tie as tie
 
