@@ -1,26 +1,31 @@
 // The answer area (document 01): writers of its blocks into a lent area. Each writes its bytes from a place on, those that lie
 // inside the area, and leaves all other bytes as they were.
+mod values;
+
 use misc::I128;
 use misc::OptionUsize;
-use usb::OptionUsb;
 use usb::Part;
 use usb::Usb;
 use usb::Usbr;
+use values::end_or_zero;
+use values::flags;
+use values::has_end;
+use values::text_start;
+use values::width_number;
 ghost use mathlib.Core.Path.{_≡_};
 ghost use mathlib.Core.List.{List, [], _∷_, _++_};
-ghost use Prim.Native.Nat.{ℕ, _+_, _≤_, _/_, _%_, _^_};
+ghost use Prim.Native.Nat.{ℕ, _/_, _%_, _^_};
 ghost use lib.ListN.{length};
 ghost use lib.Seq.{sets};
 ghost use Rattle.def_image.specs.Tree.{u32};
 ghost use Rattle.def_stages.specs.Text as Text;
 ghost use Rattle.def_stages.specs.Component.{Component};
 ghost use Rattle.def_stages.specs.Concatenation.{Concatenation};
-ghost use Rattle.def_run.specs.Answer.{flag as flagOf, Answer, widthBytes, textBytes, xBytes, usbBytes, componentBytes, concatenationBytes, headBytes};
+ghost use Rattle.def_run.specs.Answer.{Answer, widthBytes, textBytes, xBytes, usbBytes, componentBytes, concatenationBytes, headBytes};
 ghost use Rattle.misc.specs.Value.{optionUsize, valueOf};
 ghost use Rattle.usb.specs.Usb.{usbOf, usbrOf};
 ghost use Rattle.answer.specs.Heads.{IsConcatenation, IsHead, initOf, startText};
-ghost use Rattle.answer.specs.Kinds.{HasKind, fieldsOf, hasEnd, endOrZero};
-ghost use Rattle.answer.specs.Numbers.{numberOf, startOf};
+ghost use Rattle.answer.specs.Kinds.{HasKind, fieldsOf};
 
 fn put_byte(area: &mut [u8], at: usize, b: u8)
     ensures { λ _. ⌜ now (area .exit) ≡ sets (now (area .entry)) at (b ∷ []) ⌝ }
@@ -54,31 +59,10 @@ pub fn put_u64(area: &mut [u8], at: usize, n: u64)
     put_u32(area, at + 4, (n / 4294967296) as u32);
 }
 
-// An absent width is 0.
-fn width_number(w: OptionUsize) -> u64
-    ensures { λ r. ⌜ r ≡ numberOf (optionUsize w) ⌝ }
-{
-    match w {
-        OptionUsize::Some(n) => n as u64,
-        OptionUsize::None => 0,
-    }
-}
-
 pub fn put_width(area: &mut [u8], at: usize, w: OptionUsize)
     ensures { λ _. ⌜ now (area .exit) ≡ sets (now (area .entry)) at (widthBytes (optionUsize w)) ⌝ }
 {
     put_u64(area, at, width_number(w));
-}
-
-// Where a text starts, of a component whose own text starts at `base`; an empty one starts at 0.
-fn text_start(base: u32, p: Part) -> u32
-    ensures { λ r. ⌜ r ≡ startOf base (p .at) (p .len) ⌝ }
-{
-    if p.len == 0 {
-        return 0;
-    }
-    let start = std::num::wrapping_add_usize(base as usize, p.at);
-    (start % 4294967296) as u32
 }
 
 // The text of every part with this offset and this number of bytes.
@@ -168,28 +152,6 @@ fn put_fields(area: &mut [u8], at: usize, base: u32, f: Fields)
     put_u32(area, at + 16, f.offset);
 }
 
-fn has_end(e: OptionUsb) -> u32
-    ensures { λ r. ⌜ r ≡ hasEnd e ⌝ }
-{
-    match e {
-        OptionUsb::Some(_) => 1,
-        OptionUsb::None => 0,
-    }
-}
-
-// An absent end is written as 0 without a text: zeros.
-fn end_or_zero(e: OptionUsb) -> Usb
-    ensures { λ r. ⌜ r ≡ endOrZero e ⌝ }
-{
-    match e {
-        OptionUsb::Some(u) => u,
-        OptionUsb::None => Usb {
-            s: Part { at: 0, len: 0 },
-            x: I128 { high: 0, low: 0 },
-        },
-    }
-}
-
 // 72 bytes, of every component of this kind and this range.
 pub fn put_component(area: &mut [u8], at: usize, base: u32, offset: u32, kind: Kind, range: Usbr)
     ensures { λ _. ⌜ ((image : List ℕ) (text : ℕ) (c : Component) → HasKind image text kind (c .c-type) → c .range ≡ usbrOf image text range
@@ -203,22 +165,6 @@ pub fn put_component(area: &mut [u8], at: usize, base: u32, offset: u32, kind: K
     put_u32(area, at + 20, has_end(stop));
     put_usb(area, at + 24, base, range.start);
     put_usb(area, at + 48, base, end_or_zero(stop));
-}
-
-fn flag(b: bool, n: u32) -> u32
-    ensures { λ r. ⌜ (r ≡ flagOf b n) × (r ≤ n) ⌝ }
-{
-    if b { n } else { 0 }
-}
-
-// 1 deterministic, 2 nonzero, 4 starting value given.
-fn flags(deterministic: bool, nonzero: bool, given: bool) -> u32
-    ensures { λ r. ⌜ r ≡ flagOf deterministic 1 + flagOf nonzero 2 + flagOf given 4 ⌝ }
-{
-    let d = flag(deterministic, 1);
-    let z = flag(nonzero, 2);
-    let g = flag(given, 4);
-    d + z + g
 }
 
 // 20 bytes, of every concatenation that has as many components, this alignment, these flags and this width.
