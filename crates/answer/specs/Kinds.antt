@@ -2,7 +2,6 @@
 use mathlib.Core.Path.{_≡_}
 use Rattle.def_numbers.specs.Prelude.{ℕ, List, length}
 use Rattle.def_stages.specs.Component.{ComponentType, literal, variable, filler}
-use Rattle.misc.specs.declared.I128.{I128}
 use Rattle.usb.specs.declared.Part.{Part}
 use Rattle.usb.specs.declared.Usb.{Usb}
 use Rattle.usb.specs.declared.OptionUsb.{OptionUsb}

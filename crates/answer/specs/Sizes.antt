@@ -2,14 +2,12 @@
 use mathlib.Core.Path.{_≡_, refl}
 use Prim.Native.Nat.{ℕ, _/_, _%_, _^_}
 use native.Mathlib.Omega.{arith}
-use mathlib.Core.List.{List, [], _∷_, _++_}
+use mathlib.Core.List.{List, [], _∷_}
 use mathlib.Core.Option.{Option, none, some}
 use lib.IntN.{ℤ}
 use lib.ListN.{length, length-append}
 use Rattle.def_numbers.specs.Limits.{sizes}
-use Rattle.def_numbers.specs.Basics.{tab}
 use Rattle.def_image.specs.Image.{Placed}
-use Rattle.def_image.specs.Tree.{u32}
 use Rattle.def_stages.specs.Text.{Part}
 use Rattle.def_stages.specs.Ranges.{Usb}
 use Rattle.def_stages.specs.Component.{Component, ComponentType, literal, variable, filler}

@@ -2,7 +2,6 @@
 -- Assumes nothing.
 use mathlib.Core.Path.{refl}
 use mathlib.Core.List.{_++_}
-use native.Mathlib.Omega.{arith}
 use borrow.Author.Needs.{needs}
 use Rattle.def_image.specs.Tree.{u32}
 use Rattle.def_run.specs.Answer.{textBytes}

@@ -1,11 +1,10 @@
 -- `answer::put_usb` meets its contract: a text and a number, one next to the other.
 -- Assumes nothing.
 use mathlib.Core.Path.{refl}
-use lib.Seq.{sets}
 use borrow.Author.Needs.{needs}
 use Rattle.def_run.specs.Answer.{textBytes, xBytes, usbBytes}
 use Rattle.misc.specs.Value.{valueOf}
-use Rattle.usb.specs.Usb.{bytesOf, partOf, usbOf}
+use Rattle.usb.specs.Usb.{partOf, usbOf}
 use Rattle.answer.specs.Writing.{sets-out, and-then}
 use Rattle.answer.specs.Sizes.{length-text}
 use Rattle.answer.proofs.Blocks.{length-bytes}
