@@ -1,0 +1,5 @@
+-- Laws over plain variables that the functions' proofs cite.
+pub mod Blocks
+pub mod Words
+pub mod Components
+pub mod Heads

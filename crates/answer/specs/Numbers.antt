@@ -1,0 +1,12 @@
+-- The numbers that the blocks of the answer area hold.
+use Rattle.def_numbers.specs.Prelude.{ℕ, _+_, _%_, _^_, Option, none, some, eqb}
+use Rattle.def_numbers.specs.Basics.{if_then_else_}
+
+-- a known width, or 0
+abbrev pub numberOf : Option ℕ → ℕ
+numberOf none = 0
+numberOf (some n) = n
+
+-- the start of a text of some length at an offset of the component's text, in 32 bits; "empty texts are zeros"
+abbrev pub startOf : ℕ → ℕ → ℕ → ℕ
+startOf base at len = if eqb len 0 then 0 else (base + at) % 2 ^ 32

@@ -1,0 +1,247 @@
+// The answer area (document 01): writers of its blocks into a lent area. Each writes its bytes from a place on, those that lie
+// inside the area, and leaves all other bytes as they were.
+mod values;
+
+use misc::I128;
+use misc::OptionUsize;
+use usb::Part;
+use usb::Usb;
+use usb::Usbr;
+use values::end_or_zero;
+use values::flags;
+use values::has_end;
+use values::text_start;
+use values::width_number;
+ghost use mathlib.Core.Path.{_≡_};
+ghost use mathlib.Core.List.{List, [], _∷_, _++_};
+ghost use Prim.Native.Nat.{ℕ, _/_, _%_, _^_};
+ghost use lib.ListN.{length};
+ghost use lib.Seq.{sets};
+ghost use Rattle.def_image.specs.Tree.{u32};
+ghost use Rattle.def_stages.specs.Text as Text;
+ghost use Rattle.def_stages.specs.Component.{Component};
+ghost use Rattle.def_stages.specs.Concatenation.{Concatenation};
+ghost use Rattle.def_run.specs.Answer.{Answer, widthBytes, textBytes, xBytes, usbBytes, componentBytes, concatenationBytes, headBytes};
+ghost use Rattle.misc.specs.Value.{optionUsize, valueOf};
+ghost use Rattle.usb.specs.Usb.{usbOf, usbrOf};
+ghost use Rattle.answer.specs.Heads.{IsConcatenation, IsHead, initOf, startText};
+ghost use Rattle.answer.specs.Kinds.{HasKind, fieldsOf};
+
+fn put_byte(area: &mut [u8], at: usize, b: u8)
+    ensures { λ _. ⌜ now (area .exit) ≡ sets (now (area .entry)) at (b ∷ []) ⌝ }
+{
+    if at < area.len() {
+        area[at] = b;
+    }
+}
+
+// Little-endian. Past the area's end there is nothing to write, and before it no sum below wraps.
+pub fn put_u32(area: &mut [u8], at: usize, n: u32)
+    ensures { λ _. ⌜ now (area .exit) ≡ sets (now (area .entry)) at (u32 n) ⌝ }
+{
+    if area.len() <= at {
+        return;
+    }
+    put_byte(area, at, (n % 256) as u8);
+    put_byte(area, at + 1, (n / 256 % 256) as u8);
+    put_byte(area, at + 2, (n / 65536 % 256) as u8);
+    put_byte(area, at + 3, (n / 16777216 % 256) as u8);
+}
+
+// Two numbers of 32 bits, the low half first.
+pub fn put_u64(area: &mut [u8], at: usize, n: u64)
+    ensures { λ _. ⌜ now (area .exit) ≡ sets (now (area .entry)) at (u32 (n % 2 ^ 32) ++ u32 (n / 2 ^ 32)) ⌝ }
+{
+    if area.len() <= at {
+        return;
+    }
+    put_u32(area, at, (n % 4294967296) as u32);
+    put_u32(area, at + 4, (n / 4294967296) as u32);
+}
+
+pub fn put_width(area: &mut [u8], at: usize, w: OptionUsize)
+    ensures { λ _. ⌜ now (area .exit) ≡ sets (now (area .entry)) at (widthBytes (optionUsize w)) ⌝ }
+{
+    put_u64(area, at, width_number(w));
+}
+
+// The text of every part with this offset and this number of bytes.
+pub fn put_text(area: &mut [u8], at: usize, base: u32, p: Part)
+    ensures { λ _. ⌜ ((d : Text.Part) → d .at ≡ p .at → length (d .bytes) ≡ p .len
+        → now (area .exit) ≡ sets (now (area .entry)) at (textBytes base d)) ⌝ }
+{
+    if area.len() <= at {
+        return;
+    }
+    put_u32(area, at, text_start(base, p));
+    put_u32(area, at + 4, (p.len % 4294967296) as u32);
+}
+
+// Two's complement in 16 bytes, the low half first.
+pub fn put_x(area: &mut [u8], at: usize, x: I128)
+    ensures { λ _. ⌜ now (area .exit) ≡ sets (now (area .entry)) at (xBytes (valueOf x)) ⌝ }
+{
+    if area.len() <= at {
+        return;
+    }
+    put_u64(area, at, x.low);
+    put_u64(area, at + 8, x.high);
+}
+
+pub fn put_usb(area: &mut [u8], at: usize, base: u32, u: Usb)
+    ensures { λ _. ⌜ ((image : List ℕ) (text : ℕ)
+        → now (area .exit) ≡ sets (now (area .entry)) at (usbBytes base (usbOf image text u))) ⌝ }
+{
+    if area.len() <= at {
+        return;
+    }
+    put_text(area, at, base, u.s);
+    put_x(area, at + 8, u.x);
+}
+
+// What a component is: a literal of so many bits, a variable with its text, or a filler.
+pub enum Kind {
+    Literal(u32),
+    Variable(Part),
+    Filler,
+}
+
+// The first fields of a component.
+struct Fields {
+    kind: u32,
+    text: Part,
+    width: u32,
+    offset: u32,
+}
+
+fn fields_of(kind: Kind, offset: u32) -> Fields
+    ensures { λ r. ⌜ r ≡ fieldsOf kind offset ⌝ }
+{
+    match kind {
+        Kind::Literal(w) => Fields {
+            kind: 1,
+            text: Part { at: 0, len: 0 },
+            width: w,
+            offset,
+        },
+        Kind::Variable(p) => Fields {
+            kind: 2,
+            text: p,
+            width: 0,
+            offset: 0,
+        },
+        Kind::Filler => Fields {
+            kind: 3,
+            text: Part { at: 0, len: 0 },
+            width: 0,
+            offset: 0,
+        },
+    }
+}
+
+fn put_fields(area: &mut [u8], at: usize, base: u32, f: Fields)
+    ensures { λ _. ⌜ ((d : Text.Part) → d .at ≡ f .text .at → length (d .bytes) ≡ f .text .len
+        → now (area .exit) ≡ sets (now (area .entry)) at (u32 (f .kind) ++ textBytes base d ++ u32 (f .width) ++ u32 (f .offset))) ⌝ }
+{
+    if area.len() <= at {
+        return;
+    }
+    put_u32(area, at, f.kind);
+    put_text(area, at + 4, base, f.text);
+    put_u32(area, at + 12, f.width);
+    put_u32(area, at + 16, f.offset);
+}
+
+// 72 bytes, of every component of this kind and this range.
+pub fn put_component(area: &mut [u8], at: usize, base: u32, offset: u32, kind: Kind, range: Usbr)
+    ensures { λ _. ⌜ ((image : List ℕ) (text : ℕ) (c : Component) → HasKind image text kind (c .c-type) → c .range ≡ usbrOf image text range
+        → now (area .exit) ≡ sets (now (area .entry)) at (componentBytes offset (record { base = base; value = c }))) ⌝ }
+{
+    if area.len() <= at {
+        return;
+    }
+    let stop = range.end;
+    put_fields(area, at, base, fields_of(kind, offset));
+    put_u32(area, at + 20, has_end(stop));
+    put_usb(area, at + 24, base, range.start);
+    put_usb(area, at + 48, base, end_or_zero(stop));
+}
+
+// 20 bytes, of every concatenation that has as many components, this alignment, these flags and this width.
+pub fn put_concatenation(
+    area: &mut [u8],
+    at: usize,
+    size: u32,
+    align: u32,
+    deterministic: bool,
+    nonzero: bool,
+    width: OptionUsize,
+)
+    ensures { λ _. ⌜ ((c : Concatenation) → IsConcatenation size align deterministic nonzero (optionUsize width) c
+        → now (area .exit) ≡ sets (now (area .entry)) at (concatenationBytes c)) ⌝ }
+{
+    if area.len() <= at {
+        return;
+    }
+    put_u32(area, at, size);
+    put_u32(area, at + 4, align);
+    put_u32(area, at + 8, flags(deterministic, nonzero, false));
+    put_width(area, at + 12, width);
+}
+
+// The starting value, if there is one: where its component's text starts, and its part of that text.
+pub enum Init {
+    Given(u32, Part),
+    Missing,
+}
+
+struct Start {
+    given: bool,
+    base: u32,
+    text: Part,
+}
+
+fn start_of(init: Init) -> Start
+    ensures { λ r. ⌜ r ≡ startText init ⌝ }
+{
+    match init {
+        Init::Given(base, text) => Start {
+            given: true,
+            base,
+            text,
+        },
+        Init::Missing => Start {
+            given: false,
+            base: 0,
+            text: Part { at: 0, len: 0 },
+        },
+    }
+}
+
+// 32 bytes, of every answer with these counts, this width, alignment and flags, and this starting value.
+pub fn put_head(
+    area: &mut [u8],
+    at: usize,
+    size: u32,
+    merged: u32,
+    align: u32,
+    deterministic: bool,
+    nonzero: bool,
+    width: OptionUsize,
+    init: Init,
+)
+    ensures { λ _. ⌜ ((image : List ℕ) (text : ℕ) (a : Answer)
+        → IsHead size merged align deterministic nonzero (optionUsize width) (initOf image text init) a
+        → now (area .exit) ≡ sets (now (area .entry)) at (headBytes a)) ⌝ }
+{
+    if area.len() <= at {
+        return;
+    }
+    let start = start_of(init);
+    put_u32(area, at, size);
+    put_u32(area, at + 4, merged);
+    put_width(area, at + 8, width);
+    put_u32(area, at + 16, flags(deterministic, nonzero, start.given));
+    put_u32(area, at + 20, align);
+    put_text(area, at + 24, start.base, start.text);
+}
