@@ -7,7 +7,7 @@ use native.Mathlib.Omega.{arith}
 use mathlib.Core.Option.{Option, none, some}
 use lib.ListN.{length, drop}
 use lib.Pow.{field, mod-mod-pow}
-use Rattle.def_image.specs.Image.{padded}
+use Rattle.laws.specs.Padded.{length-padded}
 use Rattle.def_image.specs.Tree.{u32}
 use Rattle.def_stages.specs.Text.{Part}
 use Rattle.def_run.specs.Answer.{widthBytes, textBytes}
@@ -49,11 +49,5 @@ pub start-some : (base at len : ℕ) (s : ℕ) → (len ≡ 0 → ⊥) → s ≡
 start-some base at len s h e = rw (eqb-false len 0 h, e) (omega arith)
 
 -- as many bytes as a part names
-length-padded : (n : ℕ) (s : List ℕ) → length (padded n s) ≡ n
-unfolding padded
-length-padded zero s = refl
-length-padded (suc n) [] = ap suc (length-padded n [])
-length-padded (suc n) (b ∷ s) = ap suc (length-padded n s)
-
 pub length-bytes : (image : List ℕ) (text : ℕ) (p : usb.Part) → length (bytesOf image text p) ≡ p .len
 length-bytes image text p = length-padded (p .len) (drop (text + p .at) image)

@@ -1,25 +1,16 @@
 -- Writing a list of bytes into a longer one: bytes next to bytes, bytes past the end, and bytes from the front.
 -- Assumes nothing.
-use mathlib.Core.Path.{_≡_, refl, _∙_}
+use mathlib.Core.Path.{_≡_, refl, sym}
 use mathlib.Core.List.{List, [], _∷_, _++_}
-use Prim.Native.Nat.{ℕ, suc, _+_, _≤_}
-use native.Mathlib.Nat.{add-zero, add-suc, suc-add, zero-add}
+use Prim.Native.Nat.{ℕ, _+_, _≤_}
 use native.Mathlib.Omega.{arith}
-use lib.ListN.{length, drop, set, length-append}
-use lib.Seq.{sets, sets-eq, set-out}
-
-pub sets-append : (l : List ℕ) (i : ℕ) (a b : List ℕ) → sets (sets l i a) (i + length a) b ≡ sets l i (a ++ b)
-sets-append l i [] b = rw add-zero
-sets-append l i (x ∷ a) b = rw (add-suc, ← suc-add) (sets-append (set l i x) (suc i) a b)
+use lib.ListN.{length, set, length-append}
+use lib.Seq.{sets}
+use Rattle.laws.specs.Sets.{sets-append, sets-past}
 
 -- past the end
 pub sets-out : (l : List ℕ) (i : ℕ) (a : List ℕ) → length l ≤ i → l ≡ sets l i a
-sets-out l i [] h = refl
-sets-out l i (x ∷ a) h = rw (set-out l i x h) (sets-out l (suc i) a (omega arith))
-
--- from the front
-pub sets-front : (l bs : List ℕ) → length bs ≤ length l → sets l 0 bs ≡ bs ++ drop (length bs) l
-sets-front l bs h = sets-eq bs l 0 (rw zero-add h) ∙ rw zero-add
+sets-out l i a h = sym (sets-past l i a h)
 
 -- one write after another, m being what the first leaves and e what the second leaves
 pub and-then : (l : List ℕ) (i n : ℕ) (a b : List ℕ) {m e : List ℕ} → m ≡ sets l i a → length a ≡ n → e ≡ sets m (i + n) b → e ≡ sets l i (a ++ b)

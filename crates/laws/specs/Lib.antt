@@ -1,5 +1,7 @@
 -- Laws that the theorems share: tests, lists, and answers that may refuse.
 pub mod Lists
 pub mod Numbers
+pub mod Padded
 pub mod Results
+pub mod Sets
 pub mod Tests

@@ -10,23 +10,17 @@ use lib.Seq.{sets, length-sets, set-out, getD-set-same, getD-set-other, getD-dro
 use borrow.Author.Tests.{leb-true, leb-false, ltb-true, ltb-false}
 use Rattle.def_numbers.specs.Prelude.{List, [], _∷_, _++_, length, getD, drop, leb, ltb}
 use Rattle.def_image.specs.Image.{padded, bytesAt}
+use Rattle.laws.specs.Padded.{length-padded, getD-padded}
+use Rattle.laws.specs.Sets.{sets-append, sets-past}
 use Rattle.laws.specs.Tests.{by-test}
 
 module _ {A : Type 0} where
-  pub sets-append : (l : List A) (i : ℕ) (a b : List A) → sets (sets l i a) (i + length a) b ≡ sets l i (a ++ b)
-  sets-append l i [] b = ap (λ (k : ℕ). sets l k b) (add-zero i)
-  sets-append l i (x ∷ a) b = ap (λ (k : ℕ). sets (sets l i (x ∷ a)) k b) (add-suc i (length a) ∙ sym (suc-add i (length a))) ∙ sets-append (set l i x) (suc i) a b
-
   -- one more of the same
   pub sets-more : (l : List A) (i n : ℕ) (a : A) → set (sets l i (replicate n a)) (i + n) a ≡ sets l i (replicate (n + 1) a)
   sets-more l i n a =
       ap (λ (k : ℕ). set (sets l i (replicate n a)) (i + k) a) (sym (length-replicate n a))
       ∙ sets-append l i (replicate n a) (replicate 1 a)
       ∙ ap (sets l i) (replicate-append-replicate n 1 a)
-
-  pub sets-past : (l : List A) (i : ℕ) (vs : List A) → length l ≤ i → sets l i vs ≡ l
-  sets-past l i [] h = refl
-  sets-past l i (a ∷ vs) h = ap (λ (l : List A). sets l (suc i) vs) (set-out l i a h) ∙ sets-past l (suc i) vs (omega arith)
 
   -- what is past the end is not written
   pub sets-cut : (l : List A) (i n : ℕ) (a : A) → sets l i (replicate (min n (length l - i)) a) ≡ sets l i (replicate n a)
@@ -62,20 +56,6 @@ module _ {A : Type 0} where
       ∙ getD-sets-in (set l i a) (suc i) vs k d (rw length-set (omega arith)) (omega arith)
 
 -- ---- the bytes of a region: written back, and after a run as long
-
-pub length-padded : (n : ℕ) (s : List ℕ) → length (padded n s) ≡ n
-unfolding padded
-length-padded zero s = refl
-length-padded (suc n) [] = ap suc (length-padded n [])
-length-padded (suc n) (b ∷ s) = ap suc (length-padded n s)
-
-pub getD-padded : (n : ℕ) (s : List ℕ) (k : ℕ) → k < n → getD (padded n s) k 0 ≡ getD s k 0
-unfolding padded
-getD-padded zero s k h = absurd (omega arith)
-getD-padded (suc n) [] zero h = refl
-getD-padded (suc n) [] (suc k) h = getD-padded n [] k (omega arith)
-getD-padded (suc n) (b ∷ s) zero h = refl
-getD-padded (suc n) (b ∷ s) (suc k) h = getD-padded n s k (omega arith)
 
 pub bytesAt-sets : (l : List ℕ) (i : ℕ) (vs : List ℕ) → i + length vs ≤ length l → bytesAt (sets l i vs) i (length vs) ≡ vs
 bytesAt-sets l i vs h =

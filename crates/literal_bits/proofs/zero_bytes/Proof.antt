@@ -6,7 +6,8 @@ use native.Mathlib.Omega.{arith}
 use lib.ListN.{length, set, replicate}
 use lib.Seq.{sets, length-sets}
 use borrow.Author.Needs.{needs}
-use Rattle.literal_bits.specs.Runs.{sets-more, sets-past, sets-cut}
+use Rattle.laws.specs.Sets.{sets-past}
+use Rattle.literal_bits.specs.Runs.{sets-more, sets-cut}
 use Rattle.literal_bits.proofs.zero_bytes.Statement.{statement}
 use Rattle.literal_bits.proofs.zero_bytes.Tie as tie
 
