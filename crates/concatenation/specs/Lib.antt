@@ -1,0 +1,3 @@
+-- What the values of stages 3 and 4 in code mean.
+pub mod Align
+pub mod Running
