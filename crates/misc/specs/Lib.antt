@@ -1,2 +1,3 @@
--- What the numbers of 128 bits mean.
+-- What the numbers of 128 bits mean, and the steps towards it.
 pub mod Value
+pub mod Steps

@@ -1,0 +1,6 @@
+-- Laws over plain numbers that the functions' proofs cite.
+pub mod Halves
+pub mod Difference
+pub mod Words
+pub mod Sums
+pub mod Small
