@@ -1,7 +1,10 @@
 // Stages 3 and 4 over small values (src/concatenation.rs): alignments, the running check of a concatenation, and what the
 // concatenations say together.
 mod align;
+mod flags;
+mod overall;
 mod running;
 
 pub use align::FillerAlign;
+pub use overall::{Overall, OverallResult, Place, Summary};
 pub use running::{Running, Shape, Stepped};

@@ -2,6 +2,7 @@
 use crate::align::FillerAlign;
 use crate::align::filler_align;
 use crate::align::is_align;
+use crate::flags::both;
 use errors::Checked;
 use errors::Refusal;
 use misc::I128;
@@ -9,7 +10,7 @@ use misc::OptionI128;
 use misc::OptionUsize;
 
 ghost use mathlib.Core.Path.{_≡_};
-ghost use mathlib.Core.Bool.{not, _&&_};
+ghost use mathlib.Core.Bool.{not};
 ghost use mathlib.Core.Option.{some};
 ghost use lib.Dec.{eqb};
 ghost use Prim.Native.Nat.{_+_};
@@ -124,12 +125,6 @@ fn add_width(i: u32, width: OptionI128, r: Running) -> Stepped
             nonzero: r.nonzero,
         }),
     }
-}
-
-fn both(a: bool, b: bool) -> bool
-    ensures { λ r. ⌜ r ≡ (a && b) ⌝ }
-{
-    if a { b } else { false }
 }
 
 // An unbounded filler: 31, then 32.

@@ -1,19 +1,13 @@
 use borrow.Author.Needs.{needs}
 use Rattle.concatenation.proofs.align.is_align.Statement.{statement}
 use Rattle.concatenation.proofs.align.is_align.Tie as tie
-use Rattle.concatenation.proofs.align.is_align.Reads as reads
-use Rattle.concatenation.proofs.align.is_align.Lts as lts
-use Rattle.concatenation.proofs.align.align_number.Reads as align-number-reads
 
--- src/align.rt:33:5
 align-number-requires : tie.Need-align-number-requires
 align-number-requires c κs = search needs
 
--- src/align.rt:33:24
 align-number-requires-2 : tie.Need-align-number-requires-2
 align-number-requires-2 c κs = search needs
 
--- src/align.rt:30:1
 returns : tie.Need-returns
 returns c = rw (← c .before .align-number .ensures, ← c .align-number2 .ensures)
 

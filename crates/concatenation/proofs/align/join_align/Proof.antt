@@ -2,32 +2,22 @@ use mathlib.Core.Path.{sym, _∙_}
 use borrow.Author.Needs.{needs}
 use Rattle.concatenation.proofs.align.join_align.Statement.{statement}
 use Rattle.concatenation.proofs.align.join_align.Tie as tie
-use Rattle.concatenation.proofs.align.join_align.Reads as reads
-use Rattle.concatenation.proofs.align.join_align.Lts as lts
-use Rattle.concatenation.proofs.align.is_align.Reads as is-align-reads
-use Rattle.concatenation.proofs.align.join_sided.Reads as join-sided-reads
 
--- src/align.rt:69:8
 is-align-requires : tie.Need-is-align-requires
 is-align-requires c κs = search needs
 
--- src/align.rt:70:9
 returns : tie.Need-returns
 returns c = rw (sym (c .before .is-align .ensures) ∙ c .if1 .taken)
 
--- src/align.rt:72:8
 is-align-requires-2 : tie.Need-is-align-requires-2
 is-align-requires-2 c κs = search needs
 
--- src/align.rt:73:9
 returns-2 : tie.Need-returns-2
 returns-2 c = rw (sym (c .before .before .before .is-align .ensures) ∙ c .before .before .if1 .left, sym (c .before .is-align2 .ensures) ∙ c .if2 .taken)
 
--- src/align.rt:75:5
 join-sided-requires : tie.Need-join-sided-requires
 join-sided-requires c κs = search needs
 
--- src/align.rt:66:1
 returns-3 : tie.Need-returns-3
 returns-3 c = rw (sym (c .before .before .before .before .is-align .ensures) ∙ c .before .before .before .if1 .left, sym (c .before .before .is-align2 .ensures) ∙ c .before .if2 .left) (c .join-sided .ensures)
 

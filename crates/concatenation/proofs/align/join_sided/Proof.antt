@@ -2,35 +2,25 @@ use mathlib.Core.Path.{sym, _∙_}
 use borrow.Author.Needs.{needs}
 use Rattle.concatenation.proofs.align.join_sided.Statement.{statement}
 use Rattle.concatenation.proofs.align.join_sided.Tie as tie
-use Rattle.concatenation.proofs.align.join_sided.Reads as reads
-use Rattle.concatenation.proofs.align.join_sided.Lts as lts
-use Rattle.concatenation.proofs.align.is_align.Reads as is-align-reads
 
--- src/align.rt:53:8
 is-align-requires : tie.Need-is-align-requires
 is-align-requires c κs = search needs
 
--- src/align.rt:54:9
 returns : tie.Need-returns
 returns c = rw (sym (c .before .is-align .ensures) ∙ c .if1 .taken)
 
--- src/align.rt:56:8
 is-align-requires-2 : tie.Need-is-align-requires-2
 is-align-requires-2 c κs = search needs
 
--- src/align.rt:57:9
 returns-2 : tie.Need-returns-2
 returns-2 c = rw (sym (c .before .before .before .is-align .ensures) ∙ c .before .before .if1 .left, sym (c .before .is-align2 .ensures) ∙ c .if2 .taken)
 
--- src/align.rt:59:8
 is-align-requires-3 : tie.Need-is-align-requires-3
 is-align-requires-3 c κs = search needs
 
--- src/align.rt:60:9
 returns-3 : tie.Need-returns-3
 returns-3 c = rw (sym (c .before .before .before .before .before .is-align .ensures) ∙ c .before .before .before .before .if1 .left, sym (c .before .before .before .is-align2 .ensures) ∙ c .before .before .if2 .left, sym (c .before .is-align3 .ensures) ∙ c .if3 .taken)
 
--- src/align.rt:50:1
 returns-4 : tie.Need-returns-4
 returns-4 c = rw (sym (c .before .before .before .before .before .is-align .ensures) ∙ c .before .before .before .before .if1 .left, sym (c .before .before .before .is-align2 .ensures) ∙ c .before .before .if2 .left, sym (c .before .is-align3 .ensures) ∙ c .if3 .left)
 

@@ -4,22 +4,16 @@ use Rattle.concatenation.proofs.Widths.{fits, exceeds}
 use borrow.Author.Needs.{needs}
 use Rattle.concatenation.proofs.running.add_fitting.Statement.{statement}
 use Rattle.concatenation.proofs.running.add_fitting.Tie as tie
-use Rattle.concatenation.proofs.running.add_fitting.Reads as reads
-use Rattle.concatenation.proofs.running.add_fitting.Lts as lts
 
--- src/running.rt:60:13
 sub-if1 : tie.Need-sub-if1
 sub-if1 c = search needs
 
--- src/running.rt:61:27
 add-t6 : tie.Need-add-t6
 add-t6 c = search needs
 
--- src/running.rt:57:1
 returns : tie.Need-returns
 returns c = fits (c .before .args .n + c .before .args .m) (omega arith)
 
--- src/running.rt:57:1
 returns-2 : tie.Need-returns-2
 returns-2 c = exceeds (c .before .args .n + c .before .args .m) (omega arith)
 

@@ -6,44 +6,31 @@ use Rattle.concatenation.proofs.Steps.{add-unknown, add-fits, add-excee
 use borrow.Author.Needs.{needs}
 use Rattle.concatenation.proofs.running.add_known.Statement.{statement}
 use Rattle.concatenation.proofs.running.add_known.Tie as tie
-use Rattle.concatenation.proofs.running.add_known.Reads as reads
-use Rattle.concatenation.proofs.running.add_known.Lts as lts
-use Rattle.concatenation.proofs.running.refused.Reads as refused-reads
-use Rattle.concatenation.proofs.running.sum.Reads as sum-reads
 
--- src/running.rt:95:27
 enum-known-so-far : tie.Need-enum-known-so-far
 enum-known-so-far c = search needs
 
--- src/running.rt:97:20
 enum-told : tie.Need-enum-told
 enum-told c = search needs
 
--- src/running.rt:96:9
 returns : tie.Need-returns
 returns c = ap (placed (c .before .before .args .i) 0) (sym (add-unknown (valueOf (c .before .before .args .x)) (runningOf (c .before .before .args .r)) (ap optionUsize (c .enum-told .given .1))))
 
--- src/running.rt:103:11
 sum-requires : tie.Need-sum-requires
 sum-requires c κs = search needs
 
--- src/running.rt:104:27
 enum-known-w : tie.Need-enum-known-w
 enum-known-w c = search needs
 
--- src/running.rt:110:30
 enum-told-2 : tie.Need-enum-told-2
 enum-told-2 c = search needs
 
--- src/running.rt:110:30
 refused-requires : tie.Need-refused-requires
 refused-requires c κs = search needs
 
--- src/running.rt:90:1
 returns-2 : tie.Need-returns-2
 returns-2 c = ap (placed (c .before .before .before .before .before .before .before .args .i) 0) (sym (add-fits (c .before .before .before .before .before .so-far .given .0 .0) (c .before .w .given .0 .0) (valueOf (c .before .before .before .before .before .before .before .args .x)) (runningOf (c .before .before .before .before .before .before .before .args .r)) (ap optionUsize (c .before .before .before .before .before .so-far .given .1)) (sym (c .before .before .before .sum .ensures) ∙ ap optionUsize (c .before .w .given .1))))
 
--- src/running.rt:90:1
 returns-3 : tie.Need-returns-3
 returns-3 c = c .refused .ensures ∙ ap (placed (c .before .before .before .before .before .before .before .args .i) 0) (sym (add-exceeds (c .before .before .before .before .before .so-far .given .0 .0) (valueOf (c .before .before .before .before .before .before .before .args .x)) (runningOf (c .before .before .before .before .before .before .before .args .r)) (ap optionUsize (c .before .before .before .before .before .so-far .given .1)) (sym (c .before .before .before .sum .ensures) ∙ ap optionUsize (c .before .enum-told2 .given .1))))
 

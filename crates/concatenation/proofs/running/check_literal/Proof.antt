@@ -2,19 +2,13 @@ use borrow.Author.Tests.{eq-eqb, ne-eqb}
 use borrow.Author.Needs.{needs}
 use Rattle.concatenation.proofs.running.check_literal.Statement.{statement}
 use Rattle.concatenation.proofs.running.check_literal.Tie as tie
-use Rattle.concatenation.proofs.running.check_literal.Reads as reads
-use Rattle.concatenation.proofs.running.check_literal.Lts as lts
-use Rattle.concatenation.proofs.running.refused.Reads as refused-reads
 
--- src/running.rt:160:9
 refused-requires : tie.Need-refused-requires
 refused-requires c κs = search needs
 
--- src/running.rt:160:9
 returns : tie.Need-returns
 returns c = rw (ne-eqb (c .before .before .args .i) 0 (c .before .if1 .taken)) (c .refused .ensures)
 
--- src/running.rt:156:1
 returns-2 : tie.Need-returns-2
 returns-2 c = rw (eq-eqb (c .before .args .i) 0 (c .if1 .left))
 

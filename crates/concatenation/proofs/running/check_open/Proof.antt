@@ -7,46 +7,31 @@ use lib.Dec.{eqb}
 use borrow.Author.Needs.{needs}
 use Rattle.concatenation.proofs.running.check_open.Statement.{statement}
 use Rattle.concatenation.proofs.running.check_open.Tie as tie
-use Rattle.concatenation.proofs.running.check_open.Reads as reads
-use Rattle.concatenation.proofs.running.check_open.Lts as lts
-use Rattle.concatenation.proofs.align.filler_align.Reads as filler-align-reads
-use Rattle.concatenation.proofs.align.is_align.Reads as is-align-reads
-use Rattle.concatenation.proofs.running.both.Reads as both-reads
-use Rattle.concatenation.proofs.running.refused.Reads as refused-reads
 
--- src/running.rt:141:13
 both-requires : tie.Need-both-requires
 both-requires c κs = search needs
 
--- src/running.rt:141:8
 both-requires-2 : tie.Need-both-requires-2
 both-requires-2 c κs = search needs
 
--- src/running.rt:142:9
 refused-requires : tie.Need-refused-requires
 refused-requires c κs = search needs
 
--- src/running.rt:142:9
 returns : tie.Need-returns
 returns c = c .refused .ensures ∙ ap (placed (c .before .before .before .before .args .i) (c .before .before .before .before .args .k)) (sym (open-lone (not (eqb (c .before .before .before .before .args .i) 0)) (c .before .before .before .before .args .first) (c .before .before .before .before .args .last) (runningOf (c .before .before .before .before .args .r)) (ap (λ (t : Bool). t && (c .before .before .before .before .args .last)) (sym (c .before .before .before .both .ensures)) ∙ sym (c .before .before .both2 .ensures) ∙ c .before .if1 .taken)))
 
--- src/running.rt:144:8
 is-align-requires : tie.Need-is-align-requires
 is-align-requires c κs = search needs
 
--- src/running.rt:145:13
 filler-align-requires : tie.Need-filler-align-requires
 filler-align-requires c κs = search needs
 
--- src/running.rt:146:9
 returns-2 : tie.Need-returns-2
 returns-2 c = rw (c .filler-align .ensures) (ap (placed (c .before .before .before .before .before .before .args .i) (c .before .before .before .before .before .before .args .k)) (sym (open-ok (not (eqb (c .before .before .before .before .before .before .args .i) 0)) (c .before .before .before .before .before .before .args .first) (c .before .before .before .before .before .before .args .last) (runningOf (c .before .before .before .before .before .before .args .r)) (ap (λ (t : Bool). t && (c .before .before .before .before .before .before .args .last)) (sym (c .before .before .before .before .before .both .ensures)) ∙ sym (c .before .before .before .before .both2 .ensures) ∙ c .before .before .before .if1 .left) (sym (c .before .before .is-align .ensures) ∙ c .before .if2 .taken))))
 
--- src/running.rt:153:5
 refused-requires-2 : tie.Need-refused-requires-2
 refused-requires-2 c κs = search needs
 
--- src/running.rt:136:1
 returns-3 : tie.Need-returns-3
 returns-3 c = c .refused2 .ensures ∙ ap (placed (c .before .before .before .before .before .before .args .i) (c .before .before .before .before .before .before .args .k)) (sym (open-second (not (eqb (c .before .before .before .before .before .before .args .i) 0)) (c .before .before .before .before .before .before .args .first) (c .before .before .before .before .before .before .args .last) (runningOf (c .before .before .before .before .before .before .args .r)) (ap (λ (t : Bool). t && (c .before .before .before .before .before .before .args .last)) (sym (c .before .before .before .before .before .both .ensures)) ∙ sym (c .before .before .before .before .both2 .ensures) ∙ c .before .before .before .if1 .left) (sym (c .before .before .is-align .ensures) ∙ c .before .if2 .left)))
 

@@ -7,37 +7,25 @@ use lib.Dec.{eqb}
 use borrow.Author.Needs.{needs}
 use Rattle.concatenation.proofs.running.check_type.Statement.{statement}
 use Rattle.concatenation.proofs.running.check_type.Tie as tie
-use Rattle.concatenation.proofs.running.check_type.Reads as reads
-use Rattle.concatenation.proofs.running.check_type.Lts as lts
-use Rattle.concatenation.proofs.running.check_literal.Reads as check-literal-reads
-use Rattle.concatenation.proofs.running.check_open.Reads as check-open-reads
-use Rattle.concatenation.proofs.running.check_variable.Reads as check-variable-reads
 
--- src/running.rt:182:9
 check-literal-requires : tie.Need-check-literal-requires
 check-literal-requires c κs = search needs
 
--- src/running.rt:182:9
 returns : tie.Need-returns
 returns c = c .check-literal .ensures ∙ ap (placed (c .before .before .before .args .i) (c .before .before .before .args .k)) (sym (as-literal ((c .before .before .before .args .shape) .kind) ((c .before .before .before .args .shape) .«has_end») ((c .before .before .before .args .shape) .full) (not (eqb (c .before .before .before .args .i) 0)) (c .before .before .before .args .first) (c .before .before .before .args .last) (runningOf (c .before .before .before .args .r)) (c .before .if1 .taken)))
 
--- src/running.rt:185:28
 check-variable-requires : tie.Need-check-variable-requires
 check-variable-requires c κs = search needs
 
--- src/running.rt:185:9
 returns-2 : tie.Need-returns-2
 returns-2 c = rw (c .check-variable .ensures) (ap (placed (c .before .before .before .before .before .args .i) (c .before .before .before .before .before .args .k)) (sym (as-variable ((c .before .before .before .before .before .args .shape) .kind) ((c .before .before .before .before .before .args .shape) .«has_end») ((c .before .before .before .before .before .args .shape) .full) (not (eqb (c .before .before .before .before .before .args .i) 0)) (c .before .before .before .before .before .args .first) (c .before .before .before .before .before .args .last) (runningOf (c .before .before .before .before .before .args .r)) (c .before .if2 .taken))))
 
--- src/running.rt:188:9
 returns-3 : tie.Need-returns-3
 returns-3 c = rw (as-filler ((c .before .before .before .before .before .args .shape) .kind) ((c .before .before .before .before .before .args .shape) .«has_end») ((c .before .before .before .before .before .args .shape) .full) (not (eqb (c .before .before .before .before .before .args .i) 0)) (c .before .before .before .before .before .args .first) (c .before .before .before .before .before .args .last) (runningOf (c .before .before .before .before .before .args .r)) (c .before .before .before .if1 .left) (c .before .if2 .left), c .if3 .taken)
 
--- src/running.rt:190:5
 check-open-requires : tie.Need-check-open-requires
 check-open-requires c κs = search needs
 
--- src/running.rt:178:1
 returns-4 : tie.Need-returns-4
 returns-4 c = rw (as-filler ((c .before .before .before .before .before .before .args .shape) .kind) ((c .before .before .before .before .before .before .args .shape) .«has_end») ((c .before .before .before .before .before .before .args .shape) .full) (not (eqb (c .before .before .before .before .before .before .args .i) 0)) (c .before .before .before .before .before .before .args .first) (c .before .before .before .before .before .before .args .last) (runningOf (c .before .before .before .before .before .before .args .r)) (c .before .before .before .before .if1 .left) (c .before .before .if2 .left), c .before .if3 .left) (c .check-open .ensures)
 

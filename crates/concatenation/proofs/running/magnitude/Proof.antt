@@ -4,30 +4,22 @@ use Rattle.concatenation.proofs.Widths.{fits, exceeds, low-only, high-p
 use borrow.Author.Needs.{needs}
 use Rattle.concatenation.proofs.running.magnitude.Statement.{statement}
 use Rattle.concatenation.proofs.running.magnitude.Tie as tie
-use Rattle.concatenation.proofs.running.magnitude.Reads as reads
-use Rattle.concatenation.proofs.running.magnitude.Lts as lts
 
--- src/running.rt:46:9
 returns : tie.Need-returns
 returns c = rw (low-only (c .before .before .args .x) (c .if1 .taken)) (fits (c .before .before .args .x .low) (omega arith))
 
--- src/running.rt:49:9
 returns-2 : tie.Need-returns-2
 returns-2 c = exceeds _ (high-part (c .before .before .before .before .args .x) (omega arith) (omega arith))
 
--- src/running.rt:52:9
 returns-3 : tie.Need-returns-3
 returns-3 c = rw (negative (c .before .before .before .before .before .before .args .x) (omega arith)) (exceeds (2 ^ 64 - 1 - c .before .before .before .before .before .before .args .x .low + 1) (omega arith))
 
--- src/running.rt:54:24
 sub-t4 : tie.Need-sub-t4
 sub-t4 c = search needs
 
--- src/running.rt:54:24
 add-t5 : tie.Need-add-t5
 add-t5 c = search needs
 
--- src/running.rt:42:1
 returns-4 : tie.Need-returns-4
 returns-4 c = rw (negative (c .before .before .before .before .before .before .before .args .x) (omega arith)) (fits (2 ^ 64 - 1 - c .before .before .before .before .before .before .before .args .x .low + 1) (omega arith))
 

@@ -4,32 +4,22 @@ use Rattle.concatenation.proofs.Steps.{step-on, step-off}
 use borrow.Author.Needs.{needs}
 use Rattle.concatenation.proofs.running.step.Statement.{statement}
 use Rattle.concatenation.proofs.running.step.Tie as tie
-use Rattle.concatenation.proofs.running.step.Reads as reads
-use Rattle.concatenation.proofs.running.step.Lts as lts
-use Rattle.concatenation.proofs.running.add_width.Reads as add-width-reads
-use Rattle.concatenation.proofs.running.check_type.Reads as check-type-reads
 
--- src/running.rt:198:11
 add-width-requires : tie.Need-add-width-requires
 add-width-requires c κs = search needs
 
--- src/running.rt:199:21
 enum-known-s : tie.Need-enum-known-s
 enum-known-s c = search needs
 
--- src/running.rt:199:27
 check-type-requires : tie.Need-check-type-requires
 check-type-requires c κs = search needs
 
--- src/running.rt:200:26
 enum-known-e : tie.Need-enum-known-e
 enum-known-e c = search needs
 
--- src/running.rt:194:1
 returns : tie.Need-returns
 returns c = λ d h. c .check-type .ensures ∙ sym (step-on (c .before .before .before .before .before .args .i) (c .before .before .before .before .before .args .k) (c .before .before .before .before .before .args .first) (c .before .before .before .before .before .args .last) d (c .before .before .before .before .before .args .shape) h (runningOf (c .before .before .before .before .before .args .r)) (runningOf (c .before .before .s .given .0 .0)) (sym (c .before .before .before .before .add-width .ensures) ∙ ap steppedOf (c .before .before .s .given .1)))
 
--- src/running.rt:194:1
 returns-2 : tie.Need-returns-2
 returns-2 c = λ d h. sym (step-off (c .before .before .before .before .args .i) (c .before .before .before .before .args .k) (c .before .before .before .before .args .first) (c .before .before .before .before .args .last) d (c .before .before .before .before .args .shape) h (runningOf (c .before .before .before .before .args .r)) (c .before .e .given .0 .0 .number) (c .before .e .given .0 .0 .concatenation) (c .before .e .given .0 .0 .component) (sym (c .before .before .before .add-width .ensures) ∙ ap steppedOf (c .before .e .given .1)))
 

@@ -5,32 +5,22 @@ use Rattle.concatenation.proofs.Widths.{sum-known, sum-unknown}
 use borrow.Author.Needs.{needs}
 use Rattle.concatenation.proofs.running.sum.Statement.{statement}
 use Rattle.concatenation.proofs.running.sum.Tie as tie
-use Rattle.concatenation.proofs.running.sum.Reads as reads
-use Rattle.concatenation.proofs.running.sum.Lts as lts
-use Rattle.concatenation.proofs.running.add_fitting.Reads as add-fitting-reads
-use Rattle.concatenation.proofs.running.magnitude.Reads as magnitude-reads
 
--- src/running.rt:70:11
 magnitude-requires : tie.Need-magnitude-requires
 magnitude-requires c κs = search needs
 
--- src/running.rt:71:27
 enum-known-m : tie.Need-enum-known-m
 enum-known-m c = search needs
 
--- src/running.rt:71:33
 add-fitting-requires : tie.Need-add-fitting-requires
 add-fitting-requires c κs = search needs
 
--- src/running.rt:72:30
 enum-told : tie.Need-enum-told
 enum-told c = search needs
 
--- src/running.rt:67:1
 returns : tie.Need-returns
 returns c = c .add-fitting .ensures ∙ sum-known (c .before .before .before .before .magnitude .result) (c .before .before .before .before .before .args .n) (c .before .before .m .given .0 .0) (natAbs (valueOf (c .before .before .before .before .before .args .x))) (c .before .before .m .given .1) (c .before .before .before .before .magnitude .ensures)
 
--- src/running.rt:67:1
 returns-2 : tie.Need-returns-2
 returns-2 c = sum-unknown (c .before .before .magnitude .result) (c .before .before .before .args .n) (natAbs (valueOf (c .before .before .before .args .x))) (c .enum-told .given .1) (c .before .before .magnitude .ensures)
 
