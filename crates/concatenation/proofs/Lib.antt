@@ -2,3 +2,4 @@
 pub mod Widths
 pub mod Steps
 pub mod Summaries
+pub mod Turns

@@ -1,17 +1,18 @@
 -- Summaries: what holds of a concatenation that has one, and of lists of them.
-use mathlib.Core.Path.{_≡_, refl, sym, _∙_, ap}
+use mathlib.Core.Path.{_≡_, refl, sym, _∙_, ap, ap₂}
 use Prim.Native.Nat.{_≤_, _<_}
 use native.Mathlib.Omega.{arith}
 use borrow.Author.Tests.{eq-eqb, ne-eqb}
 use Rattle.def_numbers.specs.Prelude.{ℕ, zero, suc, _+_, Option, none, some, Bool, true, false, not, _&&_, _||_, List, [], _∷_, length, getD, drop, eqb}
-use Rattle.def_numbers.specs.Basics.{Result, ok, refused, _>>=_, placed}
-use Rattle.def_numbers.specs.Refusals.{need, unequal-widths, filler-without-start, numberOf}
-use Rattle.def_stages.specs.Concatenation.{Concatenation}
-use Rattle.def_stages.specs.Overall.{Overall, joinWidth, checkSource, overall, joinAlign}
+use Rattle.def_numbers.specs.Basics.{Result, ok, refused, _>>=_, placed, if_then_else_}
+use Rattle.def_numbers.specs.Refusals.{need, refuse, middle-filler, unequal-widths, filler-without-start, numberOf}
+use Rattle.def_stages.specs.Concatenation.{Concatenation, FillerAlign, isAlign, align-mid}
+use Rattle.def_stages.specs.Overall.{Overall, joinWidth, checkSource, overall, joinAlign, isSided}
 use Rattle.misc.specs.Value.{optionUsize}
 use Rattle.concatenation.specs.Align.{alignOf}
+use Rattle.concatenation.specs.declared.align.FillerAlign.{FillerAlign as Align}
 use Rattle.concatenation.specs.declared.overall.Summary.{Summary}
-use Rattle.concatenation.specs.Overall.{HasSummary, Summarised, none-left, one-more, StartsAs, joined, turn, placeOf}
+use Rattle.concatenation.specs.Overall.{HasSummary, Summarised, none-left, one-more, StartsAs, joined, turn, placeOf, middleAt, isOpposite}
 
 module _ (i : ℕ) (c : Concatenation) (o : Overall) where
   pub width-unknown : c .width ≡ none → joinWidth i c o ≡ ok (joined c (o .known) (o .width) o)
@@ -65,3 +66,25 @@ pub starts-some :
   → record { align = alignOf (s .align); width = optionUsize (s .width); known = 0; deterministic = s .deterministic; nonzero = false } ≡ overall l
 starts-some [] n s h e = absurd (e h)
 starts-some (c ∷ l) n s h e = rw (h .0 .align-is, h .0 .width-is, h .0 .deterministic-is)
+
+-- middleAt by the place of the first unbounded filler
+abbrev middleAs : Bool → ℕ → Option ℕ → Result Unit
+middleAs mid i p = if mid then elim p [ none ↦ ok tt | some k ↦ placed i k (refuse middle-filler) ] else ok tt
+
+module _ (i : ℕ) (c : Concatenation) (s : Summary) (h : HasSummary c s) where
+  middle-is : (t : Bool) (p : Option ℕ) → isAlign (alignOf (s .align)) align-mid ≡ t → placeOf (s .unbounded) ≡ p → middleAs t i p ≡ middleAt i c
+  middle-is t p e g = ap₂ (λ (t : Bool) (p : Option ℕ). middleAs t i p) (sym e ∙ ap (λ (a : FillerAlign). isAlign a align-mid) (h .align-is)) (sym g ∙ h .unbounded-is)
+
+  pub middle-none : isAlign (alignOf (s .align)) align-mid ≡ true → placeOf (s .unbounded) ≡ none → ok tt ≡ middleAt i c
+  middle-none e g = middle-is true none e g
+
+  pub middle-some : isAlign (alignOf (s .align)) align-mid ≡ true → (k : ℕ) → placeOf (s .unbounded) ≡ some k → refused (numberOf middle-filler) i k ≡ middleAt i c
+  middle-some e k g = middle-is true (some k) e g
+
+  pub middle-other : isAlign (alignOf (s .align)) align-mid ≡ false → ok tt ≡ middleAt i c
+  middle-other e = middle-is false (placeOf (s .unbounded)) e refl
+
+pub opposite-is :
+  (a : Align) (s : Summary) (c d : Concatenation) → alignOf a ≡ c .align → HasSummary d s
+  → isOpposite c d ≡ (isSided (alignOf a) && isSided (alignOf (s .align)) && not (isAlign (alignOf a) (alignOf (s .align))))
+opposite-is a s c d e h = rw (e, h .align-is)

@@ -1,12 +1,12 @@
 -- What stage 4 reads of a concatenation, its answer in code, and its steps.
-use Rattle.def_numbers.specs.Prelude.{ℕ, suc, Bool, not, _&&_, _||_, Option, none, some, List, [], _∷_}
+use Rattle.def_numbers.specs.Prelude.{ℕ, suc, Bool, true, false, not, _&&_, _||_, Option, none, some, List, [], _∷_, length, eqb}
 use mathlib.Core.Path.{_≡_}
 use Rattle.def_numbers.specs.Basics.{Result, ok, _>>=_, placed, if_then_else_}
-use Rattle.def_numbers.specs.Refusals.{refuse, middle-filler, opposite-fillers}
+use Rattle.def_numbers.specs.Refusals.{need, refuse, no-common-width, only-source, middle-filler, opposite-fillers}
 use Rattle.def_image.specs.Image.{Placed}
 use Rattle.def_stages.specs.Component.{Component}
-use Rattle.def_stages.specs.Concatenation.{Concatenation, isAlign, align-mid, isUnboundedFiller}
-use Rattle.def_stages.specs.Overall.{Overall, placeFrom, isFiller, joinAlign, joinWidth, checkSource, isSided}
+use Rattle.def_stages.specs.Concatenation.{Concatenation, FillerAlign, isAlign, align-mid, align-multiple, isUnboundedFiller}
+use Rattle.def_stages.specs.Overall.{Overall, placeFrom, isFiller, joinAlign, joinWidth, checkSource, middleFrom, oppositeFrom, isSided}
 use Rattle.misc.specs.Value.{optionUsize}
 use Rattle.errors.specs.Refused.{refusedAs}
 use Rattle.concatenation.specs.Align.{alignOf}
@@ -75,3 +75,21 @@ isOpposite c d = isSided (c .align) && isSided (d .align) && not (isAlign (c .al
 -- what oppositeFrom says of one concatenation and those after it
 abbrev pub oppositeAt : ℕ → Concatenation → List Concatenation → Result Unit
 oppositeAt i c later = elim (placeFrom (isOpposite c) (suc i) later) [ none ↦ ok tt | some j ↦ placed i j (refuse opposite-fillers) ]
+
+-- the checks of stage 4 after its loop
+abbrev pub commonOf : ℕ → Option ℕ → Result Unit
+commonOf mode width = need (not (eqb mode 2) || elim width [ none ↦ false | some w ↦ true ]) no-common-width
+
+abbrev pub onlyOf : ℕ → Bool → Result Unit
+onlyOf n deterministic = need (deterministic || not (eqb n 1)) only-source
+
+abbrev pub middleOf : Bool → List Concatenation → Result Unit
+middleOf deterministic l = if deterministic then ok tt else middleFrom 0 l
+
+abbrev pub oppositeOf : Bool → FillerAlign → List Concatenation → Result Unit
+oppositeOf deterministic align l = if deterministic || not (isAlign align align-multiple) then ok tt else oppositeFrom 0 l
+
+abbrev pub checksOf : ℕ → List Concatenation → Overall → Result Overall
+checksOf mode l o =
+    andThen (commonOf mode (o .width)) (andThen (onlyOf (length l) (o .deterministic)) (andThen (middleOf (o .deterministic) l)
+    (andThen (oppositeOf (o .deterministic) (o .align) l) (ok o))))

@@ -1,7 +1,11 @@
 // FillerAlign, and how the alignment of one concatenation joins the overall one.
+use crate::flags::both;
+use crate::flags::either;
+
 ghost use mathlib.Core.Path.{_≡_};
+ghost use mathlib.Core.Bool.{not, _&&_};
 ghost use Rattle.def_stages.specs.Concatenation.{alignNumber, isAlign, alignOf as placedAlign};
-ghost use Rattle.def_stages.specs.Overall.{joinAlign};
+ghost use Rattle.def_stages.specs.Overall.{joinAlign, isSided};
 ghost use Rattle.concatenation.specs.Align.{alignOf, joinSided};
 
 pub enum FillerAlign {
@@ -73,4 +77,17 @@ pub fn join_align(overall: FillerAlign, this: FillerAlign) -> FillerAlign
         return FillerAlign::None;
     }
     join_sided(overall, this)
+}
+
+// Neither none nor single.
+fn is_sided(a: FillerAlign) -> bool
+    ensures { λ r. ⌜ r ≡ isSided (alignOf a) ⌝ }
+{
+    !either(is_align(a, FillerAlign::None), is_align(a, FillerAlign::Single))
+}
+
+pub fn is_opposite(a: FillerAlign, b: FillerAlign) -> bool
+    ensures { λ r. ⌜ r ≡ (isSided (alignOf a) && isSided (alignOf b) && not (isAlign (alignOf a) (alignOf b))) ⌝ }
+{
+    both(both(is_sided(a), is_sided(b)), !is_align(a, b))
 }

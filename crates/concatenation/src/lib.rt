@@ -4,7 +4,9 @@ mod align;
 mod flags;
 mod overall;
 mod running;
+mod together;
 
 pub use align::FillerAlign;
 pub use overall::{Overall, OverallResult, Place, Summary};
 pub use running::{Running, Shape, Stepped};
+pub use together::stage4;

@@ -110,7 +110,7 @@ fn check_source(bare: bool, i: u32, s: Summary) -> Checked
 }
 
 // The second, unless the first refuses.
-fn after(a: Checked, r: OverallResult) -> OverallResult
+pub fn after(a: Checked, r: OverallResult) -> OverallResult
     ensures { λ q. ⌜ answerOf q ≡ andThen (resultOf a) (answerOf r) ⌝ }
 {
     match a {
@@ -119,7 +119,7 @@ fn after(a: Checked, r: OverallResult) -> OverallResult
     }
 }
 
-fn join(bare: bool, i: u32, s: Summary, o: Overall) -> OverallResult
+pub fn join(bare: bool, i: u32, s: Summary, o: Overall) -> OverallResult
     ensures { λ q. ⌜ ((c : Concatenation) → HasSummary c s → answerOf q ≡ turn bare i c (overallOf o)) ⌝ }
 {
     match join_width(i, s, o) {
@@ -129,7 +129,7 @@ fn join(bare: bool, i: u32, s: Summary, o: Overall) -> OverallResult
 }
 
 // What the loop starts with: concatenation 0, if there is one.
-fn start(n: usize, s: Summary) -> Overall
+pub fn start(n: usize, s: Summary) -> Overall
     ensures { λ q. ⌜ ((l : List Concatenation) → StartsAs l n s → overallOf q ≡ overall l) ⌝ }
 {
     let align = s.align;
