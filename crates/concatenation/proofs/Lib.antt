@@ -3,3 +3,4 @@ pub mod Widths
 pub mod Steps
 pub mod Summaries
 pub mod Turns
+pub mod Ends

@@ -15,8 +15,8 @@ pub add-unknown : (v : ℤ) (r : Running) → r .width ≡ none → addAs (some 
 add-unknown v r h = rw h
 
 pub add-fits :
-  (n w : ℕ) (v : ℤ) (r : Running) → r .width ≡ some n → fitting (n + natAbs v) ≡ some w
-  → addAs (some v) r ≡ ok (record { width = some w; align = r .align; deterministic = r .deterministic; nonzero = true })
+    (n w : ℕ) (v : ℤ) (r : Running) → r .width ≡ some n → fitting (n + natAbs v) ≡ some w
+    → addAs (some v) r ≡ ok (record { width = some w; align = r .align; deterministic = r .deterministic; nonzero = true })
 add-fits n w v r h f = let b = fits-back (n + natAbs v) w f in rw (h, b .0, b .1)
 
 pub add-exceeds : (n : ℕ) (v : ℤ) (r : Running) → r .width ≡ some n → fitting (n + natAbs v) ≡ none → addAs (some v) r ≡ refuse sum-overflow
@@ -26,13 +26,13 @@ pub open-lone : (sink first last : Bool) (r : Running) → (sink && first && las
 open-lone sink first last r h = rw h
 
 pub open-second :
-  (sink first last : Bool) (r : Running) → (sink && first && last) ≡ false → isAlign (r .align) align-none ≡ false
-  → checkOpen sink first last r ≡ refuse second-filler
+    (sink first last : Bool) (r : Running) → (sink && first && last) ≡ false → isAlign (r .align) align-none ≡ false
+    → checkOpen sink first last r ≡ refuse second-filler
 open-second sink first last r h g = rw (h, g)
 
 pub open-ok :
-  (sink first last : Bool) (r : Running) → (sink && first && last) ≡ false → isAlign (r .align) align-none ≡ true
-  → checkOpen sink first last r ≡ ok (record { width = r .width; align = placedAlign first last; deterministic = false; nonzero = r .nonzero })
+    (sink first last : Bool) (r : Running) → (sink && first && last) ≡ false → isAlign (r .align) align-none ≡ true
+    → checkOpen sink first last r ≡ ok (record { width = r .width; align = placedAlign first last; deterministic = false; nonzero = r .nonzero })
 open-ok sink first last r h g = rw (h, g)
 
 module _ (kind : ℕ) (ends full sink first last : Bool) (r : Running) where
@@ -47,11 +47,11 @@ module _ (kind : ℕ) (ends full sink first last : Bool) (r : Running) where
 
 -- the definition over a component is the one over its shape
 by-type : (t : ComponentType) (ends full sink first last : Bool) (r : Running) →
-  elim t [
-    | literal b ↦ checkLiteral sink r
-    | variable p ↦ ok (withFull full r)
-    | filler ↦ elim ends [ true ↦ ok r | false ↦ checkOpen sink first last r ]
-  ] ≡ checkAs (kindOf t) ends full sink first last r
+    elim t [
+      | literal b ↦ checkLiteral sink r
+      | variable p ↦ ok (withFull full r)
+      | filler ↦ elim ends [ true ↦ ok r | false ↦ checkOpen sink first last r ]
+    ] ≡ checkAs (kindOf t) ends full sink first last r
 by-type (literal b) ends full sink first last r = refl
 by-type (variable p) ends full sink first last r = refl
 by-type filler true full sink first last r = refl
@@ -65,12 +65,12 @@ module _ (i k : ℕ) (first last : Bool) (c : Component) (s : Shape) (h : HasSha
   add-is = rw (h .width-is)
 
 pub step-on :
-  (i k : ℕ) (first last : Bool) (c : Component) (s : Shape) → HasShape c s → (r r₁ : Running)
-  → placed i 0 (addAs (optionOf (s .width)) r) ≡ ok r₁
-  → stepOf i k first last c r ≡ placed i k (checkAs (s .kind) (s .«has_end») (s .full) (not (eqb i 0)) first last r₁)
+    (i k : ℕ) (first last : Bool) (c : Component) (s : Shape) → HasShape c s → (r r₁ : Running)
+    → placed i 0 (addAs (optionOf (s .width)) r) ≡ ok r₁
+    → stepOf i k first last c r ≡ placed i k (checkAs (s .kind) (s .«has_end») (s .full) (not (eqb i 0)) first last r₁)
 step-on i k first last c s h r r₁ e = rw (add-is i k first last c s h r, e) (ap (placed i k) (check-is i k first last c s h r₁))
 
 pub step-off :
-  (i k : ℕ) (first last : Bool) (c : Component) (s : Shape) → HasShape c s → (r : Running) (n a b : ℕ)
-  → placed i 0 (addAs (optionOf (s .width)) r) ≡ refused n a b → stepOf i k first last c r ≡ refused n a b
+    (i k : ℕ) (first last : Bool) (c : Component) (s : Shape) → HasShape c s → (r : Running) (n a b : ℕ)
+    → placed i 0 (addAs (optionOf (s .width)) r) ≡ refused n a b → stepOf i k first last c r ≡ refused n a b
 step-off i k first last c s h r n a b e = rw (add-is i k first last c s h r, e)

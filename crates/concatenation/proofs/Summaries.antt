@@ -28,9 +28,9 @@ module _ (i : ℕ) (c : Concatenation) (o : Overall) where
   width-differs w v h g e = rw (h, g, ne-eqb w v e)
 
 pub joins :
-  (c : Concatenation) (s : Summary) → HasSummary c s → (at : ℕ) (w : Option ℕ) (o : Overall) (d n : Bool)
-  → d ≡ (o .deterministic || s .deterministic) → n ≡ (o .nonzero || s .nonzero)
-  → record { align = joinAlign (o .align) (alignOf (s .align)); width = w; known = at; deterministic = d; nonzero = n } ≡ joined c at w o
+    (c : Concatenation) (s : Summary) → HasSummary c s → (at : ℕ) (w : Option ℕ) (o : Overall) (d n : Bool)
+    → d ≡ (o .deterministic || s .deterministic) → n ≡ (o .nonzero || s .nonzero)
+    → record { align = joinAlign (o .align) (alignOf (s .align)); width = w; known = at; deterministic = d; nonzero = n } ≡ joined c at w o
 joins c s h at w o d n e f = rw (e, f, h .align-is, h .deterministic-is, h .nonzero-is)
 
 -- checkSource by the place of the first filler
@@ -62,8 +62,8 @@ starts-none [] n s h e = refl
 starts-none (c ∷ l) n s h e = absurd (h .1 e)
 
 pub starts-some :
-  (l : List Concatenation) (n : ℕ) (s : Summary) → StartsAs l n s → (n ≡ 0 → ⊥)
-  → record { align = alignOf (s .align); width = optionUsize (s .width); known = 0; deterministic = s .deterministic; nonzero = false } ≡ overall l
+    (l : List Concatenation) (n : ℕ) (s : Summary) → StartsAs l n s → (n ≡ 0 → ⊥)
+    → record { align = alignOf (s .align); width = optionUsize (s .width); known = 0; deterministic = s .deterministic; nonzero = false } ≡ overall l
 starts-some [] n s h e = absurd (e h)
 starts-some (c ∷ l) n s h e = rw (h .0 .align-is, h .0 .width-is, h .0 .deterministic-is)
 
@@ -85,6 +85,6 @@ module _ (i : ℕ) (c : Concatenation) (s : Summary) (h : HasSummary c s) where
   middle-other e = middle-is false (placeOf (s .unbounded)) e refl
 
 pub opposite-is :
-  (a : Align) (s : Summary) (c d : Concatenation) → alignOf a ≡ c .align → HasSummary d s
-  → isOpposite c d ≡ (isSided (alignOf a) && isSided (alignOf (s .align)) && not (isAlign (alignOf a) (alignOf (s .align))))
+    (a : Align) (s : Summary) (c d : Concatenation) → alignOf a ≡ c .align → HasSummary d s
+    → isOpposite c d ≡ (isSided (alignOf a) && isSided (alignOf (s .align)) && not (isAlign (alignOf a) (alignOf (s .align))))
 opposite-is a s c d e h = rw (e, h .align-is)

@@ -69,13 +69,13 @@ module _ (cs : List Summary) (n : ℕ) (few : n ≤ 16) (full : length cs ≡ 16
 
 -- overallFrom
 bound-ok : (a : Result Overall) (b : Result Unit) (f : Overall → Result Overall) (p : Overall)
-  → (a >>= λ o. b >>= λ _. ok o) ≡ ok p → f p ≡ (a >>= λ o. b >>= λ _. f o)
+    → (a >>= λ o. b >>= λ _. ok o) ≡ ok p → f p ≡ (a >>= λ o. b >>= λ _. f o)
 bound-ok (ok o) (ok u) f p e = let q : p ≡ o = cc in ap f q
 bound-ok (ok o) (refused n i k) f p e = let z : _≡_ {A = ℕ} 0 1 = cc in absurd (omega arith)
 bound-ok (refused n i k) b f p e = let z : _≡_ {A = ℕ} 0 1 = cc in absurd (omega arith)
 
 bound-refused : (a : Result Overall) (b : Result Unit) (f : Overall → Result Overall) (n i k : ℕ)
-  → (a >>= λ o. b >>= λ _. ok o) ≡ refused n i k → refused n i k ≡ (a >>= λ o. b >>= λ _. f o)
+    → (a >>= λ o. b >>= λ _. ok o) ≡ refused n i k → refused n i k ≡ (a >>= λ o. b >>= λ _. f o)
 bound-refused (ok o) (ok u) f n i k e = let z : _≡_ {A = ℕ} 0 1 = cc in absurd (omega arith)
 bound-refused (ok o) (refused m j h) f n i k e = sym e
 bound-refused (refused m j h) b f n i k e = sym e
@@ -96,8 +96,8 @@ over-end bare i l o e = rw e
 
 -- a check that goes over a list, by what it says of one
 module _ (F : ℕ → List Concatenation → Result Unit) (one : ℕ → Concatenation → List Concatenation → Result Unit)
-  (more : (i : ℕ) (c : Concatenation) (rest : List Concatenation) → F i (c ∷ rest) ≡ andThen (one i c rest) (F (suc i) rest))
-  (i : ℕ) (l : List Concatenation) (c : Concatenation) (here : drop i l ≡ c ∷ drop (i + 1) l) where
+    (more : (i : ℕ) (c : Concatenation) (rest : List Concatenation) → F i (c ∷ rest) ≡ andThen (one i c rest) (F (suc i) rest))
+    (i : ℕ) (l : List Concatenation) (c : Concatenation) (here : drop i l ≡ c ∷ drop (i + 1) l) where
   goes-on : one i c (drop (i + 1) l) ≡ ok tt → F (i + 1) (drop (i + 1) l) ≡ F i (drop i l)
   goes-on e = rw (here, more i c (drop (i + 1) l), e, add-one)
 

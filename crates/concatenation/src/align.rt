@@ -1,7 +1,6 @@
 // FillerAlign, and how the alignment of one concatenation joins the overall one.
 use crate::flags::both;
 use crate::flags::either;
-
 ghost use mathlib.Core.Path.{_≡_};
 ghost use mathlib.Core.Bool.{not, _&&_};
 ghost use Rattle.def_stages.specs.Concatenation.{alignNumber, isAlign, alignOf as placedAlign};
@@ -42,7 +41,11 @@ pub fn filler_align(first: bool, last: bool) -> FillerAlign
     ensures { λ r. ⌜ alignOf r ≡ placedAlign first last ⌝ }
 {
     if first {
-        if last { FillerAlign::Single } else { FillerAlign::Lsb }
+        if last {
+            FillerAlign::Single
+        } else {
+            FillerAlign::Lsb
+        }
     } else if last {
         FillerAlign::Msb
     } else {
@@ -83,7 +86,10 @@ pub fn join_align(overall: FillerAlign, this: FillerAlign) -> FillerAlign
 fn is_sided(a: FillerAlign) -> bool
     ensures { λ r. ⌜ r ≡ isSided (alignOf a) ⌝ }
 {
-    !either(is_align(a, FillerAlign::None), is_align(a, FillerAlign::Single))
+    !either(
+        is_align(a, FillerAlign::None),
+        is_align(a, FillerAlign::Single),
+    )
 }
 
 pub fn is_opposite(a: FillerAlign, b: FillerAlign) -> bool

@@ -7,6 +7,11 @@ mod running;
 mod together;
 
 pub use align::FillerAlign;
-pub use overall::{Overall, OverallResult, Place, Summary};
-pub use running::{Running, Shape, Stepped};
+pub use overall::Overall;
+pub use overall::OverallResult;
+pub use overall::Place;
+pub use overall::Summary;
+pub use running::Running;
+pub use running::Shape;
+pub use running::Stepped;
 pub use together::stage4;

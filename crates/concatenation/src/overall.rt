@@ -7,7 +7,6 @@ use crate::flags::either;
 use errors::Checked;
 use errors::Refusal;
 use misc::OptionUsize;
-
 ghost use mathlib.Core.Path.{_≡_};
 ghost use mathlib.Core.Bool.{not, _&&_};
 ghost use mathlib.Core.List.{List};

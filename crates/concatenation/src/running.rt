@@ -8,7 +8,6 @@ use errors::Refusal;
 use misc::I128;
 use misc::OptionI128;
 use misc::OptionUsize;
-
 ghost use mathlib.Core.Path.{_≡_};
 ghost use mathlib.Core.Bool.{not};
 ghost use mathlib.Core.Option.{some};

@@ -13,7 +13,6 @@ use crate::overall::start;
 use errors::Checked;
 use errors::Refusal;
 use misc::OptionUsize;
-
 ghost use mathlib.Core.Path.{_≡_};
 ghost use mathlib.Core.List.{List, _∷_};
 ghost use Prim.Native.Nat.{_+_, _≤_, _<_};
@@ -205,7 +204,10 @@ fn checks(mode: u32, cs: [Summary; 16], n: usize, o: Overall) -> OverallResult
     let only = check_only(n, o.deterministic);
     let middle = check_middle(o.deterministic, cs, n);
     let opposite = check_opposite(o.deterministic, align, cs, n);
-    after(common, after(only, after(middle, after(opposite, OverallResult::Ok(o)))))
+    after(
+        common,
+        after(only, after(middle, after(opposite, OverallResult::Ok(o)))),
+    )
 }
 
 fn at_most_16(n: usize) -> usize

@@ -69,14 +69,12 @@ pub fn simplify_usb(image: &[u8], text: usize, u: Usb) -> ResultUsb
 }
 
 // The number of a bound without a text.
-pub fn static_val(u: Usb) -> OptionI128
-{
+pub fn static_val(u: Usb) -> OptionI128 {
     OptionI128::None
 }
 
 // Whether both bounds are numbers.
-pub fn static_range(r: Usbr) -> bool
-{
+pub fn static_range(r: Usbr) -> bool {
     true
 }
 

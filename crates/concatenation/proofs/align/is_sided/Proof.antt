@@ -1,24 +1,16 @@
 use borrow.Author.Needs.{needs}
 use Rattle.concatenation.proofs.align.is_sided.Statement.{statement}
 use Rattle.concatenation.proofs.align.is_sided.Tie as tie
-use Rattle.concatenation.proofs.align.is_sided.Reads as reads
-use Rattle.concatenation.proofs.align.is_sided.Lts as lts
-use Rattle.concatenation.proofs.align.is_align.Reads as is-align-reads
-use Rattle.concatenation.proofs.flags.either.Reads as either-reads
 
--- src/align.rt:86:13
 is-align-requires : tie.Need-is-align-requires
 is-align-requires c κs = search needs
 
--- src/align.rt:86:45
 is-align-requires-2 : tie.Need-is-align-requires-2
 is-align-requires-2 c κs = search needs
 
--- src/align.rt:86:6
 either-requires : tie.Need-either-requires
 either-requires c κs = search needs
 
--- src/align.rt:83:1
 returns : tie.Need-returns
 returns c = rw (c .either .ensures, c .before .before .is-align .ensures, c .before .is-align2 .ensures)
 

@@ -4,31 +4,22 @@ use Rattle.concatenation.proofs.Summaries.{source-none, source-bad, sou
 use borrow.Author.Needs.{needs}
 use Rattle.concatenation.proofs.overall.check_source.Statement.{statement}
 use Rattle.concatenation.proofs.overall.check_source.Tie as tie
-use Rattle.concatenation.proofs.overall.check_source.Reads as reads
-use Rattle.concatenation.proofs.overall.check_source.Lts as lts
-use Rattle.concatenation.proofs.flags.both.Reads as both-reads
 
--- src/overall.rt:99:19
 enum-known-filler : tie.Need-enum-known-filler
 enum-known-filler c = search needs
 
--- src/overall.rt:100:9
 enum-told : tie.Need-enum-told
 enum-told c = search needs
 
--- src/overall.rt:100:9
 returns : tie.Need-returns
 returns c = λ d h. source-none (c .before .before .args .bare) (c .before .before .args .i) d (c .before .before .args .s) h (ap placeOf (c .enum-told .given .1))
 
--- src/overall.rt:102:8
 both-requires : tie.Need-both-requires
 both-requires c κs = search needs
 
--- src/overall.rt:103:9
 returns-2 : tie.Need-returns-2
 returns-2 c = λ d h. source-bad (c .before .before .before .before .before .args .bare) (c .before .before .before .before .before .args .i) d (c .before .before .before .before .before .args .s) h (c .before .before .before .filler .given .0 .0) (ap placeOf (c .before .before .before .filler .given .1)) (sym (c .before .both .ensures) ∙ c .if1 .taken)
 
--- src/overall.rt:95:1
 returns-3 : tie.Need-returns-3
 returns-3 c = λ d h. source-good (c .before .before .before .before .before .args .bare) (c .before .before .before .before .before .args .i) d (c .before .before .before .before .before .args .s) h (c .before .before .before .filler .given .0 .0) (ap placeOf (c .before .before .before .filler .given .1)) (sym (c .before .both .ensures) ∙ c .if1 .left)
 

@@ -5,37 +5,25 @@ use Rattle.concatenation.proofs.Summaries.{turn-on, turn-off}
 use borrow.Author.Needs.{needs}
 use Rattle.concatenation.proofs.overall.join.Statement.{statement}
 use Rattle.concatenation.proofs.overall.join.Tie as tie
-use Rattle.concatenation.proofs.overall.join.Reads as reads
-use Rattle.concatenation.proofs.overall.join.Lts as lts
-use Rattle.concatenation.proofs.overall.after.Reads as after-reads
-use Rattle.concatenation.proofs.overall.check_source.Reads as check-source-reads
-use Rattle.concatenation.proofs.overall.join_width.Reads as join-width-reads
 
--- src/overall.rt:125:11
 join-width-requires : tie.Need-join-width-requires
 join-width-requires c κs = search needs
 
--- src/overall.rt:126:27
 enum-known-p : tie.Need-enum-known-p
 enum-known-p c = search needs
 
--- src/overall.rt:126:39
 check-source-requires : tie.Need-check-source-requires
 check-source-requires c κs = search needs
 
--- src/overall.rt:126:33
 after-requires : tie.Need-after-requires
 after-requires c κs = search needs
 
--- src/overall.rt:127:32
 enum-known-e : tie.Need-enum-known-e
 enum-known-e c = search needs
 
--- src/overall.rt:122:1
 returns : tie.Need-returns
 returns c = λ d h. c .after .ensures ∙ ap (λ (a : Result Unit). andThen a (ok (overallOf (c .before .before .before .p .given .0 .0)))) (c .before .check-source .ensures d h) ∙ turn-on (c .before .before .before .before .before .before .args .bare) (c .before .before .before .before .before .before .args .i) d (overallOf (c .before .before .before .before .before .before .args .o)) (overallOf (c .before .before .before .p .given .0 .0)) (sym (ap answerOf (c .before .before .before .p .given .1)) ∙ c .before .before .before .before .before .join-width .ensures d h)
 
--- src/overall.rt:122:1
 returns-2 : tie.Need-returns-2
 returns-2 c = λ d h. turn-off (c .before .before .before .before .args .bare) (c .before .before .before .before .args .i) d (overallOf (c .before .before .before .before .args .o)) (c .before .e .given .0 .0 .number) (c .before .e .given .0 .0 .concatenation) (c .before .e .given .0 .0 .component) (sym (ap answerOf (c .before .e .given .1)) ∙ c .before .before .before .join-width .ensures d h)
 

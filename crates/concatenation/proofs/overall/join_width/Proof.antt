@@ -6,51 +6,37 @@ use Rattle.concatenation.proofs.Summaries.{width-unknown, width-first, 
 use borrow.Author.Needs.{needs}
 use Rattle.concatenation.proofs.overall.join_width.Statement.{statement}
 use Rattle.concatenation.proofs.overall.join_width.Tie as tie
-use Rattle.concatenation.proofs.overall.join_width.Reads as reads
-use Rattle.concatenation.proofs.overall.join_width.Lts as lts
-use Rattle.concatenation.proofs.overall.joined.Reads as joined-reads
 
--- src/overall.rt:78:27
 enum-known-width : tie.Need-enum-known-width
 enum-known-width c = search needs
 
--- src/overall.rt:79:34
 enum-told : tie.Need-enum-told
 enum-told c = search needs
 
--- src/overall.rt:79:34
 joined-requires : tie.Need-joined-requires
 joined-requires c κs = search needs
 
--- src/overall.rt:79:9
 returns : tie.Need-returns
 returns c = λ d h. ap ok (c .joined .ensures d h) ∙ sym (width-unknown (c .before .before .before .args .i) d (overallOf (c .before .before .before .args .o)) (sym (h .width-is) ∙ ap optionUsize (c .before .enum-told .given .1)))
 
--- src/overall.rt:81:27
 enum-known-so-far : tie.Need-enum-known-so-far
 enum-known-so-far c = search needs
 
--- src/overall.rt:82:34
 enum-told-2 : tie.Need-enum-told-2
 enum-told-2 c = search needs
 
--- src/overall.rt:82:34
 joined-requires-2 : tie.Need-joined-requires-2
 joined-requires-2 c κs = search needs
 
--- src/overall.rt:82:9
 returns-2 : tie.Need-returns-2
 returns-2 c = λ d h. ap ok (c .joined2 .ensures d h) ∙ sym (width-first (c .before .before .before .before .before .before .args .i) d (overallOf (c .before .before .before .before .before .before .args .o)) (c .before .before .before .before .width .given .0 .0) (sym (h .width-is) ∙ ap optionUsize (c .before .before .before .before .width .given .1)) (ap optionUsize (c .before .enum-told2 .given .1)))
 
--- src/overall.rt:85:34
 joined-requires-3 : tie.Need-joined-requires-3
 joined-requires-3 c κs = search needs
 
--- src/overall.rt:85:9
 returns-3 : tie.Need-returns-3
 returns-3 c = λ d h. ap ok (c .joined3 .ensures d h) ∙ sym (width-same (c .before .before .before .before .before .before .before .before .args .i) d (overallOf (c .before .before .before .before .before .before .before .before .args .o)) (c .before .before .before .before .before .before .width .given .0 .0) (c .before .before .before .so-far .given .0 .0) (sym (h .width-is) ∙ ap optionUsize (c .before .before .before .before .before .before .width .given .1)) (ap optionUsize (c .before .before .before .so-far .given .1)) (c .before .if1 .taken))
 
--- src/overall.rt:73:1
 returns-4 : tie.Need-returns-4
 returns-4 c = λ d h. sym (width-differs (c .before .before .before .before .before .before .before .args .i) d (overallOf (c .before .before .before .before .before .before .before .args .o)) (c .before .before .before .before .before .width .given .0 .0) (c .before .before .so-far .given .0 .0) (sym (h .width-is) ∙ ap optionUsize (c .before .before .before .before .before .width .given .1)) (ap optionUsize (c .before .before .so-far .given .1)) (c .if1 .left))
 

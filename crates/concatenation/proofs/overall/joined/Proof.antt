@@ -5,24 +5,16 @@ use Rattle.concatenation.proofs.Summaries.{joins}
 use borrow.Author.Needs.{needs}
 use Rattle.concatenation.proofs.overall.joined.Statement.{statement}
 use Rattle.concatenation.proofs.overall.joined.Tie as tie
-use Rattle.concatenation.proofs.overall.joined.Reads as reads
-use Rattle.concatenation.proofs.overall.joined.Lts as lts
-use Rattle.concatenation.proofs.align.join_align.Reads as join-align-reads
-use Rattle.concatenation.proofs.flags.either.Reads as either-reads
 
--- src/overall.rt:60:9
 join-align-requires : tie.Need-join-align-requires
 join-align-requires c κs = search needs
 
--- src/overall.rt:61:9
 either-requires : tie.Need-either-requires
 either-requires c κs = search needs
 
--- src/overall.rt:62:9
 either-requires-2 : tie.Need-either-requires-2
 either-requires-2 c κs = search needs
 
--- src/overall.rt:55:1
 returns : tie.Need-returns
 returns c = λ d h. rw (c .before .before .join-align .ensures) (joins d (c .before .before .before .args .s) h (c .before .before .before .args .known) (optionUsize (c .before .before .before .args .width)) (overallOf (c .before .before .before .args .o)) (c .before .either .result) (c .either2 .result) (c .before .either .ensures) (c .either2 .ensures))
 

@@ -1,14 +1,10 @@
 use Rattle.concatenation.proofs.Summaries.{starts-none, starts-some}
 use Rattle.concatenation.proofs.overall.start.Statement.{statement}
 use Rattle.concatenation.proofs.overall.start.Tie as tie
-use Rattle.concatenation.proofs.overall.start.Reads as reads
-use Rattle.concatenation.proofs.overall.start.Lts as lts
 
--- src/overall.rt:138:9
 returns : tie.Need-returns
 returns c = λ l h. starts-none l (c .before .args .n) (c .before .args .s) h (c .if1 .taken)
 
--- src/overall.rt:132:1
 returns-2 : tie.Need-returns-2
 returns-2 c = λ l h. starts-some l (c .before .args .n) (c .before .args .s) h (c .if1 .left)
 

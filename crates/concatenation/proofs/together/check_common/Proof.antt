@@ -1,32 +1,27 @@
+use mathlib.Core.Path.{refl, sym, _∙_, ap}
+use Rattle.misc.specs.Value.{valueOf, optionOf, optionUsize}
+use Rattle.concatenation.proofs.Ends.{common-known, common-lacking, common-free}
 use borrow.Author.Needs.{needs}
 use Rattle.concatenation.proofs.together.check_common.Statement.{statement}
 use Rattle.concatenation.proofs.together.check_common.Tie as tie
-use Rattle.concatenation.proofs.together.check_common.Reads as reads
-use Rattle.concatenation.proofs.together.check_common.Lts as lts
-use Rattle.concatenation.proofs.together.refusal.Reads as refusal-reads
 
 enum-told : tie.Need-enum-told
 enum-told c = search needs
 
--- src/together.rt:151:9
 enum-told-2 : tie.Need-enum-told-2
 enum-told-2 c = search needs
 
--- src/together.rt:151:9
 returns : tie.Need-returns
-returns c = ?
+returns c = common-known (c .before .before .args .mode) (optionUsize (c .before .before .args .width)) _ (ap optionUsize (c .enum-told2 .given .1))
 
--- src/together.rt:154:9
 refusal-requires : tie.Need-refusal-requires
 refusal-requires c κs = search needs
 
--- src/together.rt:154:9
 returns-2 : tie.Need-returns-2
-returns-2 c = ?
+returns-2 c = c .refusal .ensures ∙ common-lacking (c .before .before .before .before .args .mode) (optionUsize (c .before .before .before .before .args .width)) (ap optionUsize (c .before .before .enum-told .given .1)) (c .before .if1 .taken)
 
--- src/together.rt:147:1
 returns-3 : tie.Need-returns-3
-returns-3 c = ?
+returns-3 c = common-free (c .before .before .before .args .mode) (optionUsize (c .before .before .before .args .width)) (ap optionUsize (c .before .enum-told .given .1)) (c .if1 .left)
 
 pub check-common-spec : {M : Type 1} → statement M
 check-common-spec =

@@ -12,9 +12,6 @@ use Rattle.concatenation.proofs.Summaries.{opposite-is}
 use Rattle.concatenation.proofs.Turns.{turn-at, end-at, place-on, place-here, place-end}
 use Rattle.concatenation.proofs.together.find_opposite.Statement.{statement}
 use Rattle.concatenation.proofs.together.find_opposite.Tie as tie
-use Rattle.concatenation.proofs.together.find_opposite.Reads as reads
-use Rattle.concatenation.proofs.together.find_opposite.Lts as lts
-use Rattle.concatenation.proofs.align.is_opposite.Reads as is-opposite-reads
 
 abbrev Inv-loop : tie.InvT-loop
 Inv-loop align n from cs j₀ j = (j ≤ n) × ((l : List Concatenation) (c : Concatenation) → Summarised l (take n cs) → alignOf align ≡ c .align → placeFrom (isOpposite c) j (drop j l) ≡ placeFrom (isOpposite c) from (drop from l))
@@ -22,43 +19,33 @@ Inv-loop align n from cs j₀ j = (j ≤ n) × ((l : List Concatenation) (c : Co
 abbrev μ-loop : tie.MeasureT-loop
 μ-loop align n from cs j₀ j = n - j
 
--- src/stage4.rt:94:5
 loop-holds : tie.Need-loop-holds Inv-loop μ-loop
 loop-holds c = (omega arith, λ l d h e. refl)
 
--- src/stage4.rt:95:17
 mul-s : tie.Need-mul-s Inv-loop μ-loop
 mul-s c = search needs
 
--- src/stage4.rt:95:17
 array-copy-out-s : tie.Need-array-copy-out-s Inv-loop μ-loop
 array-copy-out-s c = search needs
 
--- src/stage4.rt:97:12
 is-opposite-requires : tie.Need-is-opposite-requires Inv-loop μ-loop
 is-opposite-requires c κs = search needs
 
--- src/stage4.rt:98:30
 cast-t15 : tie.Need-cast-t15 Inv-loop μ-loop
 cast-t15 c = search needs
 
--- src/stage4.rt:98:13
 returns : tie.Need-returns Inv-loop μ-loop
 returns c = λ l d h e. let a = turn-at (c .before .before .before .before .before .args .t2) (c .before .before .before .before .before .args .n) (omega arith) (c .before .before .before .before .before .good .1 .0 .1 .0 .1) l h (c .before .before .before .before .loop .j) _ (c .before .before .before .loop-test .taken) in place-here (isOpposite d) (c .before .before .before .before .loop .j) l (a .c) (a .here) (opposite-is (c .before .before .before .before .before .args .align) _ d (a .c) e (a .has) ∙ sym (c .before .is-opposite .ensures) ∙ c .if1 .taken) ∙ c .before .before .before .before .loop .inv .1 l d h e
 
--- src/stage4.rt:100:9
 add-j : tie.Need-add-j Inv-loop μ-loop
 add-j c = search needs
 
--- src/stage4.rt:94:5
 loop-less : tie.Need-loop-less Inv-loop μ-loop
 loop-less c = search needs
 
--- src/stage4.rt:94:5
 loop-again : tie.Need-loop-again Inv-loop μ-loop
 loop-again c = (omega arith, λ l d h e. let a = turn-at (c .before .before .before .before .before .args .t2) (c .before .before .before .before .before .args .n) (omega arith) (c .before .before .before .before .before .good .1 .0 .1 .0 .1) l h (c .before .before .before .before .loop .j) _ (c .before .before .before .loop-test .taken) in place-on (isOpposite d) (c .before .before .before .before .loop .j) l (a .c) (a .here) (opposite-is (c .before .before .before .before .before .args .align) _ d (a .c) e (a .has) ∙ sym (c .before .is-opposite .ensures) ∙ c .if1 .left) ∙ c .before .before .before .before .loop .inv .1 l d h e)
 
--- src/stage4.rt:89:1
 returns-2 : tie.Need-returns-2 Inv-loop μ-loop
 returns-2 c = λ l d h e. place-end (isOpposite d) (c .before .loop .j) l (end-at (c .before .before .args .t2) (c .before .before .args .n) (omega arith) (c .before .before .good .1 .0 .1 .0 .1) l h (c .before .loop .j) (c .loop-test .left)) ∙ c .before .loop .inv .1 l d h e
 

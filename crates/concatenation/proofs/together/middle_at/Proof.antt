@@ -4,31 +4,22 @@ use Rattle.concatenation.proofs.Summaries.{middle-none, middle-some, mi
 use borrow.Author.Needs.{needs}
 use Rattle.concatenation.proofs.together.middle_at.Statement.{statement}
 use Rattle.concatenation.proofs.together.middle_at.Tie as tie
-use Rattle.concatenation.proofs.together.middle_at.Reads as reads
-use Rattle.concatenation.proofs.together.middle_at.Lts as lts
-use Rattle.concatenation.proofs.align.is_align.Reads as is-align-reads
 
--- src/stage4.rt:56:8
 is-align-requires : tie.Need-is-align-requires
 is-align-requires c κs = search needs
 
--- src/stage4.rt:57:23
 enum-known-unbounded : tie.Need-enum-known-unbounded
 enum-known-unbounded c = search needs
 
--- src/stage4.rt:58:13
 enum-told : tie.Need-enum-told
 enum-told c = search needs
 
--- src/stage4.rt:58:13
 returns : tie.Need-returns
 returns c = λ d h. middle-none (c .before .before .before .before .args .i) d (c .before .before .before .before .args .s) h (sym (c .before .before .before .is-align .ensures) ∙ c .before .before .if1 .taken) (ap placeOf (c .enum-told .given .1))
 
--- src/stage4.rt:60:9
 returns-2 : tie.Need-returns-2
 returns-2 c = λ d h. middle-some (c .before .before .before .before .before .args .i) d (c .before .before .before .before .before .args .s) h (sym (c .before .before .before .before .is-align .ensures) ∙ c .before .before .before .if1 .taken) (c .before .unbounded .given .0 .0) (ap placeOf (c .before .unbounded .given .1))
 
--- src/stage4.rt:51:1
 returns-3 : tie.Need-returns-3
 returns-3 c = λ d h. middle-other (c .before .before .args .i) d (c .before .before .args .s) h (sym (c .before .is-align .ensures) ∙ c .if1 .left)
 

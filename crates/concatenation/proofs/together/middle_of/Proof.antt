@@ -11,9 +11,6 @@ use Rattle.concatenation.specs.Overall.{Summarised}
 use Rattle.concatenation.proofs.Turns.{turn-at, end-at, middle-on, middle-off, middle-end}
 use Rattle.concatenation.proofs.together.middle_of.Statement.{statement}
 use Rattle.concatenation.proofs.together.middle_of.Tie as tie
-use Rattle.concatenation.proofs.together.middle_of.Reads as reads
-use Rattle.concatenation.proofs.together.middle_of.Lts as lts
-use Rattle.concatenation.proofs.together.middle_at.Reads as middle-at-reads
 
 abbrev Inv-loop : tie.InvT-loop
 Inv-loop n cs i₀ i = (i ≤ n) × ((l : List Concatenation) → Summarised l (take n cs) → middleFrom i (drop i l) ≡ middleFrom 0 l)
@@ -21,50 +18,39 @@ Inv-loop n cs i₀ i = (i ≤ n) × ((l : List Concatenation) → Summarised l (
 abbrev μ-loop : tie.MeasureT-loop
 μ-loop n cs i₀ i = n - i
 
--- src/stage4.rt:74:5
 loop-holds : tie.Need-loop-holds Inv-loop μ-loop
 loop-holds c = (search needs, λ l h. refl)
 
--- src/stage4.rt:75:18
 cast-at : tie.Need-cast-at Inv-loop μ-loop
 cast-at c = search needs
 
--- src/stage4.rt:76:17
 mul-s : tie.Need-mul-s Inv-loop μ-loop
 mul-s c = search needs
 
--- src/stage4.rt:76:17
 array-copy-out-s : tie.Need-array-copy-out-s Inv-loop μ-loop
 array-copy-out-s c = search needs
 
--- src/stage4.rt:77:9
 add-i : tie.Need-add-i Inv-loop μ-loop
 add-i c = search needs
 
--- src/stage4.rt:78:15
 middle-at-requires : tie.Need-middle-at-requires Inv-loop μ-loop
 middle-at-requires c κs = search needs
 
 enum-told : tie.Need-enum-told Inv-loop μ-loop
 enum-told c = search needs
 
--- src/stage4.rt:74:5
 loop-less : tie.Need-loop-less Inv-loop μ-loop
 loop-less c = search needs
 
--- src/stage4.rt:74:5
 loop-again : tie.Need-loop-again Inv-loop μ-loop
 loop-again c = (omega arith, λ l h. let a = turn-at (c .before .before .before .before .before .before .args .t1) (c .before .before .before .before .before .before .args .n) (omega arith) (c .before .before .before .before .before .before .good .0 .1 .0 .1) l h (c .before .before .before .before .before .loop .i) _ (c .before .before .before .before .loop-test .taken) in middle-on (c .before .before .before .before .before .loop .i) l (a .c) (a .here) (sym (c .before .before .middle-at .ensures (a .c) (a .has)) ∙ ap resultOf (c .enum-told .given .1)) ∙ c .before .before .before .before .before .loop .inv .1 l h)
 
--- src/stage4.rt:80:30
 enum-known-e : tie.Need-enum-known-e Inv-loop μ-loop
 enum-known-e c = search needs
 
--- src/stage4.rt:81:17
 returns : tie.Need-returns Inv-loop μ-loop
 returns c = λ l h. let a = turn-at (c .before .before .before .before .before .before .before .args .t1) (c .before .before .before .before .before .before .before .args .n) (omega arith) (c .before .before .before .before .before .before .before .good .0 .1 .0 .1) l h (c .before .before .before .before .before .before .loop .i) _ (c .before .before .before .before .before .loop-test .taken) in middle-off (c .before .before .before .before .before .before .loop .i) l (a .c) (a .here) _ _ _ (sym (c .before .before .before .middle-at .ensures (a .c) (a .has)) ∙ ap resultOf (c .before .e .given .1)) ∙ c .before .before .before .before .before .before .loop .inv .1 l h
 
--- src/stage4.rt:69:1
 returns-2 : tie.Need-returns-2 Inv-loop μ-loop
 returns-2 c = λ l h. middle-end (c .before .loop .i) l (end-at (c .before .before .args .t1) (c .before .before .args .n) (omega arith) (c .before .before .good .0 .1 .0 .1) l h (c .before .loop .i) (c .loop-test .left)) ∙ c .before .loop .inv .1 l h
 

@@ -1,45 +1,40 @@
+use mathlib.Core.Path.{refl, sym, _∙_, ap}
+use Prim.Native.Nat.{_+_}
+use native.Mathlib.Omega.{arith}
+use lib.ListN.{drop}
+use Rattle.concatenation.specs.Overall.{placeOf}
+use Rattle.concatenation.proofs.Turns.{turn-at}
+use Rattle.concatenation.proofs.Ends.{align-at, opposite-as}
 use borrow.Author.Needs.{needs}
 use Rattle.concatenation.proofs.together.opposite_at.Statement.{statement}
 use Rattle.concatenation.proofs.together.opposite_at.Tie as tie
-use Rattle.concatenation.proofs.together.opposite_at.Reads as reads
-use Rattle.concatenation.proofs.together.opposite_at.Lts as lts
-use Rattle.concatenation.proofs.together.find_opposite.Reads as find-opposite-reads
 
--- src/together.rt:110:13
 mul-s : tie.Need-mul-s
 mul-s c = search needs
 
--- src/together.rt:110:13
 array-copy-out-s : tie.Need-array-copy-out-s
 array-copy-out-s c = search needs
 
--- src/together.rt:112:39
 add-find-opposite : tie.Need-add-find-opposite
 add-find-opposite c = search needs
 
--- src/together.rt:112:11
 find-opposite-requires : tie.Need-find-opposite-requires
 find-opposite-requires c κs = search needs
 
--- src/together.rt:113:19
 enum-known-j : tie.Need-enum-known-j
 enum-known-j c = search needs
 
--- src/together.rt:115:28
 cast-t15 : tie.Need-cast-t15
 cast-t15 c = search needs
 
--- src/together.rt:118:24
 enum-told : tie.Need-enum-told
 enum-told c = search needs
 
--- src/together.rt:106:1
 returns : tie.Need-returns
-returns c = ?
+returns c = λ l d h e. opposite-as (c .before .before .before .before .before .args .i) d (drop ((c .before .before .before .before .before .args .i) + 1) l) _ (sym (c .before .before .before .find-opposite .ensures l d h (align-at l (c .before .before .before .before .before .args .i) _ d (turn-at (c .before .before .before .before .before .args .t1) (c .before .before .before .before .before .args .n) (omega arith) (c .before .before .before .before .before .good .0 .1 .0 .1) l h (c .before .before .before .before .before .args .i) _ (omega arith)) e)) ∙ ap placeOf (c .before .j .given .1))
 
--- src/together.rt:106:1
 returns-2 : tie.Need-returns-2
-returns-2 c = ?
+returns-2 c = λ l d h e. opposite-as (c .before .before .before .before .args .i) d (drop ((c .before .before .before .before .args .i) + 1) l) _ (sym (c .before .before .find-opposite .ensures l d h (align-at l (c .before .before .before .before .args .i) _ d (turn-at (c .before .before .before .before .args .t1) (c .before .before .before .before .args .n) (omega arith) (c .before .before .before .before .good .0 .1 .0 .1) l h (c .before .before .before .before .args .i) _ (omega arith)) e)) ∙ ap placeOf (c .enum-told .given .1))
 
 pub opposite-at-spec : {M : Type 1} → statement M
 opposite-at-spec =

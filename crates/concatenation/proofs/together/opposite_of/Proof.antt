@@ -1,49 +1,50 @@
+use mathlib.Core.Path.{_≡_, refl, sym, _∙_, ap}
+use mathlib.Core.List.{List}
+use Prim.Native.Nat.{ℕ, _≤_, _-_, _+_}
+use borrow.Author.Needs.{needs}
+use native.Mathlib.Omega.{arith}
+use lib.ListN.{length, take, drop}
+use Rattle.def_stages.specs.Concatenation.{Concatenation}
+use Rattle.def_stages.specs.Overall.{oppositeFrom}
+use Rattle.errors.specs.Refused.{resultOf}
+use Rattle.concatenation.specs.Overall.{Summarised}
+use Rattle.concatenation.proofs.Turns.{turn-at, end-at, opposite-on, opposite-off, opposite-end}
+use Rattle.concatenation.proofs.Ends.{none-at}
 use Rattle.concatenation.proofs.together.opposite_of.Statement.{statement}
 use Rattle.concatenation.proofs.together.opposite_of.Tie as tie
-use Rattle.concatenation.proofs.together.opposite_of.Reads as reads
-use Rattle.concatenation.proofs.together.opposite_of.Lts as lts
-use Rattle.concatenation.proofs.together.opposite_at.Reads as opposite-at-reads
 
 abbrev Inv-loop : tie.InvT-loop
-Inv-loop cs n i₀ i = ?
+Inv-loop cs n i₀ i = (i ≤ n) × ((l : List Concatenation) → Summarised l (take n cs) → oppositeFrom i (drop i l) ≡ oppositeFrom 0 l)
 
 abbrev μ-loop : tie.MeasureT-loop
-μ-loop cs n i₀ i = ?
+μ-loop cs n i₀ i = n - i
 
--- src/together.rt:127:5
 loop-holds : tie.Need-loop-holds Inv-loop μ-loop
-loop-holds c = ?
+loop-holds c = (search needs, λ l h. refl)
 
--- src/together.rt:129:9
 add-i : tie.Need-add-i Inv-loop μ-loop
-add-i c = ?
+add-i c = search needs
 
--- src/together.rt:130:15
 opposite-at-requires : tie.Need-opposite-at-requires Inv-loop μ-loop
-opposite-at-requires c κs = ?
+opposite-at-requires c κs = search needs
 
 enum-told : tie.Need-enum-told Inv-loop μ-loop
-enum-told c = ?
+enum-told c = search needs
 
--- src/together.rt:127:5
 loop-less : tie.Need-loop-less Inv-loop μ-loop
-loop-less c = ?
+loop-less c = search needs
 
--- src/together.rt:127:5
 loop-again : tie.Need-loop-again Inv-loop μ-loop
-loop-again c = ?
+loop-again c = (omega arith, λ l h. let a = turn-at (c .before .before .before .before .before .args .cs) (c .before .before .before .before .before .args .n) (omega arith) (c .before .before .before .before .before .good .0 .1 .0 .1) l h (c .before .before .before .before .loop .i) none-at (c .before .before .before .loop-test .taken) in opposite-on (c .before .before .before .before .loop .i) l (a .c) (a .here) (sym (c .before .before .opposite-at .ensures l (a .c) h (a .here)) ∙ ap resultOf (c .enum-told .given .1)) ∙ c .before .before .before .before .loop .inv .1 l h)
 
--- src/together.rt:132:30
 enum-known-e : tie.Need-enum-known-e Inv-loop μ-loop
-enum-known-e c = ?
+enum-known-e c = search needs
 
--- src/together.rt:133:17
 returns : tie.Need-returns Inv-loop μ-loop
-returns c = ?
+returns c = λ l h. let a = turn-at (c .before .before .before .before .before .before .args .cs) (c .before .before .before .before .before .before .args .n) (omega arith) (c .before .before .before .before .before .before .good .0 .1 .0 .1) l h (c .before .before .before .before .before .loop .i) none-at (c .before .before .before .before .loop-test .taken) in opposite-off (c .before .before .before .before .before .loop .i) l (a .c) (a .here) _ _ _ (sym (c .before .before .before .opposite-at .ensures l (a .c) h (a .here)) ∙ ap resultOf (c .before .e .given .1)) ∙ c .before .before .before .before .before .loop .inv .1 l h
 
--- src/together.rt:122:1
 returns-2 : tie.Need-returns-2 Inv-loop μ-loop
-returns-2 c = ?
+returns-2 c = λ l h. opposite-end (c .before .loop .i) l (end-at (c .before .before .args .cs) (c .before .before .args .n) (omega arith) (c .before .before .good .0 .1 .0 .1) l h (c .before .loop .i) (c .loop-test .left)) ∙ c .before .loop .inv .1 l h
 
 pub opposite-of-spec : {M : Type 1} → statement M
 opposite-of-spec =

@@ -11,10 +11,6 @@ use Rattle.def_stages.specs.Overall.{overallFrom, overall}
 use Rattle.concatenation.specs.Overall.{Summarised, overallOf}
 use Rattle.concatenation.proofs.together.overall_of.Statement.{statement}
 use Rattle.concatenation.proofs.together.overall_of.Tie as tie
-use Rattle.concatenation.proofs.together.overall_of.Reads as reads
-use Rattle.concatenation.proofs.together.overall_of.Lts as lts
-use Rattle.concatenation.proofs.overall.join.Reads as join-reads
-use Rattle.concatenation.proofs.overall.start.Reads as start-reads
 
 abbrev Inv-loop : tie.InvT-loop
 Inv-loop bare n cs o₀ i₀ o i = (i ≤ n) × ((l : List Concatenation) → Summarised l (take n cs) → overallFrom bare i (drop i l) (overallOf o) ≡ overallFrom bare 0 l (overall l))
@@ -22,59 +18,45 @@ Inv-loop bare n cs o₀ i₀ o i = (i ≤ n) × ((l : List Concatenation) → Su
 abbrev μ-loop : tie.MeasureT-loop
 μ-loop bare n cs o₀ i₀ o i = n - i
 
--- src/stage4.rt:33:26
 array-copy-out-start : tie.Need-array-copy-out-start Inv-loop μ-loop
 array-copy-out-start c = search needs
 
--- src/stage4.rt:33:9
 start-requires : tie.Need-start-requires Inv-loop μ-loop
 start-requires c κs = search needs
 
--- src/stage4.rt:35:5
 loop-holds : tie.Need-loop-holds Inv-loop μ-loop
 loop-holds c = (search needs, λ l h. rw (c .start .ensures l (starts-at (c .before .before .args .t2) (c .before .before .args .n) (omega arith) (c .before .before .good .1 .0 .1 .0 .1) l h _)))
 
--- src/stage4.rt:36:18
 cast-at : tie.Need-cast-at Inv-loop μ-loop
 cast-at c = search needs
 
--- src/stage4.rt:37:17
 mul-s : tie.Need-mul-s Inv-loop μ-loop
 mul-s c = search needs
 
--- src/stage4.rt:37:17
 array-copy-out-s : tie.Need-array-copy-out-s Inv-loop μ-loop
 array-copy-out-s c = search needs
 
--- src/stage4.rt:38:9
 add-i : tie.Need-add-i Inv-loop μ-loop
 add-i c = search needs
 
--- src/stage4.rt:39:15
 join-requires : tie.Need-join-requires Inv-loop μ-loop
 join-requires c κs = search needs
 
--- src/stage4.rt:40:31
 enum-known-p : tie.Need-enum-known-p Inv-loop μ-loop
 enum-known-p c = search needs
 
--- src/stage4.rt:35:5
 loop-less : tie.Need-loop-less Inv-loop μ-loop
 loop-less c = search needs
 
--- src/stage4.rt:35:5
 loop-again : tie.Need-loop-again Inv-loop μ-loop
 loop-again c = (omega arith, λ l h. let a = turn-at (c .before .before .before .before .before .before .before .before .before .args .t2) (c .before .before .before .before .before .before .before .before .before .args .n) (omega arith) (c .before .before .before .before .before .before .before .before .before .good .1 .0 .1 .0 .1) l h (c .before .before .before .before .before .before .loop .i) _ (c .before .before .before .before .before .loop-test .taken) in over-on (c .before .before .before .before .before .before .before .before .before .args .bare) (c .before .before .before .before .before .before .loop .i) l _ a (overallOf (c .before .before .before .before .before .before .loop .o)) (overallOf (c .before .p .given .0 .0)) (sym (c .before .before .before .join .ensures (a .c) (a .has)) ∙ ap answerOf (c .before .p .given .1)) ∙ c .before .before .before .before .before .before .loop .inv .1 l h)
 
--- src/stage4.rt:43:36
 enum-known-e : tie.Need-enum-known-e Inv-loop μ-loop
 enum-known-e c = search needs
 
--- src/stage4.rt:44:17
 returns : tie.Need-returns Inv-loop μ-loop
 returns c = λ l h. let a = turn-at (c .before .before .before .before .before .before .before .before .before .args .t2) (c .before .before .before .before .before .before .before .before .before .args .n) (omega arith) (c .before .before .before .before .before .before .before .before .before .good .1 .0 .1 .0 .1) l h (c .before .before .before .before .before .before .loop .i) _ (c .before .before .before .before .before .loop-test .taken) in over-off (c .before .before .before .before .before .before .before .before .before .args .bare) (c .before .before .before .before .before .before .loop .i) l _ a (overallOf (c .before .before .before .before .before .before .loop .o)) _ _ _ (sym (c .before .before .before .join .ensures (a .c) (a .has)) ∙ ap answerOf (c .before .e .given .1)) ∙ c .before .before .before .before .before .before .loop .inv .1 l h
 
--- src/stage4.rt:29:1
 returns-2 : tie.Need-returns-2 Inv-loop μ-loop
 returns-2 c = λ l h. over-end (c .before .before .before .before .args .bare) (c .before .loop .i) l (overallOf (c .before .loop .o)) (end-at (c .before .before .before .before .args .t2) (c .before .before .before .before .args .n) (omega arith) (c .before .before .before .before .good .1 .0 .1 .0 .1) l h (c .before .loop .i) (c .loop-test .left)) ∙ c .before .loop .inv .1 l h
 
