@@ -1,7 +1,7 @@
 -- What stage 3 asks of a component, the running check in code, and one step of it.
 use Rattle.def_numbers.specs.Prelude.{ℕ, _+_, _^_, Bool, true, false, not, _&&_, _||_, Option, none, some, ltb, eqb, ℤ, natAbs}
 use mathlib.Core.Path.{_≡_}
-use Rattle.def_numbers.specs.Basics.{Result, ok, _>>=_, placed, if_then_else_}
+use Rattle.def_numbers.specs.Basics.{Result, ok, refused, _>>=_, placed, if_then_else_}
 use Rattle.def_numbers.specs.Refusals.{need, literal-in-sink, lone-filler-sink, second-filler, zero-total-width, sum-overflow}
 use Rattle.def_stages.specs.Ranges.{staticWidth}
 use Rattle.def_stages.specs.Component.{Component, ComponentType, literal, variable, filler, hasEnd}
@@ -77,3 +77,16 @@ checkAs kind ends full sink first last r =
     if eqb kind 1 then checkLiteral sink r
     else if eqb kind 2 then ok (withFull full r)
     else if ends then ok r else checkOpen sink first last r
+
+-- the running check after a step, as it was where the step refuses; and whether it refused
+abbrev pub keptOf : Running → Result Running → Running
+keptOf r (ok s) = s
+keptOf r (refused n i k) = r
+
+abbrev pub verdictOf : Result Running → Result Unit
+verdictOf q = q >>= λ _. ok tt
+
+-- a step from r: r′ stands afterwards, and v is the answer
+abbrev pub Advances : ℕ → ℕ → Bool → Bool → Shape → Running → Running → Result Unit → Type 0
+Advances i k first last s r r′ v =
+    (c : Component) → HasShape c s → (r′ ≡ keptOf r (stepOf i k first last c r)) × (v ≡ verdictOf (stepOf i k first last c r))

@@ -18,7 +18,7 @@ ghost use Rattle.def_numbers.specs.Basics.{placed, refused as refusedDef};
 ghost use Rattle.def_stages.specs.Component.{Component};
 ghost use Rattle.errors.specs.Refused.{resultOf};
 ghost use Rattle.misc.specs.Value.{valueOf, optionOf, optionUsize};
-ghost use Rattle.concatenation.specs.Running.{runningOf, steppedOf, HasShape, stepOf, finishOf, fitting, addAs, checkLiteral, withFull, checkOpen, checkAs};
+ghost use Rattle.concatenation.specs.Running.{runningOf, steppedOf, HasShape, stepOf, finishOf, fitting, addAs, checkLiteral, withFull, checkOpen, checkAs, keptOf, verdictOf, Advances};
 
 // What stage 3 asks of a component: its kind (1 literal, 2 variable, 3 filler), static_width, and two tests.
 pub struct Shape {
@@ -211,4 +211,32 @@ pub fn finish(i: u32, r: Running) -> Checked
         });
     }
     Checked::Passed
+}
+
+// The running check after a step, as it was where the step refuses, and the step's verdict.
+pub struct Advanced {
+    pub running: Running,
+    pub checked: Checked,
+}
+
+fn settle(r: Running, q: Stepped) -> Advanced
+    ensures { λ a. ⌜ (runningOf (a .running) ≡ keptOf (runningOf r) (steppedOf q)) × (resultOf (a .checked) ≡ verdictOf (steppedOf q)) ⌝ }
+{
+    match q {
+        Stepped::Ok(s) => Advanced {
+            running: s,
+            checked: Checked::Passed,
+        },
+        Stepped::Refused(e) => Advanced {
+            running: r,
+            checked: Checked::Refused(e),
+        },
+    }
+}
+
+// The step, by value, with the struct kept on a refusal.
+pub fn advance_value(r: Running, i: u32, k: u32, first: bool, last: bool, shape: Shape) -> Advanced
+    ensures { λ a. ⌜ Advances i k first last shape (runningOf r) (runningOf (a .running)) (resultOf (a .checked)) ⌝ }
+{
+    settle(r, step(i, k, first, last, shape, r))
 }

@@ -25,6 +25,16 @@ ghost use Rattle.misc.specs.Value.{optionUsize};
 ghost use Rattle.concatenation.specs.Align.{alignOf};
 ghost use Rattle.concatenation.specs.Overall.{placeOf, overallOf, answerOf, HasSummary, Summarised, middleAt, isOpposite, oppositeAt, commonOf, onlyOf, middleOf, oppositeOf, checksOf};
 
+fn refused_at(number: u32, i: u32, k: u32) -> Checked
+    ensures { λ q. ⌜ resultOf q ≡ refused number i k ⌝ }
+{
+    Checked::Refused(Refusal {
+        number,
+        concatenation: i,
+        component: k,
+    })
+}
+
 fn overall_of(bare: bool, cs: [Summary; 16], n: usize) -> OverallResult
     requires { ⌜ n ≤ 16 ⌝ }
     ensures { λ q. ⌜ ((l : List Concatenation) → Summarised l (take n cs) → answerOf q ≡ overallFrom bare 0 l (overall l)) ⌝ }
@@ -56,11 +66,7 @@ fn middle_at(i: u32, s: Summary) -> Checked
         let Place::At(k) = unbounded else {
             return Checked::Passed;
         };
-        return Checked::Refused(Refusal {
-            number: 44,
-            concatenation: i,
-            component: k,
-        });
+        return refused_at(44, i, k);
     }
     Checked::Passed
 }
@@ -109,11 +115,7 @@ fn opposite_at(cs: [Summary; 16], n: usize, i: usize) -> Checked
     let s = cs[i];
     let align = s.align;
     match find_opposite(align, cs, n, i + 1) {
-        Place::At(j) => Checked::Refused(Refusal {
-            number: 45,
-            concatenation: i as u32,
-            component: j,
-        }),
+        Place::At(j) => refused_at(45, i as u32, j),
         Place::None => Checked::Passed,
     }
 }
@@ -136,12 +138,6 @@ fn opposite_of(cs: [Summary; 16], n: usize) -> Checked
     Checked::Passed
 }
 
-fn refusal(number: u32) -> Checked
-    ensures { λ q. ⌜ resultOf q ≡ refused number 0 0 ⌝ }
-{
-    Checked::Refused(errors::refuse(number))
-}
-
 // 42: mode 2 wants a common width.
 fn check_common(mode: u32, width: OptionUsize) -> Checked
     ensures { λ q. ⌜ resultOf q ≡ commonOf mode (optionUsize width) ⌝ }
@@ -150,7 +146,7 @@ fn check_common(mode: u32, width: OptionUsize) -> Checked
         return Checked::Passed;
     };
     if mode == 2 {
-        return refusal(42);
+        return refused_at(42, 0, 0);
     }
     Checked::Passed
 }
@@ -163,7 +159,7 @@ fn check_only(n: usize, deterministic: bool) -> Checked
         return Checked::Passed;
     }
     if n == 1 {
-        return refusal(43);
+        return refused_at(43, 0, 0);
     }
     Checked::Passed
 }

@@ -14,15 +14,15 @@ enum-told-2 c = search needs
 returns : tie.Need-returns
 returns c = common-known (c .before .before .args .mode) (optionUsize (c .before .before .args .width)) _ (ap optionUsize (c .enum-told2 .given .1))
 
-refusal-requires : tie.Need-refusal-requires
-refusal-requires c κs = search needs
+refused-at-requires : tie.Need-refused-at-requires
+refused-at-requires c κs = search needs
 
 returns-2 : tie.Need-returns-2
-returns-2 c = c .refusal .ensures ∙ common-lacking (c .before .before .before .before .args .mode) (optionUsize (c .before .before .before .before .args .width)) (ap optionUsize (c .before .before .enum-told .given .1)) (c .before .if1 .taken)
+returns-2 c = c .refused-at .ensures ∙ common-lacking (c .before .before .before .before .args .mode) (optionUsize (c .before .before .before .before .args .width)) (ap optionUsize (c .before .before .enum-told .given .1)) (c .before .if1 .taken)
 
 returns-3 : tie.Need-returns-3
 returns-3 c = common-free (c .before .before .before .args .mode) (optionUsize (c .before .before .before .args .width)) (ap optionUsize (c .before .enum-told .given .1)) (c .if1 .left)
 
 pub check-common-spec : {M : Type 1} → statement M
 check-common-spec =
-    tie.close (tie.spec enum-told enum-told-2 returns refusal-requires returns-2 returns-3)
+    tie.close (tie.spec enum-told enum-told-2 returns refused-at-requires returns-2 returns-3)

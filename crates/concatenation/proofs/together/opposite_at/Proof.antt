@@ -24,14 +24,17 @@ find-opposite-requires c κs = search needs
 enum-known-j : tie.Need-enum-known-j
 enum-known-j c = search needs
 
-cast-t15 : tie.Need-cast-t15
-cast-t15 c = search needs
+cast-refused-at : tie.Need-cast-refused-at
+cast-refused-at c = search needs
+
+refused-at-requires : tie.Need-refused-at-requires
+refused-at-requires c κs = search needs
 
 enum-told : tie.Need-enum-told
 enum-told c = search needs
 
 returns : tie.Need-returns
-returns c = λ l d h e. opposite-as (c .before .before .before .before .before .args .i) d (drop ((c .before .before .before .before .before .args .i) + 1) l) _ (sym (c .before .before .before .find-opposite .ensures l d h (align-at l (c .before .before .before .before .before .args .i) _ d (turn-at (c .before .before .before .before .before .args .t1) (c .before .before .before .before .before .args .n) (omega arith) (c .before .before .before .before .before .good .0 .1 .0 .1) l h (c .before .before .before .before .before .args .i) _ (omega arith)) e)) ∙ ap placeOf (c .before .j .given .1))
+returns c = λ l d h e. c .refused-at .ensures ∙ opposite-as (c .before .before .before .before .before .before .args .i) d (drop ((c .before .before .before .before .before .before .args .i) + 1) l) _ (sym (c .before .before .before .before .find-opposite .ensures l d h (align-at l (c .before .before .before .before .before .before .args .i) _ d (turn-at (c .before .before .before .before .before .before .args .t1) (c .before .before .before .before .before .before .args .n) (omega arith) (c .before .before .before .before .before .before .good .0 .1 .0 .1) l h (c .before .before .before .before .before .before .args .i) _ (omega arith)) e)) ∙ ap placeOf (c .before .before .j .given .1))
 
 returns-2 : tie.Need-returns-2
 returns-2 c = λ l d h e. opposite-as (c .before .before .before .before .args .i) d (drop ((c .before .before .before .before .args .i) + 1) l) _ (sym (c .before .before .find-opposite .ensures l d h (align-at l (c .before .before .before .before .args .i) _ d (turn-at (c .before .before .before .before .args .t1) (c .before .before .before .before .args .n) (omega arith) (c .before .before .before .before .good .0 .1 .0 .1) l h (c .before .before .before .before .args .i) _ (omega arith)) e)) ∙ ap placeOf (c .enum-told .given .1))
@@ -45,7 +48,8 @@ opposite-at-spec =
     add-find-opposite
     find-opposite-requires
     enum-known-j
-    cast-t15
+    cast-refused-at
+    refused-at-requires
     enum-told
     returns
     returns-2)
