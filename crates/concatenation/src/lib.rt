@@ -2,6 +2,7 @@
 // concatenations say together.
 mod align;
 mod flags;
+mod lent;
 mod overall;
 mod running;
 mod together;
@@ -9,6 +10,8 @@ mod together;
 pub use align::FillerAlign;
 pub use align::align_number;
 pub use align::join_align;
+pub use lent::advance;
+pub use lent::lent_once;
 pub use overall::Overall;
 pub use overall::OverallResult;
 pub use overall::Place;
