@@ -2,3 +2,4 @@
 pub mod Align
 pub mod Running
 pub mod Overall
+pub mod Witness

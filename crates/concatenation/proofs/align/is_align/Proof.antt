@@ -1,3 +1,5 @@
+-- `concatenation::is_align` meets its contract: the two numbers are those of the two alignments.
+-- Assumes nothing.
 use borrow.Author.Needs.{needs}
 use Rattle.concatenation.proofs.align.is_align.Statement.{statement}
 use Rattle.concatenation.proofs.align.is_align.Tie as tie

@@ -1,3 +1,5 @@
+-- `concatenation::is_opposite` meets its contract: test by test.
+-- Assumes nothing.
 use borrow.Author.Needs.{needs}
 use Rattle.concatenation.proofs.align.is_opposite.Statement.{statement}
 use Rattle.concatenation.proofs.align.is_opposite.Tie as tie

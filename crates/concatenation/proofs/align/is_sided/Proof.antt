@@ -1,3 +1,5 @@
+-- `concatenation::is_sided` meets its contract: test by test.
+-- Assumes nothing.
 use borrow.Author.Needs.{needs}
 use Rattle.concatenation.proofs.align.is_sided.Statement.{statement}
 use Rattle.concatenation.proofs.align.is_sided.Tie as tie

@@ -1,3 +1,5 @@
+-- `concatenation::join_align` meets its contract: by which of the two is none.
+-- Assumes nothing.
 use mathlib.Core.Path.{sym, _∙_}
 use borrow.Author.Needs.{needs}
 use Rattle.concatenation.proofs.align.join_align.Statement.{statement}

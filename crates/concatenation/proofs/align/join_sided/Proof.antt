@@ -1,3 +1,5 @@
+-- `concatenation::join_sided` meets its contract: by the tests on the way.
+-- Assumes nothing.
 use mathlib.Core.Path.{sym, _∙_}
 use borrow.Author.Needs.{needs}
 use Rattle.concatenation.proofs.align.join_sided.Statement.{statement}

@@ -1,3 +1,5 @@
+-- `concatenation::after` meets its contract: by what the check said.
+-- Assumes nothing.
 use borrow.Author.Needs.{needs}
 use Rattle.concatenation.proofs.overall.after.Statement.{statement}
 use Rattle.concatenation.proofs.overall.after.Tie as tie

@@ -1,7 +1,9 @@
-use native.Mathlib.Omega.{arith}
+-- `concatenation::add_fitting` meets its contract: by the test, which is that the sum fits.
+-- Assumes nothing.
 use Prim.Native.Nat.{_+_}
-use Rattle.concatenation.proofs.Widths.{fits, exceeds}
+use native.Mathlib.Omega.{arith}
 use borrow.Author.Needs.{needs}
+use Rattle.concatenation.proofs.Widths.{fits, exceeds}
 use Rattle.concatenation.proofs.running.add_fitting.Statement.{statement}
 use Rattle.concatenation.proofs.running.add_fitting.Tie as tie
 

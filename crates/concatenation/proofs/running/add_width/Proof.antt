@@ -1,3 +1,5 @@
+-- `concatenation::add_width` meets its contract: by whether the width is known.
+-- Assumes nothing.
 use borrow.Author.Needs.{needs}
 use Rattle.concatenation.proofs.running.add_width.Statement.{statement}
 use Rattle.concatenation.proofs.running.add_width.Tie as tie

@@ -1,6 +1,8 @@
+-- `concatenation::advance_value` meets its contract: what the step ensures, settled.
+-- Assumes nothing.
 use mathlib.Core.Path.{refl, sym, _∙_, ap}
-use Rattle.concatenation.specs.Running.{runningOf, keptOf, verdictOf}
 use borrow.Author.Needs.{needs}
+use Rattle.concatenation.specs.Running.{runningOf, keptOf, verdictOf}
 use Rattle.concatenation.proofs.running.advance_value.Statement.{statement}
 use Rattle.concatenation.proofs.running.advance_value.Tie as tie
 

@@ -1,3 +1,5 @@
+-- `concatenation::check_literal` meets its contract: by whether the concatenation is a sink.
+-- Assumes nothing.
 use native.Mathlib.Omega.{arith}
 use borrow.Author.Tests.{eq-eqb, ne-eqb}
 use borrow.Author.Needs.{needs}

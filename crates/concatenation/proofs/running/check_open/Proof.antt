@@ -1,10 +1,12 @@
+-- `concatenation::check_open` meets its contract: 31 and 32 in turn, else the new alignment.
+-- Assumes nothing.
 use mathlib.Core.Path.{refl, sym, _∙_, ap}
+use mathlib.Core.Bool.{Bool, not, _&&_}
+use borrow.Author.Needs.{needs}
+use lib.Dec.{eqb}
 use Rattle.def_numbers.specs.Basics.{placed}
 use Rattle.concatenation.specs.Running.{runningOf}
 use Rattle.concatenation.proofs.Steps.{open-lone, open-second, open-ok}
-use mathlib.Core.Bool.{Bool, not, _&&_}
-use lib.Dec.{eqb}
-use borrow.Author.Needs.{needs}
 use Rattle.concatenation.proofs.running.check_open.Statement.{statement}
 use Rattle.concatenation.proofs.running.check_open.Tie as tie
 

@@ -1,10 +1,12 @@
+-- `concatenation::check_type` meets its contract: by the kind, and by the end of a filler.
+-- Assumes nothing.
 use mathlib.Core.Path.{refl, sym, _∙_, ap}
+use mathlib.Core.Bool.{not}
+use borrow.Author.Needs.{needs}
+use lib.Dec.{eqb}
 use Rattle.def_numbers.specs.Basics.{placed}
 use Rattle.concatenation.specs.Running.{runningOf}
 use Rattle.concatenation.proofs.Steps.{as-literal, as-variable, as-filler}
-use mathlib.Core.Bool.{not}
-use lib.Dec.{eqb}
-use borrow.Author.Needs.{needs}
 use Rattle.concatenation.proofs.running.check_type.Statement.{statement}
 use Rattle.concatenation.proofs.running.check_type.Tie as tie
 

@@ -1,3 +1,5 @@
+-- `concatenation::check_variable` meets its contract: by the flag so far.
+-- Assumes nothing.
 use Rattle.concatenation.proofs.running.check_variable.Statement.{statement}
 use Rattle.concatenation.proofs.running.check_variable.Tie as tie
 

@@ -1,3 +1,5 @@
+-- `concatenation::finish` meets its contract: by the width.
+-- Assumes nothing.
 use native.Mathlib.Omega.{arith}
 use borrow.Author.Tests.{lt-ltb}
 use borrow.Author.Needs.{needs}

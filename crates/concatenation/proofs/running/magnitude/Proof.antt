@@ -1,7 +1,9 @@
-use native.Mathlib.Omega.{arith}
+-- `concatenation::magnitude` meets its contract: by the high half: 0, all ones, or between.
+-- Assumes nothing.
 use Prim.Native.Nat.{_+_, _-_, _^_}
-use Rattle.concatenation.proofs.Widths.{fits, exceeds, low-only, high-part, negative}
+use native.Mathlib.Omega.{arith}
 use borrow.Author.Needs.{needs}
+use Rattle.concatenation.proofs.Widths.{fits, exceeds, low-only, high-part, negative}
 use Rattle.concatenation.proofs.running.magnitude.Statement.{statement}
 use Rattle.concatenation.proofs.running.magnitude.Tie as tie
 

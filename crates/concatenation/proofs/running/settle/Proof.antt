@@ -1,3 +1,5 @@
+-- `concatenation::settle` meets its contract: by what the step said.
+-- Assumes nothing.
 use borrow.Author.Needs.{needs}
 use Rattle.concatenation.proofs.running.settle.Statement.{statement}
 use Rattle.concatenation.proofs.running.settle.Tie as tie

@@ -1,8 +1,10 @@
+-- `concatenation::sum` meets its contract: by whether the number without its sign fits.
+-- Assumes nothing.
 use mathlib.Core.Path.{refl, sym, _∙_, ap}
-use Rattle.misc.specs.Value.{valueOf, optionOf}
-use lib.IntN.{natAbs}
-use Rattle.concatenation.proofs.Widths.{sum-known, sum-unknown}
 use borrow.Author.Needs.{needs}
+use lib.IntN.{natAbs}
+use Rattle.misc.specs.Value.{valueOf, optionOf}
+use Rattle.concatenation.proofs.Widths.{sum-known, sum-unknown}
 use Rattle.concatenation.proofs.running.sum.Statement.{statement}
 use Rattle.concatenation.proofs.running.sum.Tie as tie
 

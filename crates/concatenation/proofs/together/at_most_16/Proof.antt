@@ -1,7 +1,9 @@
+-- `concatenation::at_most_16` meets its contract: an array of 16 has no more to take.
+-- Assumes nothing.
 use mathlib.Core.Path.{sym, _∙_}
 use native.Mathlib.Omega.{arith}
-use lib.Seq.{take-all}
 use borrow.Author.Needs.{needs}
+use lib.Seq.{take-all}
 use Rattle.concatenation.proofs.together.at_most_16.Statement.{statement}
 use Rattle.concatenation.proofs.together.at_most_16.Tie as tie
 

@@ -1,3 +1,5 @@
+-- `concatenation::check_middle` meets its contract: by the flag.
+-- Assumes nothing.
 use borrow.Author.Needs.{needs}
 use Rattle.concatenation.proofs.together.check_middle.Statement.{statement}
 use Rattle.concatenation.proofs.together.check_middle.Tie as tie

@@ -1,3 +1,5 @@
+-- `concatenation::check_only` meets its contract: by the flag and the count.
+-- Assumes nothing.
 use borrow.Author.Tests.{eq-eqb, ne-eqb}
 use borrow.Author.Needs.{needs}
 use Rattle.concatenation.proofs.together.check_only.Statement.{statement}

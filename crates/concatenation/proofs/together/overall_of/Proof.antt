@@ -1,14 +1,16 @@
-use native.Mathlib.Omega.{arith}
-use Rattle.concatenation.specs.Overall.{answerOf}
-use Rattle.concatenation.proofs.Turns.{turn-at, end-at, starts-at, over-on, over-off, over-end}
+-- `concatenation::overall_of` meets its contract: what is left of the list, from what was found so far, gives what the whole gives. The measure is what is left.
+-- Assumes nothing.
 use mathlib.Core.Path.{_≡_, refl, sym, _∙_, ap}
 use mathlib.Core.List.{List}
 use Prim.Native.Nat.{ℕ, _≤_, _-_}
+use native.Mathlib.Omega.{arith}
 use borrow.Author.Needs.{needs}
 use lib.ListN.{length, take, drop}
 use Rattle.def_stages.specs.Concatenation.{Concatenation}
 use Rattle.def_stages.specs.Overall.{overallFrom, overall}
+use Rattle.concatenation.specs.Overall.{answerOf}
 use Rattle.concatenation.specs.Overall.{Summarised, overallOf}
+use Rattle.concatenation.proofs.Turns.{turn-at, end-at, starts-at, over-on, over-off, over-end}
 use Rattle.concatenation.proofs.together.overall_of.Statement.{statement}
 use Rattle.concatenation.proofs.together.overall_of.Tie as tie
 

@@ -1,9 +1,11 @@
+-- `concatenation::stage4` meets its contract: the loop, then the checks, over the first n of the array.
+-- Assumes nothing.
 use mathlib.Core.Path.{refl, sym, _∙_, ap}
 use mathlib.Core.Bool.{Bool}
+use borrow.Author.Needs.{needs}
 use Rattle.def_stages.specs.Overall.{overallFrom, overall}
 use Rattle.concatenation.specs.Overall.{overallOf, answerOf}
 use Rattle.concatenation.proofs.Ends.{ends, refuses}
-use borrow.Author.Needs.{needs}
 use Rattle.concatenation.proofs.together.stage4.Statement.{statement}
 use Rattle.concatenation.proofs.together.stage4.Tie as tie
 
