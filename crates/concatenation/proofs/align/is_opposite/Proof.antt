@@ -20,7 +20,15 @@ both-requires-2 : tie.Need-both-requires-2
 both-requires-2 c κs = search needs
 
 returns : tie.Need-returns
-returns c = rw (c .both2 .ensures, c .before .before .both .ensures, c .before .before .before .before .is-sided .ensures, c .before .before .before .is-sided2 .ensures, c .before .is-align .ensures)
+returns c =
+    rw (
+      c .both2 .ensures,
+      c .before .before .both .ensures,
+      c .before .before .before .before .is-sided .ensures,
+      c .before .before
+          .before .is-sided2 .ensures,
+      c .before .is-align .ensures,
+    )
 
 pub is-opposite-spec : {M : Type 1} → statement M
 is-opposite-spec =

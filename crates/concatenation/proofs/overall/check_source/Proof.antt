@@ -14,16 +14,24 @@ enum-told : tie.Need-enum-told
 enum-told c = search needs
 
 returns : tie.Need-returns
-returns c = λ d h. source-none (c .before .before .args .bare) (c .before .before .args .i) d (c .before .before .args .s) h (ap placeOf (c .enum-told .given .1))
+returns c =
+    let p = c .before .before .args in
+    λ d h. source-none (p .bare) (p .i) d (p .s) h (ap placeOf (c .enum-told .given .1))
 
 both-requires : tie.Need-both-requires
 both-requires c κs = search needs
 
 returns-2 : tie.Need-returns-2
-returns-2 c = λ d h. source-bad (c .before .before .before .before .before .args .bare) (c .before .before .before .before .before .args .i) d (c .before .before .before .before .before .args .s) h (c .before .before .before .filler .given .0 .0) (ap placeOf (c .before .before .before .filler .given .1)) (sym (c .before .both .ensures) ∙ c .if1 .taken)
+returns-2 c =
+    let p = c .before .before .before .before .before .args in
+    λ d h. source-bad (p .bare) (p .i) d (p .s) h (c .before .before .before .filler .given .0 .0) (ap placeOf (c .before .before .before
+    .filler .given .1)) (sym (c .before .both .ensures) ∙ c .if1 .taken)
 
 returns-3 : tie.Need-returns-3
-returns-3 c = λ d h. source-good (c .before .before .before .before .before .args .bare) (c .before .before .before .before .before .args .i) d (c .before .before .before .before .before .args .s) h (c .before .before .before .filler .given .0 .0) (ap placeOf (c .before .before .before .filler .given .1)) (sym (c .before .both .ensures) ∙ c .if1 .left)
+returns-3 c =
+    let p = c .before .before .before .before .before .args in
+    λ d h. source-good (p .bare) (p .i) d (p .s) h (c .before .before .before .filler .given .0 .0) (ap placeOf (c .before .before .before
+    .filler .given .1)) (sym (c .before .both .ensures) ∙ c .if1 .left)
 
 pub check-source-spec : {M : Type 1} → statement M
 check-source-spec =

@@ -24,10 +24,17 @@ enum-known-e : tie.Need-enum-known-e
 enum-known-e c = search needs
 
 returns : tie.Need-returns
-returns c = λ d h. c .after .ensures ∙ ap (λ (a : Result Unit). andThen a (ok (overallOf (c .before .before .before .p .given .0 .0)))) (c .before .check-source .ensures d h) ∙ turn-on (c .before .before .before .before .before .before .args .bare) (c .before .before .before .before .before .before .args .i) d (overallOf (c .before .before .before .before .before .before .args .o)) (overallOf (c .before .before .before .p .given .0 .0)) (sym (ap answerOf (c .before .before .before .p .given .1)) ∙ c .before .before .before .before .before .join-width .ensures d h)
+returns c =
+    let p = c .before .before .before .before .before .before .args in
+    λ d h. c .after .ensures ∙ ap (λ (a : Result Unit). andThen a (ok (overallOf (c .before .before .before .p .given .0 .0)))) (c .before
+    .check-source .ensures d h) ∙ turn-on (p .bare) (p .i) d (overallOf (p .o)) (overallOf (c .before .before .before .p .given .0 .0))
+    (sym (ap answerOf (c .before .before .before .p .given .1)) ∙ c .before .before .before .before .before .join-width .ensures d h)
 
 returns-2 : tie.Need-returns-2
-returns-2 c = λ d h. turn-off (c .before .before .before .before .args .bare) (c .before .before .before .before .args .i) d (overallOf (c .before .before .before .before .args .o)) (c .before .e .given .0 .0 .number) (c .before .e .given .0 .0 .concatenation) (c .before .e .given .0 .0 .component) (sym (ap answerOf (c .before .e .given .1)) ∙ c .before .before .before .join-width .ensures d h)
+returns-2 c =
+    let p = c .before .before .before .before .args in
+    λ d h. turn-off (p .bare) (p .i) d (overallOf (p .o)) (c .before .e .given .0 .0 .number) (c .before .e .given .0 .0 .concatenation) (c
+    .before .e .given .0 .0 .component) (sym (ap answerOf (c .before .e .given .1)) ∙ c .before .before .before .join-width .ensures d h)
 
 pub join-spec : {M : Type 1} → statement M
 join-spec =

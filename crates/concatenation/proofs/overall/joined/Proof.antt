@@ -18,7 +18,10 @@ either-requires-2 : tie.Need-either-requires-2
 either-requires-2 c κs = search needs
 
 returns : tie.Need-returns
-returns c = λ d h. rw (c .before .before .join-align .ensures) (joins d (c .before .before .before .args .s) h (c .before .before .before .args .known) (optionUsize (c .before .before .before .args .width)) (overallOf (c .before .before .before .args .o)) (c .before .either .result) (c .either2 .result) (c .before .either .ensures) (c .either2 .ensures))
+returns c =
+    let p = c .before .before .before .args in
+    λ d h. rw (c .before .before .join-align .ensures) (joins d (p .s) h (p .known) (optionUsize (p .width)) (overallOf (p .o)) (c .before
+    .either .result) (c .either2 .result) (c .before .either .ensures) (c .either2 .ensures))
 
 pub joined-spec : {M : Type 1} → statement M
 joined-spec = tie.close (tie.spec join-align-requires either-requires either-requires-2 returns)

@@ -16,7 +16,9 @@ enum-told : tie.Need-enum-told
 enum-told c = search needs
 
 returns : tie.Need-returns
-returns c = ap (placed (c .before .before .args .i) 0) (sym (add-unknown (valueOf (c .before .before .args .x)) (runningOf (c .before .before .args .r)) (ap optionUsize (c .enum-told .given .1))))
+returns c =
+    let p = c .before .before .args in
+    ap (placed (p .i) 0) (sym (add-unknown (valueOf (p .x)) (runningOf (p .r)) (ap optionUsize (c .enum-told .given .1))))
 
 sum-requires : tie.Need-sum-requires
 sum-requires c κs = search needs
@@ -31,10 +33,18 @@ refused-requires : tie.Need-refused-requires
 refused-requires c κs = search needs
 
 returns-2 : tie.Need-returns-2
-returns-2 c = ap (placed (c .before .before .before .before .before .before .before .args .i) 0) (sym (add-fits (c .before .before .before .before .before .so-far .given .0 .0) (c .before .w .given .0 .0) (valueOf (c .before .before .before .before .before .before .before .args .x)) (runningOf (c .before .before .before .before .before .before .before .args .r)) (ap optionUsize (c .before .before .before .before .before .so-far .given .1)) (sym (c .before .before .before .sum .ensures) ∙ ap optionUsize (c .before .w .given .1))))
+returns-2 c =
+    let p = c .before .before .before .before .before .before .before .args in
+    ap (placed (p .i) 0) (sym (add-fits (c .before .before .before .before .before .so-far .given .0 .0) (c .before .w .given .0 .0)
+    (valueOf (p .x)) (runningOf (p .r)) (ap optionUsize (c .before .before .before .before .before .so-far .given .1)) (sym (c .before
+    .before .before .sum .ensures) ∙ ap optionUsize (c .before .w .given .1))))
 
 returns-3 : tie.Need-returns-3
-returns-3 c = c .refused .ensures ∙ ap (placed (c .before .before .before .before .before .before .before .args .i) 0) (sym (add-exceeds (c .before .before .before .before .before .so-far .given .0 .0) (valueOf (c .before .before .before .before .before .before .before .args .x)) (runningOf (c .before .before .before .before .before .before .before .args .r)) (ap optionUsize (c .before .before .before .before .before .so-far .given .1)) (sym (c .before .before .before .sum .ensures) ∙ ap optionUsize (c .before .enum-told2 .given .1))))
+returns-3 c =
+    let p = c .before .before .before .before .before .before .before .args in
+    c .refused .ensures ∙ ap (placed (p .i) 0) (sym (add-exceeds (c .before .before .before .before .before .so-far .given .0 .0) (valueOf
+    (p .x)) (runningOf (p .r)) (ap optionUsize (c .before .before .before .before .before .so-far .given .1)) (sym (c .before .before
+    .before .sum .ensures) ∙ ap optionUsize (c .before .enum-told2 .given .1))))
 
 pub add-known-spec : {M : Type 1} → statement M
 add-known-spec =

@@ -13,7 +13,12 @@ settle-requires : tie.Need-settle-requires
 settle-requires c κs = search needs
 
 returns : tie.Need-returns
-returns c = λ d h. (c .settle .ensures .0 ∙ ap (keptOf (runningOf (c .before .before .args .r))) (c .before .step .ensures d h), c .settle .ensures .1 ∙ ap verdictOf (c .before .step .ensures d h))
+returns c =
+    λ d h. (
+      c .settle .ensures .0 ∙ ap (keptOf (runningOf (c .before .before .args .r))) (c .before .step .ensures d h),
+      c .settle .ensures
+          .1 ∙ ap verdictOf (c .before .step .ensures d h),
+    )
 
 pub advance-value-spec : {M : Type 1} → statement M
 advance-value-spec = tie.close (tie.spec step-requires settle-requires returns)

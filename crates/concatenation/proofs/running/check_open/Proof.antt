@@ -20,7 +20,11 @@ refused-requires : tie.Need-refused-requires
 refused-requires c κs = search needs
 
 returns : tie.Need-returns
-returns c = c .refused .ensures ∙ ap (placed (c .before .before .before .before .args .i) (c .before .before .before .before .args .k)) (sym (open-lone (not (eqb (c .before .before .before .before .args .i) 0)) (c .before .before .before .before .args .first) (c .before .before .before .before .args .last) (runningOf (c .before .before .before .before .args .r)) (ap (λ (t : Bool). t && (c .before .before .before .before .args .last)) (sym (c .before .before .before .both .ensures)) ∙ sym (c .before .before .both2 .ensures) ∙ c .before .if1 .taken)))
+returns c =
+    let p = c .before .before .before .before .args in
+    c .refused .ensures ∙ ap (placed (p .i) (p .k)) (sym (open-lone (not (eqb (p .i) 0)) (p .first) (p .last) (runningOf (p .r)) (ap (λ (t
+    : Bool). t && (p .last)) (sym (c .before .before .before .both .ensures)) ∙ sym (c .before .before .both2 .ensures) ∙ c .before .if1
+    .taken)))
 
 is-align-requires : tie.Need-is-align-requires
 is-align-requires c κs = search needs
@@ -29,13 +33,22 @@ filler-align-requires : tie.Need-filler-align-requires
 filler-align-requires c κs = search needs
 
 returns-2 : tie.Need-returns-2
-returns-2 c = rw (c .filler-align .ensures) (ap (placed (c .before .before .before .before .before .before .args .i) (c .before .before .before .before .before .before .args .k)) (sym (open-ok (not (eqb (c .before .before .before .before .before .before .args .i) 0)) (c .before .before .before .before .before .before .args .first) (c .before .before .before .before .before .before .args .last) (runningOf (c .before .before .before .before .before .before .args .r)) (ap (λ (t : Bool). t && (c .before .before .before .before .before .before .args .last)) (sym (c .before .before .before .before .before .both .ensures)) ∙ sym (c .before .before .before .before .both2 .ensures) ∙ c .before .before .before .if1 .left) (sym (c .before .before .is-align .ensures) ∙ c .before .if2 .taken))))
+returns-2 c =
+    let p = c .before .before .before .before .before .before .args in
+    rw (c .filler-align .ensures) (ap (placed (p .i) (p .k)) (sym (open-ok (not (eqb (p .i) 0)) (p .first) (p .last) (runningOf (p .r)) (ap
+    (λ (t : Bool). t && (p .last)) (sym (c .before .before .before .before .before .both .ensures)) ∙ sym (c .before .before .before
+    .before .both2 .ensures) ∙ c .before .before .before .if1 .left) (sym (c .before .before .is-align .ensures) ∙ c .before .if2
+    .taken))))
 
 refused-requires-2 : tie.Need-refused-requires-2
 refused-requires-2 c κs = search needs
 
 returns-3 : tie.Need-returns-3
-returns-3 c = c .refused2 .ensures ∙ ap (placed (c .before .before .before .before .before .before .args .i) (c .before .before .before .before .before .before .args .k)) (sym (open-second (not (eqb (c .before .before .before .before .before .before .args .i) 0)) (c .before .before .before .before .before .before .args .first) (c .before .before .before .before .before .before .args .last) (runningOf (c .before .before .before .before .before .before .args .r)) (ap (λ (t : Bool). t && (c .before .before .before .before .before .before .args .last)) (sym (c .before .before .before .before .before .both .ensures)) ∙ sym (c .before .before .before .before .both2 .ensures) ∙ c .before .before .before .if1 .left) (sym (c .before .before .is-align .ensures) ∙ c .before .if2 .left)))
+returns-3 c =
+    let p = c .before .before .before .before .before .before .args in
+    c .refused2 .ensures ∙ ap (placed (p .i) (p .k)) (sym (open-second (not (eqb (p .i) 0)) (p .first) (p .last) (runningOf (p .r)) (ap (λ
+    (t : Bool). t && (p .last)) (sym (c .before .before .before .before .before .both .ensures)) ∙ sym (c .before .before .before .before
+    .both2 .ensures) ∙ c .before .before .before .if1 .left) (sym (c .before .before .is-align .ensures) ∙ c .before .if2 .left)))
 
 pub check-open-spec : {M : Type 1} → statement M
 check-open-spec =

@@ -14,22 +14,40 @@ check-literal-requires : tie.Need-check-literal-requires
 check-literal-requires c κs = search needs
 
 returns : tie.Need-returns
-returns c = c .check-literal .ensures ∙ ap (placed (c .before .before .before .args .i) (c .before .before .before .args .k)) (sym (as-literal ((c .before .before .before .args .shape) .kind) ((c .before .before .before .args .shape) .«has_end») ((c .before .before .before .args .shape) .full) (not (eqb (c .before .before .before .args .i) 0)) (c .before .before .before .args .first) (c .before .before .before .args .last) (runningOf (c .before .before .before .args .r)) (c .before .if1 .taken)))
+returns c =
+    let p = c .before .before .before .args in
+    c .check-literal .ensures ∙ ap (placed (p .i) (p .k)) (sym (as-literal ((p .shape) .kind) ((p .shape) .«has_end») ((p .shape) .full)
+    (not (eqb (p .i) 0)) (p .first) (p .last) (runningOf (p .r)) (c .before .if1 .taken)))
 
 check-variable-requires : tie.Need-check-variable-requires
 check-variable-requires c κs = search needs
 
 returns-2 : tie.Need-returns-2
-returns-2 c = rw (c .check-variable .ensures) (ap (placed (c .before .before .before .before .before .args .i) (c .before .before .before .before .before .args .k)) (sym (as-variable ((c .before .before .before .before .before .args .shape) .kind) ((c .before .before .before .before .before .args .shape) .«has_end») ((c .before .before .before .before .before .args .shape) .full) (not (eqb (c .before .before .before .before .before .args .i) 0)) (c .before .before .before .before .before .args .first) (c .before .before .before .before .before .args .last) (runningOf (c .before .before .before .before .before .args .r)) (c .before .if2 .taken))))
+returns-2 c =
+    let p = c .before .before .before .before .before .args in
+    rw (c .check-variable .ensures) (ap (placed (p .i) (p .k)) (sym (as-variable ((p .shape) .kind) ((p .shape) .«has_end») ((p .shape)
+    .full) (not (eqb (p .i) 0)) (p .first) (p .last) (runningOf (p .r)) (c .before .if2 .taken))))
 
 returns-3 : tie.Need-returns-3
-returns-3 c = rw (as-filler ((c .before .before .before .before .before .args .shape) .kind) ((c .before .before .before .before .before .args .shape) .«has_end») ((c .before .before .before .before .before .args .shape) .full) (not (eqb (c .before .before .before .before .before .args .i) 0)) (c .before .before .before .before .before .args .first) (c .before .before .before .before .before .args .last) (runningOf (c .before .before .before .before .before .args .r)) (c .before .before .before .if1 .left) (c .before .if2 .left), c .if3 .taken)
+returns-3 c =
+    let p = c .before .before .before .before .before .args in
+    rw (
+      as-filler ((p .shape) .kind) ((p .shape) .«has_end») ((p .shape) .full) (not (eqb (p .i) 0)) (p .first) (p .last) (runningOf (p
+          .r)) (c .before .before .before .if1 .left) (c .before .if2 .left),
+      c .if3 .taken,
+    )
 
 check-open-requires : tie.Need-check-open-requires
 check-open-requires c κs = search needs
 
 returns-4 : tie.Need-returns-4
-returns-4 c = rw (as-filler ((c .before .before .before .before .before .before .args .shape) .kind) ((c .before .before .before .before .before .before .args .shape) .«has_end») ((c .before .before .before .before .before .before .args .shape) .full) (not (eqb (c .before .before .before .before .before .before .args .i) 0)) (c .before .before .before .before .before .before .args .first) (c .before .before .before .before .before .before .args .last) (runningOf (c .before .before .before .before .before .before .args .r)) (c .before .before .before .before .if1 .left) (c .before .before .if2 .left), c .before .if3 .left) (c .check-open .ensures)
+returns-4 c =
+    let p = c .before .before .before .before .before .before .args in
+    rw (
+      as-filler ((p .shape) .kind) ((p .shape) .«has_end») ((p .shape) .full) (not (eqb (p .i) 0)) (p .first) (p .last) (runningOf (p
+          .r)) (c .before .before .before .before .if1 .left) (c .before .before .if2 .left),
+      c .before .if3 .left,
+    ) (c .check-open .ensures)
 
 pub check-type-spec : {M : Type 1} → statement M
 check-type-spec =

@@ -14,7 +14,9 @@ returns-2 : tie.Need-returns-2
 returns-2 c = exceeds _ (high-part (c .before .before .before .before .args .x) (omega arith) (omega arith))
 
 returns-3 : tie.Need-returns-3
-returns-3 c = rw (negative (c .before .before .before .before .before .before .args .x) (omega arith)) (exceeds (2 ^ 64 - 1 - c .before .before .before .before .before .before .args .x .low + 1) (omega arith))
+returns-3 c =
+    let p = c .before .before .before .before .before .before .args in
+    rw (negative (p .x) (omega arith)) (exceeds (2 ^ 64 - 1 - p .x .low + 1) (omega arith))
 
 sub-t4 : tie.Need-sub-t4
 sub-t4 c = search needs
@@ -23,7 +25,9 @@ add-t5 : tie.Need-add-t5
 add-t5 c = search needs
 
 returns-4 : tie.Need-returns-4
-returns-4 c = rw (negative (c .before .before .before .before .before .before .before .args .x) (omega arith)) (fits (2 ^ 64 - 1 - c .before .before .before .before .before .before .before .args .x .low + 1) (omega arith))
+returns-4 c =
+    let p = c .before .before .before .before .before .before .before .args in
+    rw (negative (p .x) (omega arith)) (fits (2 ^ 64 - 1 - p .x .low + 1) (omega arith))
 
 pub magnitude-spec : {M : Type 1} → statement M
 magnitude-spec = tie.close (tie.spec returns returns-2 returns-3 sub-t4 add-t5 returns-4)

@@ -20,10 +20,18 @@ enum-known-e : tie.Need-enum-known-e
 enum-known-e c = search needs
 
 returns : tie.Need-returns
-returns c = λ d h. c .check-type .ensures ∙ sym (step-on (c .before .before .before .before .before .args .i) (c .before .before .before .before .before .args .k) (c .before .before .before .before .before .args .first) (c .before .before .before .before .before .args .last) d (c .before .before .before .before .before .args .shape) h (runningOf (c .before .before .before .before .before .args .r)) (runningOf (c .before .before .s .given .0 .0)) (sym (c .before .before .before .before .add-width .ensures) ∙ ap steppedOf (c .before .before .s .given .1)))
+returns c =
+    let p = c .before .before .before .before .before .args in
+    λ d h. c .check-type .ensures ∙ sym (step-on (p .i) (p .k) (p .first) (p .last) d (p .shape) h (runningOf (p .r)) (runningOf (c .before
+    .before .s .given .0 .0)) (sym (c .before .before .before .before .add-width .ensures) ∙ ap steppedOf (c .before .before .s .given
+    .1)))
 
 returns-2 : tie.Need-returns-2
-returns-2 c = λ d h. sym (step-off (c .before .before .before .before .args .i) (c .before .before .before .before .args .k) (c .before .before .before .before .args .first) (c .before .before .before .before .args .last) d (c .before .before .before .before .args .shape) h (runningOf (c .before .before .before .before .args .r)) (c .before .e .given .0 .0 .number) (c .before .e .given .0 .0 .concatenation) (c .before .e .given .0 .0 .component) (sym (c .before .before .before .add-width .ensures) ∙ ap steppedOf (c .before .e .given .1)))
+returns-2 c =
+    let p = c .before .before .before .before .args in
+    λ d h. sym (step-off (p .i) (p .k) (p .first) (p .last) d (p .shape) h (runningOf (p .r)) (c .before .e .given .0 .0 .number) (c
+    .before .e .given .0 .0 .concatenation) (c .before .e .given .0 .0 .component) (sym (c .before .before .before .add-width .ensures) ∙
+    ap steppedOf (c .before .e .given .1)))
 
 pub step-spec : {M : Type 1} → statement M
 step-spec =

@@ -21,10 +21,16 @@ enum-told : tie.Need-enum-told
 enum-told c = search needs
 
 returns : tie.Need-returns
-returns c = c .add-fitting .ensures ∙ sum-known (c .before .before .before .before .magnitude .result) (c .before .before .before .before .before .args .n) (c .before .before .m .given .0 .0) (natAbs (valueOf (c .before .before .before .before .before .args .x))) (c .before .before .m .given .1) (c .before .before .before .before .magnitude .ensures)
+returns c =
+    let p = c .before .before .before .before .before .args in
+    c .add-fitting .ensures ∙ sum-known (c .before .before .before .before .magnitude .result) (p .n) (c .before .before .m .given .0 .0)
+    (natAbs (valueOf (p .x))) (c .before .before .m .given .1) (c .before .before .before .before .magnitude .ensures)
 
 returns-2 : tie.Need-returns-2
-returns-2 c = sum-unknown (c .before .before .magnitude .result) (c .before .before .before .args .n) (natAbs (valueOf (c .before .before .before .args .x))) (c .enum-told .given .1) (c .before .before .magnitude .ensures)
+returns-2 c =
+    let p = c .before .before .before .args in
+    sum-unknown (c .before .before .magnitude .result) (p .n) (natAbs (valueOf (p .x))) (c .enum-told .given .1) (c .before .before
+    .magnitude .ensures)
 
 pub sum-spec : {M : Type 1} → statement M
 sum-spec =

@@ -14,16 +14,23 @@ enum-told-2 : tie.Need-enum-told-2
 enum-told-2 c = search needs
 
 returns : tie.Need-returns
-returns c = common-known (c .before .before .args .mode) (optionUsize (c .before .before .args .width)) _ (ap optionUsize (c .enum-told2 .given .1))
+returns c =
+    let p = c .before .before .args in
+    common-known (p .mode) (optionUsize (p .width)) _ (ap optionUsize (c .enum-told2 .given .1))
 
 refused-at-requires : tie.Need-refused-at-requires
 refused-at-requires c κs = search needs
 
 returns-2 : tie.Need-returns-2
-returns-2 c = c .refused-at .ensures ∙ common-lacking (c .before .before .before .before .args .mode) (optionUsize (c .before .before .before .before .args .width)) (ap optionUsize (c .before .before .enum-told .given .1)) (c .before .if1 .taken)
+returns-2 c =
+    let p = c .before .before .before .before .args in
+    c .refused-at .ensures ∙ common-lacking (p .mode) (optionUsize (p .width)) (ap optionUsize (c .before .before .enum-told .given .1)) (c
+    .before .if1 .taken)
 
 returns-3 : tie.Need-returns-3
-returns-3 c = common-free (c .before .before .before .args .mode) (optionUsize (c .before .before .before .args .width)) (ap optionUsize (c .before .enum-told .given .1)) (c .if1 .left)
+returns-3 c =
+    let p = c .before .before .before .args in
+    common-free (p .mode) (optionUsize (p .width)) (ap optionUsize (c .before .enum-told .given .1)) (c .if1 .left)
 
 pub check-common-spec : {M : Type 1} → statement M
 check-common-spec =

@@ -12,7 +12,8 @@ refused-at-requires : tie.Need-refused-at-requires
 refused-at-requires c κs = search needs
 
 returns-2 : tie.Need-returns-2
-returns-2 c = rw (c .before .before .if1 .left, eq-eqb (c .before .before .before .args .n) 1 (c .before .if2 .taken)) (c .refused-at .ensures)
+returns-2 c =
+    rw (c .before .before .if1 .left, eq-eqb (c .before .before .before .args .n) 1 (c .before .if2 .taken)) (c .refused-at .ensures)
 
 returns-3 : tie.Need-returns-3
 returns-3 c = rw (c .before .if1 .left, ne-eqb (c .before .before .args .n) 1 (c .if2 .left))

@@ -15,7 +15,9 @@ opposite-of-requires : tie.Need-opposite-of-requires
 opposite-of-requires c κs = search needs
 
 returns-2 : tie.Need-returns-2
-returns-2 c = λ l h. rw (c .before .before .before .if1 .left, sym (c .before .before .is-align .ensures) ∙ c .before .if2 .taken) (c .opposite-of .ensures l h)
+returns-2 c =
+    λ l h. rw (c .before .before .before .if1 .left, sym (c .before .before .is-align .ensures) ∙ c .before .if2 .taken) (c .opposite-of
+    .ensures l h)
 
 returns-3 : tie.Need-returns-3
 returns-3 c = λ l h. rw (c .before .before .if1 .left, sym (c .before .is-align .ensures) ∙ c .if2 .left)

@@ -31,7 +31,23 @@ after-requires-4 : tie.Need-after-requires-4
 after-requires-4 c κs = search needs
 
 returns : tie.Need-returns
-returns c = λ l h. rw (c .after4 .ensures, c .before .after3 .ensures, c .before .before .after2 .ensures, c .before .before .before .after .ensures, c .before .before .before .before .before .before .before .check-common .ensures, c .before .before .before .before .before .before .check-only .ensures, c .before .before .before .before .before .check-middle .ensures l h, c .before .before .before .before .check-opposite .ensures l h, count-is (c .before .before .before .before .before .before .before .before .args .cs) (c .before .before .before .before .before .before .before .before .args .n) (omega arith) (c .before .before .before .before .before .before .before .before .good .1 .0 .1 .0 .1) l h)
+returns c =
+    let p = c .before .before .before .before .before .before .before .before .args in
+    λ l h. rw (
+      c .after4 .ensures,
+      c .before .after3 .ensures,
+      c .before .before .after2 .ensures,
+      c .before .before .before .after
+          .ensures,
+      c .before .before .before .before .before .before .before .check-common .ensures,
+      c .before .before .before .before .before
+          .before .check-only .ensures,
+      c .before .before .before .before .before .check-middle .ensures l h,
+      c .before .before .before .before
+          .check-opposite .ensures l h,
+      count-is (p .cs) (p .n) (omega arith) (c .before .before .before .before .before .before .before .before
+          .good .1 .0 .1 .0 .1) l h,
+    )
 
 pub checks-spec : {M : Type 1} → statement M
 checks-spec =

@@ -16,7 +16,9 @@ use Rattle.concatenation.proofs.together.find_opposite.Statement.{state
 use Rattle.concatenation.proofs.together.find_opposite.Tie as tie
 
 abbrev Inv-loop : tie.InvT-loop
-Inv-loop align n from cs j₀ j = (j ≤ n) × ((l : List Concatenation) (c : Concatenation) → Summarised l (take n cs) → alignOf align ≡ c .align → placeFrom (isOpposite c) j (drop j l) ≡ placeFrom (isOpposite c) from (drop from l))
+Inv-loop align n from cs j₀ j =
+    (j ≤ n) × ((l : List Concatenation) (c : Concatenation) → Summarised l (take n cs) → alignOf align ≡ c .align → placeFrom (isOpposite
+    c) j (drop j l) ≡ placeFrom (isOpposite c) from (drop from l))
 
 abbrev μ-loop : tie.MeasureT-loop
 μ-loop align n from cs j₀ j = n - j
@@ -37,7 +39,12 @@ cast-t15 : tie.Need-cast-t15 Inv-loop μ-loop
 cast-t15 c = search needs
 
 returns : tie.Need-returns Inv-loop μ-loop
-returns c = λ l d h e. let a = turn-at (c .before .before .before .before .before .args .t2) (c .before .before .before .before .before .args .n) (omega arith) (c .before .before .before .before .before .good .1 .0 .1 .0 .1) l h (c .before .before .before .before .loop .j) _ (c .before .before .before .loop-test .taken) in place-here (isOpposite d) (c .before .before .before .before .loop .j) l (a .c) (a .here) (opposite-is (c .before .before .before .before .before .args .align) _ d (a .c) e (a .has) ∙ sym (c .before .is-opposite .ensures) ∙ c .if1 .taken) ∙ c .before .before .before .before .loop .inv .1 l d h e
+returns c =
+    let p = c .before .before .before .before .before .args in
+    let v = c .before .before .before .before .loop in
+    λ l d h e. let a = turn-at (p .t2) (p .n) (omega arith) (c .before .before .before .before .before .good .1 .0 .1 .0 .1) l h (v .j) _
+    (c .before .before .before .loop-test .taken) in place-here (isOpposite d) (v .j) l (a .c) (a .here) (opposite-is (p .align) _ d (a .c)
+    e (a .has) ∙ sym (c .before .is-opposite .ensures) ∙ c .if1 .taken) ∙ v .inv .1 l d h e
 
 add-j : tie.Need-add-j Inv-loop μ-loop
 add-j c = search needs
@@ -46,10 +53,21 @@ loop-less : tie.Need-loop-less Inv-loop μ-loop
 loop-less c = search needs
 
 loop-again : tie.Need-loop-again Inv-loop μ-loop
-loop-again c = (omega arith, λ l d h e. let a = turn-at (c .before .before .before .before .before .args .t2) (c .before .before .before .before .before .args .n) (omega arith) (c .before .before .before .before .before .good .1 .0 .1 .0 .1) l h (c .before .before .before .before .loop .j) _ (c .before .before .before .loop-test .taken) in place-on (isOpposite d) (c .before .before .before .before .loop .j) l (a .c) (a .here) (opposite-is (c .before .before .before .before .before .args .align) _ d (a .c) e (a .has) ∙ sym (c .before .is-opposite .ensures) ∙ c .if1 .left) ∙ c .before .before .before .before .loop .inv .1 l d h e)
+loop-again c =
+    let p = c .before .before .before .before .before .args in
+    let v = c .before .before .before .before .loop in (
+      omega arith,
+      λ l d h e. let a = turn-at (p .t2) (p .n) (omega arith) (c .before .before .before .before .before .good .1 .0 .1 .0 .1)
+          l h (v .j) _ (c .before .before .before .loop-test .taken) in place-on (isOpposite d) (v .j) l (a .c) (a .here) (opposite-is (p .align)
+          _ d (a .c) e (a .has) ∙ sym (c .before .is-opposite .ensures) ∙ c .if1 .left) ∙ v .inv .1 l d h e,
+    )
 
 returns-2 : tie.Need-returns-2 Inv-loop μ-loop
-returns-2 c = λ l d h e. place-end (isOpposite d) (c .before .loop .j) l (end-at (c .before .before .args .t2) (c .before .before .args .n) (omega arith) (c .before .before .good .1 .0 .1 .0 .1) l h (c .before .loop .j) (c .loop-test .left)) ∙ c .before .loop .inv .1 l d h e
+returns-2 c =
+    let p = c .before .before .args in
+    let v = c .before .loop in
+    λ l d h e. place-end (isOpposite d) (v .j) l (end-at (p .t2) (p .n) (omega arith) (c .before .before .good .1 .0 .1 .0 .1) l h (v .j)
+    (c .loop-test .left)) ∙ v .inv .1 l d h e
 
 pub find-opposite-spec : {M : Type 1} → statement M
 find-opposite-spec =

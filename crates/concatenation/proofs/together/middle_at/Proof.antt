@@ -17,16 +17,25 @@ enum-told : tie.Need-enum-told
 enum-told c = search needs
 
 returns : tie.Need-returns
-returns c = λ d h. middle-none (c .before .before .before .before .args .i) d (c .before .before .before .before .args .s) h (sym (c .before .before .before .is-align .ensures) ∙ c .before .before .if1 .taken) (ap placeOf (c .enum-told .given .1))
+returns c =
+    let p = c .before .before .before .before .args in
+    λ d h. middle-none (p .i) d (p .s) h (sym (c .before .before .before .is-align .ensures) ∙ c .before .before .if1 .taken) (ap placeOf
+    (c .enum-told .given .1))
 
 refused-at-requires : tie.Need-refused-at-requires
 refused-at-requires c κs = search needs
 
 returns-2 : tie.Need-returns-2
-returns-2 c = λ d h. c .refused-at .ensures ∙ middle-some (c .before .before .before .before .before .before .args .i) d (c .before .before .before .before .before .before .args .s) h (sym (c .before .before .before .before .before .is-align .ensures) ∙ c .before .before .before .before .if1 .taken) (c .before .before .unbounded .given .0 .0) (ap placeOf (c .before .before .unbounded .given .1))
+returns-2 c =
+    let p = c .before .before .before .before .before .before .args in
+    λ d h. c .refused-at .ensures ∙ middle-some (p .i) d (p .s) h (sym (c .before .before .before .before .before .is-align .ensures) ∙ c
+    .before .before .before .before .if1 .taken) (c .before .before .unbounded .given .0 .0) (ap placeOf (c .before .before .unbounded
+    .given .1))
 
 returns-3 : tie.Need-returns-3
-returns-3 c = λ d h. middle-other (c .before .before .args .i) d (c .before .before .args .s) h (sym (c .before .is-align .ensures) ∙ c .if1 .left)
+returns-3 c =
+    let p = c .before .before .args in
+    λ d h. middle-other (p .i) d (p .s) h (sym (c .before .is-align .ensures) ∙ c .if1 .left)
 
 pub middle-at-spec : {M : Type 1} → statement M
 middle-at-spec =

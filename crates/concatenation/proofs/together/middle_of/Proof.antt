@@ -45,16 +45,32 @@ loop-less : tie.Need-loop-less Inv-loop μ-loop
 loop-less c = search needs
 
 loop-again : tie.Need-loop-again Inv-loop μ-loop
-loop-again c = (omega arith, λ l h. let a = turn-at (c .before .before .before .before .before .before .args .t1) (c .before .before .before .before .before .before .args .n) (omega arith) (c .before .before .before .before .before .before .good .0 .1 .0 .1) l h (c .before .before .before .before .before .loop .i) _ (c .before .before .before .before .loop-test .taken) in middle-on (c .before .before .before .before .before .loop .i) l (a .c) (a .here) (sym (c .before .before .middle-at .ensures (a .c) (a .has)) ∙ ap resultOf (c .enum-told .given .1)) ∙ c .before .before .before .before .before .loop .inv .1 l h)
+loop-again c =
+    let p = c .before .before .before .before .before .before .args in
+    let v = c .before .before .before .before .before .loop in (
+      omega arith,
+      λ l h. let a = turn-at (p .t1) (p .n) (omega arith) (c .before .before .before .before .before .before .good .0 .1 .0 .1)
+          l h (v .i) _ (c .before .before .before .before .loop-test .taken) in middle-on (v .i) l (a .c) (a .here) (sym (c .before .before
+          .middle-at .ensures (a .c) (a .has)) ∙ ap resultOf (c .enum-told .given .1)) ∙ v .inv .1 l h,
+    )
 
 enum-known-e : tie.Need-enum-known-e Inv-loop μ-loop
 enum-known-e c = search needs
 
 returns : tie.Need-returns Inv-loop μ-loop
-returns c = λ l h. let a = turn-at (c .before .before .before .before .before .before .before .args .t1) (c .before .before .before .before .before .before .before .args .n) (omega arith) (c .before .before .before .before .before .before .before .good .0 .1 .0 .1) l h (c .before .before .before .before .before .before .loop .i) _ (c .before .before .before .before .before .loop-test .taken) in middle-off (c .before .before .before .before .before .before .loop .i) l (a .c) (a .here) _ _ _ (sym (c .before .before .before .middle-at .ensures (a .c) (a .has)) ∙ ap resultOf (c .before .e .given .1)) ∙ c .before .before .before .before .before .before .loop .inv .1 l h
+returns c =
+    let p = c .before .before .before .before .before .before .before .args in
+    let v = c .before .before .before .before .before .before .loop in
+    λ l h. let a = turn-at (p .t1) (p .n) (omega arith) (c .before .before .before .before .before .before .before .good .0 .1 .0 .1) l h
+    (v .i) _ (c .before .before .before .before .before .loop-test .taken) in middle-off (v .i) l (a .c) (a .here) _ _ _ (sym (c .before
+    .before .before .middle-at .ensures (a .c) (a .has)) ∙ ap resultOf (c .before .e .given .1)) ∙ v .inv .1 l h
 
 returns-2 : tie.Need-returns-2 Inv-loop μ-loop
-returns-2 c = λ l h. middle-end (c .before .loop .i) l (end-at (c .before .before .args .t1) (c .before .before .args .n) (omega arith) (c .before .before .good .0 .1 .0 .1) l h (c .before .loop .i) (c .loop-test .left)) ∙ c .before .loop .inv .1 l h
+returns-2 c =
+    let p = c .before .before .args in
+    let v = c .before .loop in
+    λ l h. middle-end (v .i) l (end-at (p .t1) (p .n) (omega arith) (c .before .before .good .0 .1 .0 .1) l h (v .i) (c .loop-test .left))
+    ∙ v .inv .1 l h
 
 pub middle-of-spec : {M : Type 1} → statement M
 middle-of-spec =

@@ -36,10 +36,18 @@ enum-told : tie.Need-enum-told
 enum-told c = search needs
 
 returns : tie.Need-returns
-returns c = λ l d h e. c .refused-at .ensures ∙ opposite-as (c .before .before .before .before .before .before .args .i) d (drop ((c .before .before .before .before .before .before .args .i) + 1) l) _ (sym (c .before .before .before .before .find-opposite .ensures l d h (align-at l (c .before .before .before .before .before .before .args .i) _ d (turn-at (c .before .before .before .before .before .before .args .t1) (c .before .before .before .before .before .before .args .n) (omega arith) (c .before .before .before .before .before .before .good .0 .1 .0 .1) l h (c .before .before .before .before .before .before .args .i) _ (omega arith)) e)) ∙ ap placeOf (c .before .before .j .given .1))
+returns c =
+    let p = c .before .before .before .before .before .before .args in
+    λ l d h e. c .refused-at .ensures ∙ opposite-as (p .i) d (drop ((p .i) + 1) l) _ (sym (c .before .before .before .before .find-opposite
+    .ensures l d h (align-at l (p .i) _ d (turn-at (p .t1) (p .n) (omega arith) (c .before .before .before .before .before .before .good .0
+    .1 .0 .1) l h (p .i) _ (omega arith)) e)) ∙ ap placeOf (c .before .before .j .given .1))
 
 returns-2 : tie.Need-returns-2
-returns-2 c = λ l d h e. opposite-as (c .before .before .before .before .args .i) d (drop ((c .before .before .before .before .args .i) + 1) l) _ (sym (c .before .before .find-opposite .ensures l d h (align-at l (c .before .before .before .before .args .i) _ d (turn-at (c .before .before .before .before .args .t1) (c .before .before .before .before .args .n) (omega arith) (c .before .before .before .before .good .0 .1 .0 .1) l h (c .before .before .before .before .args .i) _ (omega arith)) e)) ∙ ap placeOf (c .enum-told .given .1))
+returns-2 c =
+    let p = c .before .before .before .before .args in
+    λ l d h e. opposite-as (p .i) d (drop ((p .i) + 1) l) _ (sym (c .before .before .find-opposite .ensures l d h (align-at l (p .i) _ d
+    (turn-at (p .t1) (p .n) (omega arith) (c .before .before .before .before .good .0 .1 .0 .1) l h (p .i) _ (omega arith)) e)) ∙ ap
+    placeOf (c .enum-told .given .1))
 
 pub opposite-at-spec : {M : Type 1} → statement M
 opposite-at-spec =

@@ -37,16 +37,32 @@ loop-less : tie.Need-loop-less Inv-loop μ-loop
 loop-less c = search needs
 
 loop-again : tie.Need-loop-again Inv-loop μ-loop
-loop-again c = (omega arith, λ l h. let a = turn-at (c .before .before .before .before .before .args .cs) (c .before .before .before .before .before .args .n) (omega arith) (c .before .before .before .before .before .good .0 .1 .0 .1) l h (c .before .before .before .before .loop .i) none-at (c .before .before .before .loop-test .taken) in opposite-on (c .before .before .before .before .loop .i) l (a .c) (a .here) (sym (c .before .before .opposite-at .ensures l (a .c) h (a .here)) ∙ ap resultOf (c .enum-told .given .1)) ∙ c .before .before .before .before .loop .inv .1 l h)
+loop-again c =
+    let p = c .before .before .before .before .before .args in
+    let v = c .before .before .before .before .loop in (
+      omega arith,
+      λ l h. let a = turn-at (p .cs) (p .n) (omega arith) (c .before .before .before .before .before .good .0 .1 .0 .1) l h (v
+          .i) none-at (c .before .before .before .loop-test .taken) in opposite-on (v .i) l (a .c) (a .here) (sym (c .before .before .opposite-at
+          .ensures l (a .c) h (a .here)) ∙ ap resultOf (c .enum-told .given .1)) ∙ v .inv .1 l h,
+    )
 
 enum-known-e : tie.Need-enum-known-e Inv-loop μ-loop
 enum-known-e c = search needs
 
 returns : tie.Need-returns Inv-loop μ-loop
-returns c = λ l h. let a = turn-at (c .before .before .before .before .before .before .args .cs) (c .before .before .before .before .before .before .args .n) (omega arith) (c .before .before .before .before .before .before .good .0 .1 .0 .1) l h (c .before .before .before .before .before .loop .i) none-at (c .before .before .before .before .loop-test .taken) in opposite-off (c .before .before .before .before .before .loop .i) l (a .c) (a .here) _ _ _ (sym (c .before .before .before .opposite-at .ensures l (a .c) h (a .here)) ∙ ap resultOf (c .before .e .given .1)) ∙ c .before .before .before .before .before .loop .inv .1 l h
+returns c =
+    let p = c .before .before .before .before .before .before .args in
+    let v = c .before .before .before .before .before .loop in
+    λ l h. let a = turn-at (p .cs) (p .n) (omega arith) (c .before .before .before .before .before .before .good .0 .1 .0 .1) l h (v .i)
+    none-at (c .before .before .before .before .loop-test .taken) in opposite-off (v .i) l (a .c) (a .here) _ _ _ (sym (c .before .before
+    .before .opposite-at .ensures l (a .c) h (a .here)) ∙ ap resultOf (c .before .e .given .1)) ∙ v .inv .1 l h
 
 returns-2 : tie.Need-returns-2 Inv-loop μ-loop
-returns-2 c = λ l h. opposite-end (c .before .loop .i) l (end-at (c .before .before .args .cs) (c .before .before .args .n) (omega arith) (c .before .before .good .0 .1 .0 .1) l h (c .before .loop .i) (c .loop-test .left)) ∙ c .before .loop .inv .1 l h
+returns-2 c =
+    let p = c .before .before .args in
+    let v = c .before .loop in
+    λ l h. opposite-end (v .i) l (end-at (p .cs) (p .n) (omega arith) (c .before .before .good .0 .1 .0 .1) l h (v .i) (c .loop-test
+    .left)) ∙ v .inv .1 l h
 
 pub opposite-of-spec : {M : Type 1} → statement M
 opposite-of-spec =

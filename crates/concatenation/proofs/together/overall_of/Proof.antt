@@ -15,7 +15,9 @@ use Rattle.concatenation.proofs.together.overall_of.Statement.{statemen
 use Rattle.concatenation.proofs.together.overall_of.Tie as tie
 
 abbrev Inv-loop : tie.InvT-loop
-Inv-loop bare n cs o₀ i₀ o i = (i ≤ n) × ((l : List Concatenation) → Summarised l (take n cs) → overallFrom bare i (drop i l) (overallOf o) ≡ overallFrom bare 0 l (overall l))
+Inv-loop bare n cs o₀ i₀ o i =
+    (i ≤ n) × ((l : List Concatenation) → Summarised l (take n cs) → overallFrom bare i (drop i l) (overallOf o) ≡ overallFrom bare 0 l
+    (overall l))
 
 abbrev μ-loop : tie.MeasureT-loop
 μ-loop bare n cs o₀ i₀ o i = n - i
@@ -27,7 +29,9 @@ start-requires : tie.Need-start-requires Inv-loop μ-loop
 start-requires c κs = search needs
 
 loop-holds : tie.Need-loop-holds Inv-loop μ-loop
-loop-holds c = (search needs, λ l h. rw (c .start .ensures l (starts-at (c .before .before .args .t2) (c .before .before .args .n) (omega arith) (c .before .before .good .1 .0 .1 .0 .1) l h _)))
+loop-holds c =
+    let p = c .before .before .args in
+    (search needs, λ l h. rw (c .start .ensures l (starts-at (p .t2) (p .n) (omega arith) (c .before .before .good .1 .0 .1 .0 .1) l h _)))
 
 cast-at : tie.Need-cast-at Inv-loop μ-loop
 cast-at c = search needs
@@ -51,16 +55,33 @@ loop-less : tie.Need-loop-less Inv-loop μ-loop
 loop-less c = search needs
 
 loop-again : tie.Need-loop-again Inv-loop μ-loop
-loop-again c = (omega arith, λ l h. let a = turn-at (c .before .before .before .before .before .before .before .before .before .args .t2) (c .before .before .before .before .before .before .before .before .before .args .n) (omega arith) (c .before .before .before .before .before .before .before .before .before .good .1 .0 .1 .0 .1) l h (c .before .before .before .before .before .before .loop .i) _ (c .before .before .before .before .before .loop-test .taken) in over-on (c .before .before .before .before .before .before .before .before .before .args .bare) (c .before .before .before .before .before .before .loop .i) l _ a (overallOf (c .before .before .before .before .before .before .loop .o)) (overallOf (c .before .p .given .0 .0)) (sym (c .before .before .before .join .ensures (a .c) (a .has)) ∙ ap answerOf (c .before .p .given .1)) ∙ c .before .before .before .before .before .before .loop .inv .1 l h)
+loop-again c =
+    let p = c .before .before .before .before .before .before .before .before .before .args in
+    let v = c .before .before .before .before .before .before .loop in (
+      omega arith,
+      λ l h. let a = turn-at (p .t2) (p .n) (omega arith) (c .before .before .before .before .before .before .before .before
+          .before .good .1 .0 .1 .0 .1) l h (v .i) _ (c .before .before .before .before .before .loop-test .taken) in over-on (p .bare) (v .i) l
+          _ a (overallOf (v .o)) (overallOf (c .before .p .given .0 .0)) (sym (c .before .before .before .join .ensures (a .c) (a .has)) ∙ ap
+          answerOf (c .before .p .given .1)) ∙ v .inv .1 l h,
+    )
 
 enum-known-e : tie.Need-enum-known-e Inv-loop μ-loop
 enum-known-e c = search needs
 
 returns : tie.Need-returns Inv-loop μ-loop
-returns c = λ l h. let a = turn-at (c .before .before .before .before .before .before .before .before .before .args .t2) (c .before .before .before .before .before .before .before .before .before .args .n) (omega arith) (c .before .before .before .before .before .before .before .before .before .good .1 .0 .1 .0 .1) l h (c .before .before .before .before .before .before .loop .i) _ (c .before .before .before .before .before .loop-test .taken) in over-off (c .before .before .before .before .before .before .before .before .before .args .bare) (c .before .before .before .before .before .before .loop .i) l _ a (overallOf (c .before .before .before .before .before .before .loop .o)) _ _ _ (sym (c .before .before .before .join .ensures (a .c) (a .has)) ∙ ap answerOf (c .before .e .given .1)) ∙ c .before .before .before .before .before .before .loop .inv .1 l h
+returns c =
+    let p = c .before .before .before .before .before .before .before .before .before .args in
+    let v = c .before .before .before .before .before .before .loop in
+    λ l h. let a = turn-at (p .t2) (p .n) (omega arith) (c .before .before .before .before .before .before .before .before .before .good .1
+    .0 .1 .0 .1) l h (v .i) _ (c .before .before .before .before .before .loop-test .taken) in over-off (p .bare) (v .i) l _ a (overallOf
+    (v .o)) _ _ _ (sym (c .before .before .before .join .ensures (a .c) (a .has)) ∙ ap answerOf (c .before .e .given .1)) ∙ v .inv .1 l h
 
 returns-2 : tie.Need-returns-2 Inv-loop μ-loop
-returns-2 c = λ l h. over-end (c .before .before .before .before .args .bare) (c .before .loop .i) l (overallOf (c .before .loop .o)) (end-at (c .before .before .before .before .args .t2) (c .before .before .before .before .args .n) (omega arith) (c .before .before .before .before .good .1 .0 .1 .0 .1) l h (c .before .loop .i) (c .loop-test .left)) ∙ c .before .loop .inv .1 l h
+returns-2 c =
+    let p = c .before .before .before .before .args in
+    let v = c .before .loop in
+    λ l h. over-end (p .bare) (v .i) l (overallOf (v .o)) (end-at (p .t2) (p .n) (omega arith) (c .before .before .before .before .good .1
+    .0 .1 .0 .1) l h (v .i) (c .loop-test .left)) ∙ v .inv .1 l h
 
 pub overall-of-spec : {M : Type 1} → statement M
 overall-of-spec =

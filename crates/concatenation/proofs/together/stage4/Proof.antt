@@ -28,10 +28,22 @@ enum-known-e : tie.Need-enum-known-e
 enum-known-e c = search needs
 
 returns : tie.Need-returns
-returns c = λ l h. c .checks .ensures l (rw (c .before .before .before .before .before .before .at-most-16 .ensures .1 (c .before .before .before .before .before .before .before .args .cs) (c .before .before .before .before .before .before .before .good .1 .1 .0 .1 .0 .1)) h) ∙ ends (c .before .before .before .before .before .before .before .args .mode) (c .before .before .before .before .before .before .before .args .given) l (overallOf (c .before .before .o .given .0 .0)) (ap (λ (b : Bool). overallFrom b 0 l (overall l)) (sym (c .before .before .before .before .before .both .ensures)) ∙ sym (c .before .before .before .before .overall-of .ensures l (rw (c .before .before .before .before .before .before .at-most-16 .ensures .1 (c .before .before .before .before .before .before .before .args .cs) (c .before .before .before .before .before .before .before .good .1 .1 .0 .1 .0 .1)) h)) ∙ ap answerOf (c .before .before .o .given .1))
+returns c =
+    let p = c .before .before .before .before .before .before .before .args in
+    λ l h. c .checks .ensures l (rw (c .before .before .before .before .before .before .at-most-16 .ensures .1 (p .cs) (c .before .before
+    .before .before .before .before .before .good .1 .1 .0 .1 .0 .1)) h) ∙ ends (p .mode) (p .given) l (overallOf (c .before .before .o
+    .given .0 .0)) (ap (λ (b : Bool). overallFrom b 0 l (overall l)) (sym (c .before .before .before .before .before .both .ensures)) ∙ sym
+    (c .before .before .before .before .overall-of .ensures l (rw (c .before .before .before .before .before .before .at-most-16 .ensures
+    .1 (p .cs) (c .before .before .before .before .before .before .before .good .1 .1 .0 .1 .0 .1)) h)) ∙ ap answerOf (c .before .before .o
+    .given .1))
 
 returns-2 : tie.Need-returns-2
-returns-2 c = λ l h. refuses (c .before .before .before .before .before .before .args .mode) (c .before .before .before .before .before .before .args .given) l _ _ _ (ap (λ (b : Bool). overallFrom b 0 l (overall l)) (sym (c .before .before .before .before .both .ensures)) ∙ sym (c .before .before .before .overall-of .ensures l (rw (c .before .before .before .before .before .at-most-16 .ensures .1 (c .before .before .before .before .before .before .args .cs) (c .before .before .before .before .before .before .good .1 .1 .0 .1 .0 .1)) h)) ∙ ap answerOf (c .before .e .given .1))
+returns-2 c =
+    let p = c .before .before .before .before .before .before .args in
+    λ l h. refuses (p .mode) (p .given) l _ _ _ (ap (λ (b : Bool). overallFrom b 0 l (overall l)) (sym (c .before .before .before .before
+    .both .ensures)) ∙ sym (c .before .before .before .overall-of .ensures l (rw (c .before .before .before .before .before .at-most-16
+    .ensures .1 (p .cs) (c .before .before .before .before .before .before .good .1 .1 .0 .1 .0 .1)) h)) ∙ ap answerOf (c .before .e .given
+    .1))
 
 pub stage4-spec : {M : Type 1} → statement M
 stage4-spec =
