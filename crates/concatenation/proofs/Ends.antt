@@ -2,9 +2,9 @@
 use mathlib.Core.Path.{_≡_, refl, sym, _∙_, ap}
 use native.Mathlib.Numerals.{add-one}
 use borrow.Author.Tests.{eq-eqb, ne-eqb}
-use Rattle.def_numbers.specs.Prelude.{ℕ, suc, _+_, Option, none, some, Bool, true, false, not, _&&_, _||_, List, [], _∷_, length, drop, leb, eqb}
+use Rattle.def_numbers.specs.Prelude.{ℕ, suc, _+_, Option, none, some, Bool, true, false, not, _&&_, _||_, List, _∷_, drop, leb, eqb}
 use Rattle.def_numbers.specs.Basics.{Result, ok, refused, placed}
-use Rattle.def_numbers.specs.Refusals.{need, refuse, numberOf, no-common-width, opposite-fillers}
+use Rattle.def_numbers.specs.Refusals.{refuse, numberOf, no-common-width, opposite-fillers}
 use Rattle.def_stages.specs.Concatenation.{Concatenation}
 use Rattle.def_stages.specs.Overall.{Overall, overallFrom, overall, placeFrom, stage4}
 use Rattle.misc.specs.declared.OptionUsize.the-variants as U

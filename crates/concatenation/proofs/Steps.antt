@@ -1,9 +1,9 @@
 -- One step of the running check, way by way.
-use mathlib.Core.Path.{_≡_, refl, sym, _∙_, ap}
+use mathlib.Core.Path.{_≡_, refl, ap}
 use borrow.Author.Tests.{eq-eqb, ne-eqb}
-use Rattle.def_numbers.specs.Prelude.{ℕ, _+_, _^_, Option, none, some, Bool, true, false, not, _&&_, _||_, ltb, eqb, ℤ, natAbs}
-use Rattle.def_numbers.specs.Basics.{Result, ok, refused, _>>=_, placed, if_then_else_}
-use Rattle.def_numbers.specs.Refusals.{refuse, literal-in-sink, lone-filler-sink, second-filler, sum-overflow}
+use Rattle.def_numbers.specs.Prelude.{ℕ, _+_, none, some, Bool, true, false, not, _&&_, eqb, ℤ, natAbs}
+use Rattle.def_numbers.specs.Basics.{ok, refused, placed, if_then_else_}
+use Rattle.def_numbers.specs.Refusals.{refuse, lone-filler-sink, second-filler, sum-overflow}
 use Rattle.def_stages.specs.Component.{Component, ComponentType, literal, variable, filler, hasEnd}
 use Rattle.def_stages.specs.Concatenation.{Running, addWidth, checkType, hasFullRange, isAlign, align-none, alignOf as placedAlign}
 use Rattle.misc.specs.Value.{optionOf}

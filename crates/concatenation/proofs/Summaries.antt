@@ -1,9 +1,7 @@
 -- Summaries: what holds of a concatenation that has one, and of lists of them.
 use mathlib.Core.Path.{_≡_, refl, sym, _∙_, ap, ap₂}
-use Prim.Native.Nat.{_≤_, _<_}
-use native.Mathlib.Omega.{arith}
 use borrow.Author.Tests.{eq-eqb, ne-eqb}
-use Rattle.def_numbers.specs.Prelude.{ℕ, zero, suc, _+_, Option, none, some, Bool, true, false, not, _&&_, _||_, List, [], _∷_, length, getD, drop, eqb}
+use Rattle.def_numbers.specs.Prelude.{ℕ, Option, none, some, Bool, true, false, not, _&&_, _||_, List, [], _∷_, eqb}
 use Rattle.def_numbers.specs.Basics.{Result, ok, refused, _>>=_, placed, if_then_else_}
 use Rattle.def_numbers.specs.Refusals.{need, refuse, middle-filler, unequal-widths, filler-without-start, numberOf}
 use Rattle.def_stages.specs.Concatenation.{Concatenation, FillerAlign, isAlign, align-mid}
@@ -12,7 +10,7 @@ use Rattle.misc.specs.Value.{optionUsize}
 use Rattle.concatenation.specs.Align.{alignOf}
 use Rattle.concatenation.specs.declared.align.FillerAlign.{FillerAlign as Align}
 use Rattle.concatenation.specs.declared.overall.Summary.{Summary}
-use Rattle.concatenation.specs.Overall.{HasSummary, Summarised, none-left, one-more, StartsAs, joined, turn, placeOf, middleAt, isOpposite}
+use Rattle.concatenation.specs.Overall.{HasSummary, StartsAs, joined, turn, placeOf, middleAt, isOpposite}
 
 module _ (i : ℕ) (c : Concatenation) (o : Overall) where
   pub width-unknown : c .width ≡ none → joinWidth i c o ≡ ok (joined c (o .known) (o .width) o)

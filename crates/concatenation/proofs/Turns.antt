@@ -10,7 +10,6 @@ use Rattle.def_numbers.specs.Basics.{Result, ok, refused, _>>=_, placed, if_the
 use Rattle.def_numbers.specs.Refusals.{Reason, refuse, middle-filler, opposite-fillers}
 use Rattle.def_stages.specs.Concatenation.{Concatenation, isAlign, align-mid}
 use Rattle.def_stages.specs.Overall.{Overall, joinWidth, checkSource, overallFrom, middleFrom, oppositeFrom, placeFrom}
-use Rattle.laws.specs.Tests.{by-test}
 use Rattle.concatenation.specs.declared.overall.Summary.{Summary}
 use Rattle.concatenation.specs.Overall.{HasSummary, Summarised, none-left, one-more, StartsAs, andThen, turn, unboundedIn, middleAt, isOpposite, oppositeAt}
 

@@ -1,10 +1,9 @@
 -- Widths: numbers that fit 64 bits, and a number of 128 bits without its sign.
-use mathlib.Core.Path.{_≡_, refl, sym, _∙_, ap}
+use mathlib.Core.Path.{_≡_, sym, _∙_, ap}
 use Prim.Native.Nat.{_≤_, _<_}
 use native.Mathlib.Omega.{arith}
-use borrow.Author.Tests.{lt-ltb, le-ltb, ltb-true, ltb-false}
-use Rattle.def_numbers.specs.Prelude.{ℕ, suc, _+_, _*_, _-_, _^_, Option, none, some, Bool, true, false, ltb, ℤ, natAbs}
-use Rattle.def_numbers.specs.Basics.{if_then_else_}
+use borrow.Author.Tests.{lt-ltb, le-ltb, ltb-false}
+use Rattle.def_numbers.specs.Prelude.{ℕ, _+_, _*_, _-_, _^_, none, some, true, false, ltb, natAbs}
 use Rattle.laws.specs.Tests.{by-test}
 use Rattle.misc.specs.Value.{valueOf, optionUsize}
 use Rattle.misc.specs.declared.I128.{I128}

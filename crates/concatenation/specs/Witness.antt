@@ -1,6 +1,6 @@
 -- Witnesses: a component of each kind with its shape, and two concatenations with their summaries.
 use mathlib.Core.Path.{refl}
-use Rattle.def_numbers.specs.Prelude.{true, false, none, some, List, [], _∷_, pos}
+use Rattle.def_numbers.specs.Prelude.{true, false, none, some, [], _∷_, pos}
 use Rattle.def_numbers.specs.Basics.{sameBytes}
 use Rattle.def_numbers.specs.Numbers.{half128}
 use Rattle.def_image.specs.Image.{Placed}

@@ -1,6 +1,5 @@
 // Stage 4: what the concatenations say together, over a summary of each.
 use crate::align::FillerAlign;
-use crate::align::is_align;
 use crate::align::join_align;
 use crate::flags::both;
 use crate::flags::either;
@@ -8,17 +7,12 @@ use errors::Checked;
 use errors::Refusal;
 use misc::OptionUsize;
 ghost use mathlib.Core.Path.{_≡_};
-ghost use mathlib.Core.Bool.{not, _&&_};
 ghost use mathlib.Core.List.{List};
-ghost use Prim.Native.Nat.{ℕ, _≤_};
-ghost use lib.Dec.{leb};
-ghost use lib.ListN.{take};
 ghost use Rattle.def_stages.specs.Concatenation.{Concatenation};
-ghost use Rattle.def_stages.specs.Overall.{joinWidth, checkSource, overallFrom, overall, middleFrom, oppositeFrom, isSided, stage4 as stage4Of};
+ghost use Rattle.def_stages.specs.Overall.{joinWidth, checkSource, overall};
 ghost use Rattle.errors.specs.Refused.{resultOf};
 ghost use Rattle.misc.specs.Value.{optionUsize};
-ghost use Rattle.concatenation.specs.Align.{alignOf};
-ghost use Rattle.concatenation.specs.Overall.{placeOf, overallOf, answerOf, HasSummary, Summarised, StartsAs, joined as joinedOf, andThen, turn, middleAt, oppositeAt};
+ghost use Rattle.concatenation.specs.Overall.{overallOf, answerOf, HasSummary, StartsAs, joined as joinedOf, andThen, turn};
 
 // The place of a component.
 pub enum Place {

@@ -1,6 +1,6 @@
 -- `concatenation::check_source` meets its contract: by the first filler, and by `bare` at concatenation 0.
 -- Assumes nothing.
-use mathlib.Core.Path.{refl, sym, _∙_, ap}
+use mathlib.Core.Path.{sym, _∙_, ap}
 use borrow.Author.Needs.{needs}
 use Rattle.concatenation.specs.Overall.{placeOf}
 use Rattle.concatenation.proofs.Summaries.{source-none, source-bad, source-good}

@@ -1,6 +1,6 @@
 -- `concatenation::join` meets its contract: the width first, then the source.
 -- Assumes nothing.
-use mathlib.Core.Path.{refl, sym, _∙_, ap}
+use mathlib.Core.Path.{sym, _∙_, ap}
 use borrow.Author.Needs.{needs}
 use Rattle.def_numbers.specs.Basics.{Result, ok}
 use Rattle.concatenation.specs.Overall.{overallOf, answerOf, andThen}

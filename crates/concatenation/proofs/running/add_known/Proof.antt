@@ -1,9 +1,9 @@
 -- `concatenation::add_known` meets its contract: by the width so far, and by whether the sum fits.
 -- Assumes nothing.
-use mathlib.Core.Path.{refl, sym, _∙_, ap}
+use mathlib.Core.Path.{sym, _∙_, ap}
 use borrow.Author.Needs.{needs}
 use Rattle.def_numbers.specs.Basics.{placed}
-use Rattle.misc.specs.Value.{valueOf, optionOf, optionUsize}
+use Rattle.misc.specs.Value.{valueOf, optionUsize}
 use Rattle.concatenation.specs.Running.{runningOf}
 use Rattle.concatenation.proofs.Steps.{add-unknown, add-fits, add-exceeds}
 use Rattle.concatenation.proofs.running.add_known.Statement.{statement}

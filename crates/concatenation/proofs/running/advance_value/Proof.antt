@@ -1,6 +1,6 @@
 -- `concatenation::advance_value` meets its contract: what the step ensures, settled.
 -- Assumes nothing.
-use mathlib.Core.Path.{refl, sym, _∙_, ap}
+use mathlib.Core.Path.{_∙_, ap}
 use borrow.Author.Needs.{needs}
 use Rattle.concatenation.specs.Running.{runningOf, keptOf, verdictOf}
 use Rattle.concatenation.proofs.running.advance_value.Statement.{statement}

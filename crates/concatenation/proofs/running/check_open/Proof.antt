@@ -1,6 +1,6 @@
 -- `concatenation::check_open` meets its contract: 31 and 32 in turn, else the new alignment.
 -- Assumes nothing.
-use mathlib.Core.Path.{refl, sym, _∙_, ap}
+use mathlib.Core.Path.{sym, _∙_, ap}
 use mathlib.Core.Bool.{Bool, not, _&&_}
 use borrow.Author.Needs.{needs}
 use lib.Dec.{eqb}

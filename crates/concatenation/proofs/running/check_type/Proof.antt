@@ -1,6 +1,6 @@
 -- `concatenation::check_type` meets its contract: by the kind, and by the end of a filler.
 -- Assumes nothing.
-use mathlib.Core.Path.{refl, sym, _∙_, ap}
+use mathlib.Core.Path.{sym, _∙_, ap}
 use mathlib.Core.Bool.{not}
 use borrow.Author.Needs.{needs}
 use lib.Dec.{eqb}

@@ -1,6 +1,6 @@
 -- `concatenation::step` meets its contract: the width, then the type, over what the shape says of a component.
 -- Assumes nothing.
-use mathlib.Core.Path.{refl, sym, _∙_, ap}
+use mathlib.Core.Path.{sym, _∙_, ap}
 use borrow.Author.Needs.{needs}
 use Rattle.concatenation.specs.Running.{runningOf, steppedOf}
 use Rattle.concatenation.proofs.Steps.{step-on, step-off}

@@ -1,9 +1,9 @@
 -- `concatenation::sum` meets its contract: by whether the number without its sign fits.
 -- Assumes nothing.
-use mathlib.Core.Path.{refl, sym, _∙_, ap}
+use mathlib.Core.Path.{_∙_}
 use borrow.Author.Needs.{needs}
 use lib.IntN.{natAbs}
-use Rattle.misc.specs.Value.{valueOf, optionOf}
+use Rattle.misc.specs.Value.{valueOf}
 use Rattle.concatenation.proofs.Widths.{sum-known, sum-unknown}
 use Rattle.concatenation.proofs.running.sum.Statement.{statement}
 use Rattle.concatenation.proofs.running.sum.Tie as tie

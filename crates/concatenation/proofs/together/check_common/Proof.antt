@@ -1,8 +1,8 @@
 -- `concatenation::check_common` meets its contract: by the width and the mode.
 -- Assumes nothing.
-use mathlib.Core.Path.{refl, sym, _∙_, ap}
+use mathlib.Core.Path.{_∙_, ap}
 use borrow.Author.Needs.{needs}
-use Rattle.misc.specs.Value.{valueOf, optionOf, optionUsize}
+use Rattle.misc.specs.Value.{optionUsize}
 use Rattle.concatenation.proofs.Ends.{common-known, common-lacking, common-free}
 use Rattle.concatenation.proofs.together.check_common.Statement.{statement}
 use Rattle.concatenation.proofs.together.check_common.Tie as tie

@@ -1,6 +1,6 @@
 -- `concatenation::middle_at` meets its contract: by the alignment and the first unbounded filler.
 -- Assumes nothing.
-use mathlib.Core.Path.{refl, sym, _∙_, ap}
+use mathlib.Core.Path.{sym, _∙_, ap}
 use borrow.Author.Needs.{needs}
 use Rattle.concatenation.specs.Overall.{placeOf}
 use Rattle.concatenation.proofs.Summaries.{middle-none, middle-some, middle-other}

@@ -1,6 +1,6 @@
 -- `concatenation::opposite_at` meets its contract: the search over the rest is the definition's.
 -- Assumes nothing.
-use mathlib.Core.Path.{refl, sym, _∙_, ap}
+use mathlib.Core.Path.{sym, _∙_, ap}
 use Prim.Native.Nat.{_+_}
 use native.Mathlib.Omega.{arith}
 use borrow.Author.Needs.{needs}

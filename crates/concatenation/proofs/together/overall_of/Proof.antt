@@ -1,11 +1,11 @@
 -- `concatenation::overall_of` meets its contract: what is left of the list, from what was found so far, gives what the whole gives. The measure is what is left.
 -- Assumes nothing.
-use mathlib.Core.Path.{_≡_, refl, sym, _∙_, ap}
+use mathlib.Core.Path.{_≡_, sym, _∙_, ap}
 use mathlib.Core.List.{List}
-use Prim.Native.Nat.{ℕ, _≤_, _-_}
+use Prim.Native.Nat.{_≤_, _-_}
 use native.Mathlib.Omega.{arith}
 use borrow.Author.Needs.{needs}
-use lib.ListN.{length, take, drop}
+use lib.ListN.{take, drop}
 use Rattle.def_stages.specs.Concatenation.{Concatenation}
 use Rattle.def_stages.specs.Overall.{overallFrom, overall}
 use Rattle.concatenation.specs.Overall.{answerOf}

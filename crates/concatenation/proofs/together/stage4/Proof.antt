@@ -1,6 +1,6 @@
 -- `concatenation::stage4` meets its contract: the loop, then the checks, over the first n of the array.
 -- Assumes nothing.
-use mathlib.Core.Path.{refl, sym, _∙_, ap}
+use mathlib.Core.Path.{sym, _∙_, ap}
 use mathlib.Core.Bool.{Bool}
 use borrow.Author.Needs.{needs}
 use Rattle.def_stages.specs.Overall.{overallFrom, overall}
