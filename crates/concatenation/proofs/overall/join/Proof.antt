@@ -1,0 +1,49 @@
+-- `concatenation::join` meets its contract: the width first, then the source.
+-- Assumes nothing.
+use mathlib.Core.Path.{sym, _∙_, ap}
+use borrow.Author.Needs.{needs}
+use Rattle.def_numbers.specs.Basics.{Result, ok}
+use Rattle.concatenation.specs.Overall.{overallOf, answerOf, andThen}
+use Rattle.concatenation.proofs.Summaries.{turn-on, turn-off}
+use Rattle.concatenation.proofs.overall.join.Statement.{statement}
+use Rattle.concatenation.proofs.overall.join.Tie as tie
+
+join-width-requires : tie.Need-join-width-requires
+join-width-requires c κs = search needs
+
+enum-known-p : tie.Need-enum-known-p
+enum-known-p c = search needs
+
+check-source-requires : tie.Need-check-source-requires
+check-source-requires c κs = search needs
+
+after-requires : tie.Need-after-requires
+after-requires c κs = search needs
+
+enum-known-e : tie.Need-enum-known-e
+enum-known-e c = search needs
+
+returns : tie.Need-returns
+returns c =
+    let p = c .before .before .before .before .before .before .args in
+    λ d h. c .after .ensures ∙ ap (λ (a : Result Unit). andThen a (ok (overallOf (c .before .before .before .p .given .0 .0)))) (c .before
+    .check-source .ensures d h) ∙ turn-on (p .bare) (p .i) d (overallOf (p .o)) (overallOf (c .before .before .before .p .given .0 .0))
+    (sym (ap answerOf (c .before .before .before .p .given .1)) ∙ c .before .before .before .before .before .join-width .ensures d h)
+
+returns-2 : tie.Need-returns-2
+returns-2 c =
+    let p = c .before .before .before .before .args in
+    λ d h. turn-off (p .bare) (p .i) d (overallOf (p .o)) (c .before .e .given .0 .0 .number) (c .before .e .given .0 .0 .concatenation) (c
+    .before .e .given .0 .0 .component) (sym (ap answerOf (c .before .e .given .1)) ∙ c .before .before .before .join-width .ensures d h)
+
+pub join-spec : {M : Type 1} → statement M
+join-spec =
+    tie.close
+    (tie.spec
+    join-width-requires
+    enum-known-p
+    check-source-requires
+    after-requires
+    enum-known-e
+    returns
+    returns-2)

@@ -1,0 +1,146 @@
+// Stage 4: what the concatenations say together, over a summary of each.
+use crate::align::FillerAlign;
+use crate::align::join_align;
+use crate::flags::both;
+use crate::flags::either;
+use errors::Checked;
+use errors::Refusal;
+use misc::OptionUsize;
+ghost use mathlib.Core.Path.{_≡_};
+ghost use mathlib.Core.List.{List};
+ghost use Rattle.def_stages.specs.Concatenation.{Concatenation};
+ghost use Rattle.def_stages.specs.Overall.{joinWidth, checkSource, overall};
+ghost use Rattle.errors.specs.Refused.{resultOf};
+ghost use Rattle.misc.specs.Value.{optionUsize};
+ghost use Rattle.concatenation.specs.Overall.{overallOf, answerOf, HasSummary, StartsAs, joined as joinedOf, andThen, turn};
+
+// The place of a component.
+pub enum Place {
+    At(u32),
+    None,
+}
+
+// What stage 4 reads of a concatenation; the component of its first filler, and of its first unbounded one.
+pub struct Summary {
+    pub align: FillerAlign,
+    pub width: OptionUsize,
+    pub deterministic: bool,
+    pub nonzero: bool,
+    pub filler: Place,
+    pub unbounded: Place,
+}
+
+// The answer's head; `known` is the first concatenation of known width.
+pub struct Overall {
+    pub align: FillerAlign,
+    pub width: OptionUsize,
+    pub known: u32,
+    pub deterministic: bool,
+    pub nonzero: bool,
+}
+
+pub enum OverallResult {
+    Ok(Overall),
+    Refused(Refusal),
+}
+
+// What concatenation s adds, where the width is known from concatenation `known`, or not at all.
+fn joined(s: Summary, known: u32, width: OptionUsize, o: Overall) -> Overall
+    ensures { λ q. ⌜ ((c : Concatenation) → HasSummary c s → overallOf q ≡ joinedOf c known (optionUsize width) (overallOf o)) ⌝ }
+{
+    let so_far = o.align;
+    let this = s.align;
+    let align = join_align(so_far, this);
+    let deterministic = either(o.deterministic, s.deterministic);
+    let nonzero = either(o.nonzero, s.nonzero);
+    Overall {
+        align,
+        width,
+        known,
+        deterministic,
+        nonzero,
+    }
+}
+
+// 41.
+fn join_width(i: u32, s: Summary, o: Overall) -> OverallResult
+    ensures { λ q. ⌜ ((c : Concatenation) → HasSummary c s → answerOf q ≡ joinWidth i c (overallOf o)) ⌝ }
+{
+    let so_far = o.width;
+    let width = s.width;
+    let OptionUsize::Some(w) = width else {
+        return OverallResult::Ok(joined(s, o.known, so_far, o));
+    };
+    let OptionUsize::Some(v) = so_far else {
+        return OverallResult::Ok(joined(s, i, width, o));
+    };
+    if w == v {
+        return OverallResult::Ok(joined(s, o.known, so_far, o));
+    }
+    OverallResult::Refused(Refusal {
+        number: 41,
+        concatenation: o.known,
+        component: i,
+    })
+}
+
+// 40.
+fn check_source(bare: bool, i: u32, s: Summary) -> Checked
+    ensures { λ q. ⌜ ((c : Concatenation) → HasSummary c s → resultOf q ≡ checkSource bare i c) ⌝ }
+{
+    let filler = s.filler;
+    let Place::At(k) = filler else {
+        return Checked::Passed;
+    };
+    if both(bare, i == 0) {
+        return Checked::Refused(Refusal {
+            number: 40,
+            concatenation: 0,
+            component: k,
+        });
+    }
+    Checked::Passed
+}
+
+// The second, unless the first refuses.
+pub fn after(a: Checked, r: OverallResult) -> OverallResult
+    ensures { λ q. ⌜ answerOf q ≡ andThen (resultOf a) (answerOf r) ⌝ }
+{
+    match a {
+        Checked::Passed => r,
+        Checked::Refused(e) => OverallResult::Refused(e),
+    }
+}
+
+pub fn join(bare: bool, i: u32, s: Summary, o: Overall) -> OverallResult
+    ensures { λ q. ⌜ ((c : Concatenation) → HasSummary c s → answerOf q ≡ turn bare i c (overallOf o)) ⌝ }
+{
+    match join_width(i, s, o) {
+        OverallResult::Ok(p) => after(check_source(bare, i, s), OverallResult::Ok(p)),
+        OverallResult::Refused(e) => OverallResult::Refused(e),
+    }
+}
+
+// What the loop starts with: concatenation 0, if there is one.
+pub fn start(n: usize, s: Summary) -> Overall
+    ensures { λ q. ⌜ ((l : List Concatenation) → StartsAs l n s → overallOf q ≡ overall l) ⌝ }
+{
+    let align = s.align;
+    let width = s.width;
+    if n == 0 {
+        return Overall {
+            align: FillerAlign::None,
+            width: OptionUsize::None,
+            known: 0,
+            deterministic: false,
+            nonzero: false,
+        };
+    }
+    Overall {
+        align,
+        width,
+        known: 0,
+        deterministic: s.deterministic,
+        nonzero: false,
+    }
+}
