@@ -1,0 +1,108 @@
+-- Writing at a place of a buffer: as much as fits is written, and the place after it is counted up to 2^64 - 1, the greatest usize.
+use mathlib.Core.Path.{_≡_, refl, sym, ap, _∙_}
+use mathlib.Core.List.{append-assoc}
+use Prim.Native.Nat.{_≤_, _<_}
+use native.Mathlib.Nat.{zero-add, add-zero, add-suc, suc-add, add-assoc}
+use native.Mathlib.Omega.{arith}
+use lib.ListN.{length-append, set}
+use native.Mathlib.Numerals.{add-one}
+use lib.Seq.{take-all, take-suc, sets, length-sets, sets-eq, set-out}
+use borrow.Author.Tests.{le-leb, lt-leb, leb-true, leb-false}
+use Rattle.laws.specs.Tests.{by-test}
+use Rattle.def_numbers.specs.Prelude.{ℕ, suc, _+_, _-_, _^_, List, [], _∷_, _++_, length, getD, take, drop, leb}
+use Rattle.def_numbers.specs.Basics.{if_then_else_}
+
+-- a place, or the greatest usize where it is beyond
+unfoldable pub capped : ℕ → ℕ
+capped n = if leb n (2 ^ 64 - 1) then n else 2 ^ 64 - 1
+
+-- The buffer l with bs written from `at` on, as far as they fit, is m, and the place after them is r. (`sets` leaves out what does
+-- not fit; a slice is shorter than 2^63, so a place that was cut is past its end.)
+pub record Put (l : List ℕ) (at : ℕ) (bs m : List ℕ) (r : ℕ) : Type 0 where
+  pub wrote : m ≡ sets l at bs
+  pub place : r ≡ capped (at + length bs)
+  pub room : length l < 2 ^ 63
+
+-- ---- the place
+
+pub capped-small : (n : ℕ) → n < 2 ^ 64 → capped n ≡ n
+unfolding capped
+capped-small n h = rw (le-leb n (2 ^ 64 - 1) (omega arith))
+
+pub capped-large : (n : ℕ) → 2 ^ 64 ≤ n → capped n ≡ 2 ^ 64 - 1
+unfolding capped
+capped-large n h = rw (lt-leb n (2 ^ 64 - 1) (omega arith))
+
+by-size : {G : Type 0} (n : ℕ) → (n < 2 ^ 64 → G) → (2 ^ 64 ≤ n → G) → G
+by-size n f g =
+    by-test (leb n (2 ^ 64 - 1)) (λ t. f (omega (arith, leb-true n (2 ^ 64 - 1) t))) (λ t. g (omega (arith, leb-false n (2 ^ 64 - 1) t)))
+
+pub capped-add : (a b : ℕ) → capped (capped a + b) ≡ capped (a + b)
+capped-add a b =
+    by-size a (λ h. ap (λ (n : ℕ). capped (n + b)) (capped-small a h)) λ h.
+    ap (λ (n : ℕ). capped (n + b)) (capped-large a h) ∙ (large ∙ sym (capped-large (a + b) (omega arith)))
+  where
+    large : capped (2 ^ 64 - 1 + b) ≡ 2 ^ 64 - 1
+    large =
+        by-size (2 ^ 64 - 1 + b) (λ h. capped-small (2 ^ 64 - 1 + b) h ∙ (omega arith)) λ h. capped-large (2 ^ 64 - 1 + b) h
+
+-- it tells whether a place is within a buffer
+pub capped-within : (n m : ℕ) → m < 2 ^ 63 → leb (capped n) m ≡ leb n m
+capped-within n m h =
+    by-size n (λ q. ap (λ (k : ℕ). leb k m) (capped-small n q)) λ q.
+    ap (λ (k : ℕ). leb k m) (capped-large n q) ∙ (lt-leb (2 ^ 64 - 1) m (omega arith) ∙ sym (lt-leb n m (omega arith)))
+
+-- ---- the bytes
+
+pub sets-append : (l : List ℕ) (at : ℕ) (a b : List ℕ) → sets l at (a ++ b) ≡ sets (sets l at a) (at + length a) b
+sets-append l at [] b = rw add-zero
+sets-append l at (x ∷ a) b = rw (sets-append (set l at x) (suc at) a b, suc-add, add-suc)
+
+pub sets-out : (l : List ℕ) (at : ℕ) (bs : List ℕ) → length l ≤ at → sets l at bs ≡ l
+sets-out l at [] h = refl
+sets-out l at (x ∷ bs) h = rw (set-out l at x h) (sets-out l (suc at) bs (omega arith))
+
+-- from the front, where they fit
+pub sets-front : (l bs : List ℕ) → length bs ≤ length l → sets l 0 bs ≡ bs ++ drop (length bs) l
+sets-front l bs h = sets-eq bs l 0 (omega arith) ∙ rw zero-add
+
+sets-capped : (l : List ℕ) (at : ℕ) (bs : List ℕ) → length l < 2 ^ 63 → sets l (capped at) bs ≡ sets l at bs
+sets-capped l at bs h =
+    by-size at (λ q. ap (λ (n : ℕ). sets l n bs) (capped-small at q)) λ q.
+    ap (λ (n : ℕ). sets l n bs) (capped-large at q) ∙ (sets-out l (2 ^ 64 - 1) bs (omega arith) ∙ sym (sets-out l at bs (omega arith)))
+
+-- ---- writing
+
+pub put-nothing : (l : List ℕ) (at : ℕ) → length l < 2 ^ 63 → at < 2 ^ 64 → Put l at [] l at
+put-nothing l at h q = record { wrote = refl; place = rw add-zero (sym (capped-small at q)); room = h }
+
+-- a byte where it fits, and where it does not
+pub put-one : (l : List ℕ) (at b : ℕ) → length l < 2 ^ 63 → at < length l → Put l at (b ∷ []) (set l at b) (at + 1)
+put-one l at b h q = record { wrote = refl; place = sym (capped-small (at + 1) (omega arith)); room = h }
+
+pub put-past : (l : List ℕ) (at b r : ℕ) → length l < 2 ^ 63 → length l ≤ at → r ≡ capped (at + 1) → Put l at (b ∷ []) l r
+put-past l at b r h q e = record { wrote = sym (set-out l at b q); place = e; room = h }
+
+pub put-length : {l bs m : List ℕ} {at r : ℕ} → Put l at bs m r → length m ≡ length l
+put-length {l} {bs} {m} {at} x = ap length (x .wrote) ∙ length-sets l at bs
+
+-- one thing and then another
+infixl 20 _⨾_
+pub _⨾_ : {l m o a b : List ℕ} {at r q : ℕ} → Put l at a m r → Put m r b o q → Put l at (a ++ b) o q
+_⨾_ {l} {m} {o} {a} {b} {at} {r} {q} x y =
+    record {
+      wrote = y .wrote ∙ rw (x .wrote, x .place, sets-append l at a b) (sets-capped (sets l at a) (at + length a) b (rw length-sets (x .room)));
+      place = y .place ∙ rw (x .place, length-append, ← add-assoc) (capped-add (at + length a) (length b));
+      room = x .room;
+    }
+
+pub read-as : {l m a b : List ℕ} {at r : ℕ} → a ≡ b → Put l at a m r → Put l at b m r
+read-as e x = rw e at x
+
+-- the bytes of a list, one by one
+pub put-next : {l m o : List ℕ} {at r q : ℕ} (s : List ℕ) (i : ℕ) → i < length s → Put l at (take i s) m r → Put m r (getD s i 0 ∷ []) o q
+    → Put l at (take (i + 1) s) o q
+put-next s i h x y = read-as (rw (add-one, take-suc s i 0)) (x ⨾ y)
+
+pub put-all : {l m : List ℕ} {at r : ℕ} (s : List ℕ) (i : ℕ) → i ≤ length s → length s ≤ i → Put l at (take i s) m r → Put l at s m r
+put-all s i h k x = read-as (take-all i s k) x
