@@ -1,6 +1,6 @@
 -- Writing at a place of a buffer: as much as fits is written, and the place after it is counted up to 2^64 - 1, the greatest usize.
 use mathlib.Core.Path.{_≡_, refl, sym, ap, _∙_}
-use mathlib.Core.List.{append-assoc}
+use mathlib.Core.List.{append-assoc, append-nil}
 use Prim.Native.Nat.{_≤_, _<_}
 use native.Mathlib.Nat.{zero-add, add-zero, add-suc, suc-add, add-assoc}
 use native.Mathlib.Omega.{arith}
@@ -106,3 +106,24 @@ put-next s i h x y = read-as (rw (add-one, take-suc s i 0)) (x ⨾ y)
 
 pub put-all : {l m : List ℕ} {at r : ℕ} (s : List ℕ) (i : ℕ) → i ≤ length s → length s ≤ i → Put l at (take i s) m r → Put l at s m r
 put-all s i h k x = read-as (take-all i s k) x
+
+-- ---- on the way to a whole of which `rest` is still to come
+
+pub record Toward (l : List ℕ) (at : ℕ) (whole rest m : List ℕ) (r : ℕ) : Type 0 where
+  pub done : List ℕ
+  pub split : done ++ rest ≡ whole
+  pub put : Put l at done m r
+
+pub toward-start : (l : List ℕ) (at : ℕ) (whole : List ℕ) → length l < 2 ^ 63 → at < 2 ^ 64 → Toward l at whole whole l at
+toward-start l at whole h q = record { done = []; split = refl; put = put-nothing l at h q }
+
+-- the next part of the rest is written
+pub toward : {l whole rest m o : List ℕ} {at r q : ℕ} (a next : List ℕ) → rest ≡ a ++ next → Toward l at whole rest m r → Put m r a o q → Toward l at whole next o q
+toward a next e x y =
+    record { done = x .done ++ a; split = rw (append-assoc, ← e) (x .split); put = x .put ⨾ y }
+
+pub toward-end : {l whole rest m : List ℕ} {at r : ℕ} → rest ≡ [] → Toward l at whole rest m r → Put l at whole m r
+toward-end {l} {whole} {rest} e x = read-as (let f : x .done ++ rest ≡ x .done = rw e (append-nil (x .done)) in sym f ∙ x .split) (x .put)
+
+pub toward-length : {l whole rest m : List ℕ} {at r : ℕ} → Toward l at whole rest m r → length m ≡ length l
+toward-length x = put-length (x .put)
