@@ -87,7 +87,7 @@ pub put-length : {l bs m : List ℕ} {at r : ℕ} → Put l at bs m r → length
 put-length {l} {bs} {m} {at} x = ap length (x .wrote) ∙ length-sets l at bs
 
 -- one thing and then another
-infixl 20 _⨾_
+infixr 20 _⨾_
 pub _⨾_ : {l m o a b : List ℕ} {at r q : ℕ} → Put l at a m r → Put m r b o q → Put l at (a ++ b) o q
 _⨾_ {l} {m} {o} {a} {b} {at} {r} {q} x y =
     record {

@@ -1,0 +1,2 @@
+-- The listing in the parts that the code writes, and what its answers say.
+pub mod Parts

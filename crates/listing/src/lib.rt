@@ -1,0 +1,3 @@
+// The listing of an outcome, written into a lent buffer.
+mod fields;
+mod words;
