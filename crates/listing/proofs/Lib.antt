@@ -1,3 +1,4 @@
 -- Laws that the proofs cite.
 pub mod Components
+pub mod Concatenations
 pub mod Wording

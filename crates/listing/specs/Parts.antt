@@ -3,10 +3,10 @@ use mathlib.Core.Path.{_≡_, refl, ap, _∙_}
 use mathlib.Core.List.{append-assoc}
 use Rattle.laws.specs.Lists.{joined-append}
 use Rattle.laws.specs.Tests.{by-test}
-use Rattle.def_numbers.specs.Prelude.{ℕ, Bool, true, false, List, [], _∷_, _++_, map, reverse, eqb, _+_, Option, none, some}
+use Rattle.def_numbers.specs.Prelude.{ℕ, Bool, true, false, List, [], _∷_, _++_, map, reverse, eqb, leb, _+_, _-_, Option, none, some}
 use Rattle.def_numbers.specs.Basics.{if_then_else_, joined, ascii}
 use Rattle.def_image.specs.Image.{u32At, bytesAt, bytesFor}
-use Rattle.def_run.specs.Answer.{Field, Bound, textAt, boundAt}
+use Rattle.def_run.specs.Answer.{Field, Group, Bound, textAt, boundAt}
 use Rattle.def_run.specs.Listing.{line, decimal, hex, shown, boundWord, endWord, summaryWords, fieldLine}
 
 -- words, each with a space before it
@@ -59,3 +59,12 @@ field-parts f = go (eqb (f .kind) 1) (eqb (f .kind) 2)
     go true u = line-parts (ascii "literal") bounds (joined (map hex (reverse (f .literal))) ∷ [])
     go false true = line-parts (ascii "variable") bounds (shown (f .text) ∷ [])
     go false false = line-parts (ascii "filler") bounds []
+
+-- ---- the lines of the concatenations
+
+abbrev pub groupLine : ℕ → Group → List ℕ
+groupLine i g = line (ascii "c" ∷ decimal i ∷ decimal (g .size) ∷ summaryWords (g .width) (g .align) (g .flags))
+
+-- where `size` components from component k end, of `count`
+abbrev pub stopOf : ℕ → ℕ → ℕ → ℕ
+stopOf k size count = if leb size (count - k) then k + size else count

@@ -1,3 +1,4 @@
 // The listing of an outcome, written into a lent buffer.
 mod fields;
+mod groups;
 mod words;
