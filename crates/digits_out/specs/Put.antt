@@ -2,14 +2,14 @@
 use mathlib.Core.Path.{_≡_, refl, sym, ap, _∙_}
 use mathlib.Core.List.{append-assoc, append-nil}
 use Prim.Native.Nat.{_≤_, _<_}
-use native.Mathlib.Nat.{zero-add, add-zero, add-suc, suc-add, add-assoc}
+use native.Mathlib.Nat.{le-refl, zero-add, add-zero, add-suc, suc-add, add-assoc}
 use native.Mathlib.Omega.{arith}
-use lib.ListN.{length-append, set}
+use lib.ListN.{length-append, take-append-drop, drop-of-length-le, set}
 use native.Mathlib.Numerals.{add-one}
-use lib.Seq.{take-all, take-suc, sets, length-sets, sets-eq, set-out}
+use lib.Seq.{length-take-le, take-all, take-suc, sets, length-sets, sets-eq, set-out}
 use borrow.Author.Tests.{le-leb, lt-leb, leb-true, leb-false}
 use Rattle.laws.specs.Tests.{by-test}
-use Rattle.def_numbers.specs.Prelude.{ℕ, suc, _+_, _-_, _^_, List, [], _∷_, _++_, length, getD, take, drop, leb}
+use Rattle.def_numbers.specs.Prelude.{ℕ, true, false, suc, _+_, _-_, _^_, List, [], _∷_, _++_, length, getD, take, drop, leb}
 use Rattle.def_numbers.specs.Basics.{if_then_else_}
 
 -- a place, or the greatest usize where it is beyond
@@ -65,6 +65,25 @@ sets-out l at (x ∷ bs) h = rw (set-out l at x h) (sets-out l (suc at) bs (omeg
 -- from the front, where they fit
 pub sets-front : (l bs : List ℕ) → length bs ≤ length l → sets l 0 bs ≡ bs ++ drop (length bs) l
 sets-front l bs h = sets-eq bs l 0 (omega arith) ∙ rw zero-add
+
+-- from the front, whether they fit or not
+pub sets-whole : (l bs : List ℕ) → sets l 0 bs ≡ take (length l) bs ++ drop (length bs) l
+sets-whole l bs =
+    by-test (leb (length bs) (length l)) (λ t. fits (leb-true (length bs) (length l) t)) λ t. past (leb-false (length bs) (length l) t)
+  where
+    fits : length bs ≤ length l → sets l 0 bs ≡ take (length l) bs ++ drop (length bs) l
+    fits h = sets-front l bs h ∙ ap (λ (x : List ℕ). x ++ drop (length bs) l) (sym (take-all (length l) bs h))
+
+    past : length l < length bs → sets l 0 bs ≡ take (length l) bs ++ drop (length bs) l
+    past h =
+        let n : ℕ = length l in
+        let full : length (take n bs) ≡ n = length-take-le n bs (omega arith) in
+        let front : sets l 0 (take n bs) ≡ take n bs =
+        sets-front l (take n bs) (omega arith) ∙ rw (full, drop-of-length-le l (le-refl n), append-nil) in
+        ap (sets l 0) (sym (take-append-drop n bs))
+        ∙ (sets-append l 0 (take n bs) (drop n bs)
+        ∙ (sets-out (sets l 0 (take n bs)) (0 + length (take n bs)) (drop n bs) (rw (length-sets, full) (omega arith))
+        ∙ (front ∙ rw (drop-of-length-le l {i = length bs} (omega arith), append-nil))))
 
 sets-capped : (l : List ℕ) (at : ℕ) (bs : List ℕ) → length l < 2 ^ 63 → sets l (capped at) bs ≡ sets l at bs
 sets-capped l at bs h =
@@ -127,3 +146,20 @@ toward-end {l} {whole} {rest} e x = read-as (let f : x .done ++ rest ≡ x .done
 
 pub toward-length : {l whole rest m : List ℕ} {at r : ℕ} → Toward l at whole rest m r → length m ≡ length l
 toward-length x = put-length (x .put)
+
+-- ---- from the front: what the buffer holds then, and whether all of it fitted
+
+pub put-front : {l L m : List ℕ} {r : ℕ} → Put l 0 L m r → m ≡ take (length l) L ++ drop (length L) l
+put-front {l} {L} x = x .wrote ∙ sets-whole l L
+
+pub put-whole : {l L m : List ℕ} {r : ℕ} → Put l 0 L m r → r ≤ length m → (r ≡ length L) × (leb (length L) (length l) ≡ true)
+put-whole {l} {L} {m} {r} x h =
+    let e : r ≡ capped (length L) = x .place ∙ ap capped (zero-add (length L)) in
+    let t : leb (length L) (length l) ≡ true =
+    sym (capped-within (length L) (length l) (x .room)) ∙ rw (← e) (le-leb r (length l) (omega (arith, put-length x))) in
+    (e ∙ capped-small (length L) (omega (arith, leb-true (length L) (length l) t, x .room)), t)
+
+pub put-cut : {l L m : List ℕ} {r : ℕ} → Put l 0 L m r → length m < r → leb (length L) (length l) ≡ false
+put-cut {l} {L} {m} {r} x h =
+    let e : r ≡ capped (length L) = x .place ∙ ap capped (zero-add (length L)) in
+    sym (capped-within (length L) (length l) (x .room)) ∙ rw (← e) (lt-leb r (length l) (omega (arith, put-length x)))

@@ -1,4 +1,5 @@
 -- Laws that the proofs cite.
 pub mod Components
 pub mod Concatenations
+pub mod Whole
 pub mod Wording

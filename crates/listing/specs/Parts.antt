@@ -1,13 +1,13 @@
 -- A line of the listing in the parts that the code writes: its first word, the other words with a space before each, a newline.
-use mathlib.Core.Path.{_≡_, refl, ap, _∙_}
-use mathlib.Core.List.{append-assoc}
-use Rattle.laws.specs.Lists.{joined-append}
+use mathlib.Core.Path.{_≡_, refl, sym, ap, _∙_}
+use mathlib.Core.List.{append-assoc, append-nil}
+use Rattle.laws.specs.Lists.{length-tab}
 use Rattle.laws.specs.Tests.{by-test}
 use Rattle.def_numbers.specs.Prelude.{ℕ, Bool, true, false, List, [], _∷_, _++_, map, reverse, eqb, leb, _+_, _-_, Option, none, some}
-use Rattle.def_numbers.specs.Basics.{if_then_else_, joined, ascii}
+use Rattle.def_numbers.specs.Basics.{if_then_else_, joined, tab, ascii}
 use Rattle.def_image.specs.Image.{u32At, bytesAt, bytesFor}
-use Rattle.def_run.specs.Answer.{Field, Group, Bound, textAt, boundAt}
-use Rattle.def_run.specs.Listing.{line, decimal, hex, shown, boundWord, endWord, summaryWords, fieldLine}
+use Rattle.def_run.specs.Answer.{Field, Group, Bound, widthAt, textAt, boundAt, groupAt, fieldAt, readAnswer}
+use Rattle.def_run.specs.Listing.{line, decimal, hex, shown, boundWord, endWord, summaryWords, flagWord, isSet, fieldLine, groupLines, answerLines}
 
 -- words, each with a space before it
 unfoldable pub spaced : List (List ℕ) → List ℕ
@@ -23,6 +23,19 @@ pub line-spaced : (w : List ℕ) (ws : List (List ℕ)) → line (w ∷ ws) ≡ 
 unfolding line spaced
 line-spaced w [] = refl
 line-spaced w (v ∷ ws) = rw (line-spaced v ws, append-assoc)
+
+-- a line that begins with two words after its first
+pub line-counted : (w a b : List ℕ) (ws : List (List ℕ)) → w ++ ((32 ∷ a) ++ ((32 ∷ b) ++ (spaced ws ++ (10 ∷ [])))) ≡ line (w ∷ a ∷ b ∷ ws)
+unfolding spaced
+line-counted w a b ws = sym (line-spaced w (a ∷ b ∷ ws) ∙ rw (append-assoc, append-assoc))
+
+pub spaced-one : (v : List ℕ) → spaced (v ∷ []) ≡ 32 ∷ v
+unfolding spaced
+spaced-one v = rw append-nil
+
+-- and ends with one more
+pub line-last : (ws : List (List ℕ)) (v : List ℕ) → spaced ws ++ ((32 ∷ v) ++ (10 ∷ [])) ≡ spaced (ws ++ (v ∷ [])) ++ (10 ∷ [])
+line-last ws v = sym (rw (spaced-append ws (v ∷ []), append-assoc, spaced-one v))
 
 -- the end of the component at a place
 abbrev pub endAt : List ℕ → List ℕ → ℕ → Option Bound
@@ -68,3 +81,16 @@ groupLine i g = line (ascii "c" ∷ decimal i ∷ decimal (g .size) ∷ summaryW
 -- where `size` components from component k end, of `count`
 abbrev pub stopOf : ℕ → ℕ → ℕ → ℕ
 stopOf k size count = if leb size (count - k) then k + size else count
+
+-- ---- line 1
+
+abbrev pub headLine : List ℕ → List ℕ → List ℕ
+headLine image s =
+    line (ascii "layout" ∷ decimal (u32At s 0) ∷ decimal (u32At s 4)
+    ∷ (summaryWords (widthAt s 8) (u32At s 20) (u32At s 16) ++ (flagWord (isSet (u32At s 16) 4) (61 ∷ shown (textAt image s 24)) ∷ [])))
+
+-- an answer's lines are line 1 and those of the concatenations
+pub answer-parts : (image s : List ℕ) →
+    answerLines (readAnswer image s) ≡ headLine image s ++ groupLines 0 (tab (groupAt s) 0 (u32At s 0)) (tab (fieldAt image s) 0 (u32At s 4))
+unfolding readAnswer
+answer-parts image s = rw (length-tab (groupAt s) 0 (u32At s 0))
