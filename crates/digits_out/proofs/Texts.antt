@@ -10,7 +10,7 @@ use Rattle.def_numbers.specs.Prelude.{ℕ, zero, suc, _+_, _-_, _/_, _%_, _^_, 
 use Rattle.def_numbers.specs.Basics.{if_then_else_, within, joined}
 use Rattle.def_image.specs.Image.{padded, bytesAt}
 use Rattle.def_run.specs.Listing.{hexDigit, hex, shownByte, shown}
-use Rattle.digits_out.specs.Put.{Put, _⨾_, read-as, put-nothing, Toward, toward-end}
+use Rattle.digits_out.specs.Put.{Put, _⨾_, read-as, put-nothing, Toward, toward-start, toward-end}
 
 -- ---- one byte
 
@@ -57,15 +57,27 @@ put-text-next s from n {b} e x y = read-as whole (x ⨾ y)
 abbrev pub hexes : List ℕ → ℕ → ℕ → List ℕ
 hexes s from n = joined (map hex (reverse (bytesAt s from n)))
 
-pub hexes-next : (s : List ℕ) (from n b : ℕ) → b ≡ getD s (from + (n - 1)) 0 → 0 < n → hexes s from n ≡ hex b ++ hexes s from (n - 1)
+hexes-first : (s : List ℕ) (from n b : ℕ) → b ≡ getD s (from + (n - 1)) 0 → 0 < n → hexes s from n ≡ hex b ++ hexes s from (n - 1)
 unfolding joined
-hexes-next s from n b e h =
+hexes-first s from n b e h =
     let f : n ≡ n - 1 + 1 = omega arith in
     ap (hexes s from) f ∙ rw (bytes-more s from (n - 1), ← e, reverse-append)
 
-pub hexes-all : {l m : List ℕ} {at r : ℕ} (s : List ℕ) (from count i : ℕ) → i ≡ 0 → Toward l at (hexes s from count) (hexes s from i) m r → Put l at (hexes s from count) m r
+pub hexes-next : (s : List ℕ) (from count i j b : ℕ) → j ≡ count - i - 1 → b ≡ getD s (from + j) 0 → i < count
+    → hexes s from (count - i) ≡ hex b ++ hexes s from (count - (i + 1))
+hexes-next s from count i j b f e h =
+    let g : count - i - 1 ≡ count - (i + 1) = omega arith in
+    hexes-first s from (count - i) b (rw f at e) (omega arith) ∙ ap (λ (n : ℕ). hex b ++ hexes s from n) g
+
+pub hexes-start : (l : List ℕ) (at : ℕ) (s : List ℕ) (from count : ℕ) → length l < 2 ^ 63 → at < 2 ^ 64 → Toward l at (hexes s from count) (hexes s from (count - 0)) l at
+hexes-start l at s from count h q =
+    let e : count - 0 ≡ count = omega arith in
+    rw e (toward-start l at (hexes s from count) h q)
+
+pub hexes-all : {l m : List ℕ} {at r : ℕ} (s : List ℕ) (from count i : ℕ) → count ≤ i → Toward l at (hexes s from count) (hexes s from (count - i)) m r
+    → Put l at (hexes s from count) m r
 unfolding joined padded
-hexes-all s from count i e x = toward-end (rw e) x
+hexes-all s from count i h x = let e : count - i ≡ 0 = omega arith in toward-end (rw e) x
 
 pub put-text-none : (l : List ℕ) (at : ℕ) (s : List ℕ) (from : ℕ) → length l < 2 ^ 63 → at < 2 ^ 64 → Put l at (shown (bytesAt s from 0)) l at
 unfolding joined padded

@@ -3,7 +3,7 @@ use crate::put_byte;
 ghost use mathlib.Core.Path.{_≡_};
 ghost use mathlib.Core.Bool.{_&&_, not};
 ghost use mathlib.Core.List.{map, reverse};
-ghost use Prim.Native.Nat.{_+_, _<_};
+ghost use Prim.Native.Nat.{_+_, _-_, _<_};
 ghost use lib.Dec.{eqb};
 ghost use lib.ListN.{getD};
 ghost use Rattle.def_numbers.specs.Basics.{within, joined};
@@ -69,15 +69,23 @@ pub fn put_text(out: &mut [u8], at: usize, s: &[u8], from: usize, count: usize) 
     place
 }
 
+// The place of byte i of `count`, the highest being byte 0.
+fn from_top(count: usize, i: usize) -> usize
+    requires { ⌜ i < count ⌝ }
+    ensures { λ r. ⌜ r ≡ count - i - 1 ⌝ }
+{
+    count - 1 - i
+}
+
 // `count` bytes from a place in hex, the highest first.
 pub fn put_number(out: &mut [u8], at: usize, s: &[u8], from: usize, count: usize) -> usize
     ensures { λ r. ⌜ Put (now (out .entry)) at (joined (map hex (reverse (bytesAt (now (s .entry)) from count)))) (now (out .exit)) r ⌝ }
 {
     let mut place = at;
-    let mut i = count;
-    while 0 < i {
-        i -= 1;
-        place = put_hex(out, place, byte_on(s, from, i));
+    let mut i: usize = 0;
+    while i < count {
+        place = put_hex(out, place, byte_on(s, from, from_top(count, i)));
+        i += 1;
     }
     place
 }
