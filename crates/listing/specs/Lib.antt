@@ -1,3 +1,2 @@
--- The listing in the parts that the code writes, and what its answers say.
-pub mod Parts
+-- What an outcome and an answer of the listing mean.
 pub mod Outcomes

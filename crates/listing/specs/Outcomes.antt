@@ -1,5 +1,5 @@
 -- What an outcome and an answer of the listing mean.
-use Rattle.def_numbers.specs.Prelude.{ℕ, List, _++_, length, take, drop, leb}
+use Rattle.def_numbers.specs.Prelude.{ℕ, _+_, _-_, List, _++_, length, take, drop, leb}
 use Rattle.def_numbers.specs.Basics.{Result, ok, if_then_else_}
 use Rattle.def_run.specs.Listing.{listing}
 use Rattle.errors.specs.Refused.{refusedAs}
@@ -23,3 +23,7 @@ filled l L = take (length l) L ++ drop (length L) l
 -- a listing of n bytes in a buffer of m
 abbrev pub writtenAs : ℕ → ℕ → Written
 writtenAs n m = if leb n m then Whole n else Cut
+
+-- where `size` components from component k end, of `count`
+abbrev pub stopOf : ℕ → ℕ → ℕ → ℕ
+stopOf k size count = if leb size (count - k) then k + size else count

@@ -1,6 +1,6 @@
 -- `listing::groups::put_groups` meets its contract. The invariant: the lines from concatenation i and component k on are still to come.
 use mathlib.Core.Path.{_≡_}
-use Prim.Native.Nat.{ℕ, _-_, _^_, _≤_, _<_}
+use Prim.Native.Nat.{ℕ, _-_, _≤_}
 use native.Mathlib.Omega.{arith}
 use denote.Ref.{now}
 use Rattle.digits_out.specs.Put.{Toward, toward-start, toward-length}
@@ -11,16 +11,13 @@ use Rattle.listing.proofs.groups.put_groups.Tie as tie
 
 abbrev Inv-loop : tie.InvT-loop
 Inv-loop out₀ at image s groups fields place₀ i₀ k₀ out place i k =
-    (k ≤ fields) × (fields < 2 ^ 32) × (groups < 2 ^ 32) × Toward out₀ at (groupsFrom image s groups fields 0 0) (groupsFrom image s groups fields i k) out place
+    (k ≤ fields) × Toward out₀ at (groupsFrom image s groups fields 0 0) (groupsFrom image s groups fields i k) out place
 
 abbrev μ-loop : tie.MeasureT-loop
 μ-loop out₀ at image s groups fields place₀ i₀ k₀ out place i k = groups - i
 
 loop-holds : tie.Need-loop-holds Inv-loop μ-loop
-loop-holds c = (search needs, search needs, search needs, toward-start _ _ _ (omega arith) (omega arith))
-
-put-fields-requires : tie.Need-put-fields-requires Inv-loop μ-loop
-put-fields-requires c κs = omega (arith, c .before .before .before .before .before .stop-of .ensures, stop-within (c .before .before .before .before .before .before .before .before .loop .k) (c .before .before .before .before .before .before .u32-at3 .result) (c .before .before .before .before .before .before .before .before .before .u32-at2 .result) (c .before .before .before .before .before .before .before .before .loop .inv .0))
+loop-holds c = (search needs, toward-start _ _ _ (omega arith) (omega arith))
 
 loop-again : tie.Need-loop-again Inv-loop μ-loop
 loop-again c =
@@ -29,16 +26,16 @@ loop-again c =
     let fields : ℕ = c .before .before .before .before .before .before .before .before .before .before .before .before .u32-at2 .result in
     let b : c .before .before .before .before .before .before .before .before .stop-of .result ≤ fields =
     omega (arith, c .before .before .before .before .before .before .before .before .stop-of .ensures, stop-within (at-loop .loop .k) (c .before .before .before .before .before .before .before .before .before .u32-at3 .result) fields (at-loop .loop .inv .0)) in
-    (b, at-loop .loop .inv .1, at-loop .loop .inv .2, groups-next (now (a .image)) (now (a .s)) (c .before .before .before .before .before .before .before .before .before .before .before .before .before .u32-at .result) fields (at-loop .loop .i) (at-loop .loop .k) _ _ (c .before .before .before .before .before .before .before .before .before .before .loop-test .taken) (at-loop .loop .inv .0) (c .before .before .before .before .before .before .before .before .before .u32-at3 .ensures) (c .before .before .before .before .before .before .before .before .stop-of .ensures) (at-loop .loop .inv .3) (c .before .before .before .before .before .before .put-group .ensures) (c .before .before .put-fields .ensures))
+    (b, groups-next (now (a .image)) (now (a .s)) (c .before .before .before .before .before .before .before .before .before .before .before .before .before .u32-at .result) fields (at-loop .loop .i) (at-loop .loop .k) _ _ (c .before .before .before .before .before .before .before .before .before .before .loop-test .taken) (at-loop .loop .inv .0) (c .before .before .before .before .before .before .before .before .before .u32-at3 .ensures) (c .before .before .before .before .before .before .before .before .stop-of .ensures) (at-loop .loop .inv .1) (c .before .before .before .before .before .before .put-group .ensures) (c .before .before .put-fields .ensures))
 
 same-length : tie.Need-same-length Inv-loop μ-loop
-same-length c = toward-length (c .before .loop .inv .3)
+same-length c = toward-length (c .before .loop .inv .1)
 
 returns : tie.Need-returns Inv-loop μ-loop
 returns c =
     let at-loop = c .before in
     let a = c .before .before .before .before .before .before .before .args in
-    groups-end (now (a .image)) (now (a .s)) _ _ (at-loop .loop .i) (at-loop .loop .k) (c .before .before .before .u32-at .ensures) (c .before .before .u32-at2 .ensures) (c .loop-test .left) (at-loop .loop .inv .3)
+    groups-end (now (a .image)) (now (a .s)) _ _ (at-loop .loop .i) (at-loop .loop .k) (c .before .before .before .u32-at .ensures) (c .before .before .u32-at2 .ensures) (c .loop-test .left) (at-loop .loop .inv .1)
 
 pub put-groups-spec : {M : Type 1} → statement M
 put-groups-spec =
@@ -47,17 +44,15 @@ put-groups-spec =
     Inv-loop
     μ-loop
     (λ c κs. search needs)
-    (λ c. search needs)
     (λ c κs. search needs)
-    (λ c. search needs)
     loop-holds
     (λ c. search needs)
     (λ c. search needs)
-    (λ c κs. search needs)
     (λ c. search needs)
     (λ c κs. search needs)
     (λ c κs. search needs)
-    put-fields-requires
+    (λ c κs. search needs)
+    (λ c κs. search needs)
     (λ c. search needs)
     (λ c. search needs)
     loop-again
