@@ -4,9 +4,11 @@ use mathlib.Core.Path.{_≡_, refl, ap, _∙_}
 use Prim.Native.Nat.{_≤_, _<_}
 use native.Mathlib.Nat.{mul-suc, le-trans}
 use native.Mathlib.Omega.{arith}
+use lib.Dec.{lit≤}
 use lib.ListN.{length-append}
 use Rattle.def_numbers.specs.Prelude.{ℕ, zero, suc, _+_, _*_, Bool, true, false, List, [], _∷_, _++_, map, reverse, length, take, drop, eqb}
-use Rattle.def_numbers.specs.Basics.{ok, refused, if_then_else_, joined, sum, ascii}
+use Rattle.def_numbers.specs.Basics.{ok, refused, if_then_else_, joined, sum, tab, ascii}
+use Rattle.def_image.specs.Image.{padded}
 use Rattle.def_run.specs.Answer.{Bound, Field, Group, Read, readAnswer}
 use Rattle.def_run.specs.Listing.{decimal, hex, shown, boundWord, endWord, widthWord, alignWord, flagWord, isSet, summaryWords, line, fieldLine, groupLines, answerLines, listing}
 use Rattle.listing_length.specs.Words.{decimal-most, shown-most, hex-most, bound-most, endText, end-most, width-most, flag-most, align-most, reverse-length}
@@ -132,3 +134,11 @@ accepted-most image bytes t b h = let r = readAnswer image bytes in omega (arith
 pub refused-most : (image : List ℕ) (n i k : ℕ) → length (listing image (refused n i k)) ≤ 128
 unfolding listing sum ascii
 refused-most image n i k = omega (arith, line-length (ascii "refused") (decimal n ∷ decimal i ∷ decimal k ∷ []), decimal-most n, decimal-most i, decimal-most k)
+
+-- a closed answer that meets the premises: one concatenation of one filler, whose start has a text of 2 bytes
+one : List ℕ
+one = tab (λ i. if eqb i 0 then 1 else if eqb i 4 then 1 else if eqb i 80 then 2 else 0) 0 124
+
+witness : (length (listing [] (ok one)) ≤ 25889 + 3 * 2 + 2 * 0) × (texts (readAnswer [] one) ≡ 2)
+unfolding readAnswer tab sum padded one
+witness = (accepted-most [] one 2 0 (lit≤ tt, lit≤ tt, lit≤ tt, lit≤ tt), refl)
