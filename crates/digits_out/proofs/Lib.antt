@@ -1,0 +1,4 @@
+-- Laws that the proofs cite.
+pub mod Decimals
+pub mod Signs
+pub mod Texts

@@ -1,0 +1,13 @@
+-- `digits_out::decimal::is_digit` meets its contract.
+use Rattle.digits_out.proofs.Decimals.{digit-low, digit-high}
+use Rattle.digits_out.proofs.decimal.is_digit.Statement.{statement}
+use Rattle.digits_out.proofs.decimal.is_digit.Tie as tie
+
+returns : tie.Need-returns
+returns c = digit-low _ _ (c .if1 .taken)
+
+returns-2 : tie.Need-returns-2
+returns-2 c = digit-high _ _ (c .if1 .left)
+
+pub is-digit-spec : {M : Type 1} → statement M
+is-digit-spec = tie.close (tie.spec returns returns-2)

@@ -1,0 +1,59 @@
+-- Line 1, a concatenation's own line, and a refusal's, put together from what was written.
+use mathlib.Core.Path.{_≡_, refl, sym, ap, _∙_}
+use borrow.Author.Tests.{eq-eqb, ne-eqb}
+use Rattle.def_numbers.specs.Prelude.{ℕ, _+_, _*_, _/_, _%_, List, [], _∷_, _++_}
+use Rattle.def_numbers.specs.Basics.{ascii}
+use Rattle.def_image.specs.Image.{u32At}
+use Rattle.def_run.specs.Answer.{widthAt, textAt, groupAt}
+use Rattle.def_run.specs.Listing.{line, decimal, shown, isSet, flagWord, summaryWords, listing}
+use Rattle.errors.specs.Refused.{refusedAs}
+use Rattle.errors.specs.declared.Refusal.{Refusal}
+use Rattle.digits_out.specs.Put.{Put, _⨾_, read-as}
+use Rattle.lines_out.specs.Parts.{spaced, spaced-one, line-counted, line-last, headLine, groupLine}
+
+-- ---- the starting value
+
+module _ {l m : List ℕ} {at q : ℕ} (image s : List ℕ) (flags : ℕ) (e : flags ≡ u32At s 16) (x : Put l at (32 ∷ []) m q) where
+  pub put-init-of : {n o : List ℕ} {r t : ℕ} → flags / 4 % 2 ≡ 1 → Put m q (61 ∷ []) n r → Put n r (shown (textAt image s 24)) o t
+      → Put l at (32 ∷ flagWord (isSet (u32At s 16) 4) (61 ∷ shown (textAt image s 24))) o t
+  put-init-of h y z = rw (eq-eqb (u32At s 16 / 4 % 2) 1 (rw (← e) h)) (x ⨾ y ⨾ z)
+
+  pub put-no-init : {n : List ℕ} {r : ℕ} → (flags / 4 % 2 ≡ 1 → ⊥) → Put m q (45 ∷ []) n r
+      → Put l at (32 ∷ flagWord (isSet (u32At s 16) 4) (61 ∷ shown (textAt image s 24))) n r
+  unfolding ascii
+  put-no-init h y = rw (ne-eqb (u32At s 16 / 4 % 2) 1 λ z. h (rw e z)) (x ⨾ y)
+
+-- ---- line 1
+
+headed : (w a b v : List ℕ) (ws : List (List ℕ)) → w ++ ((32 ∷ a) ++ ((32 ∷ b) ++ (spaced ws ++ ((32 ∷ v) ++ (10 ∷ []))))) ≡ line (w ∷ a ∷ b ∷ (ws ++ (v ∷ [])))
+headed w a b v ws = ap (λ (x : List ℕ). w ++ ((32 ∷ a) ++ ((32 ∷ b) ++ x))) (line-last ws v) ∙ line-counted w a b (ws ++ (v ∷ []))
+
+pub put-head-of : {k l m n o p t : List ℕ} {at q r u v y z : ℕ} (image s : List ℕ) (groups fields width flags align : ℕ)
+    → groups ≡ u32At s 0 → fields ≡ u32At s 4 → width ≡ widthAt s 8 → flags ≡ u32At s 16 → align ≡ u32At s 20
+    → Put k at (ascii "layout") l q → Put l q (32 ∷ decimal groups) m r → Put m r (32 ∷ decimal fields) n u → Put n u (spaced (summaryWords width align flags)) o v
+    → Put o v (32 ∷ flagWord (isSet (u32At s 16) 4) (61 ∷ shown (textAt image s 24))) p y → Put p y (10 ∷ []) t z → Put k at (headLine image s) t z
+put-head-of image s groups fields width flags align e f g h i a b c d x y =
+    read-as (headed (ascii "layout") (decimal groups) (decimal fields) (flagWord (isSet (u32At s 16) 4) (61 ∷ shown (textAt image s 24))) (summaryWords width align flags) ∙ rw (e, f, g, h, i)) (a ⨾ b ⨾ c ⨾ d ⨾ x ⨾ y)
+
+-- ---- a concatenation's own line
+
+pub put-group-of : {l m n o p t : List ℕ} {at q r u v z : ℕ} (s : List ℕ) (i size align flags width : ℕ)
+    → size ≡ u32At s (32 + 20 * i) → align ≡ u32At s (32 + 20 * i + 4) → flags ≡ u32At s (32 + 20 * i + 8) → width ≡ widthAt s (32 + 20 * i + 12)
+    → Put l at (99 ∷ []) m q → Put m q (32 ∷ decimal i) n r → Put n r (32 ∷ decimal size) o u → Put o u (spaced (summaryWords width align flags)) p v → Put p v (10 ∷ []) t z
+    → Put l at (groupLine i (groupAt s i)) t z
+unfolding ascii
+put-group-of s i size align flags width e f g h x y a b c =
+    read-as (line-counted (99 ∷ []) (decimal i) (decimal size) (summaryWords width align flags) ∙ same) (x ⨾ y ⨾ a ⨾ b ⨾ c)
+  where
+    same : line ((99 ∷ []) ∷ decimal i ∷ decimal size ∷ summaryWords width align flags) ≡ groupLine i (groupAt s i)
+    same = rw (e, f, g, h)
+
+-- ---- a refusal
+
+refusing : (w a b c : List ℕ) → w ++ ((32 ∷ a) ++ ((32 ∷ b) ++ ((32 ∷ c) ++ (10 ∷ [])))) ≡ line (w ∷ a ∷ b ∷ c ∷ [])
+refusing w a b c = ap (λ (x : List ℕ). w ++ ((32 ∷ a) ++ ((32 ∷ b) ++ (x ++ (10 ∷ []))))) (sym (spaced-one c)) ∙ line-counted w a b (c ∷ [])
+
+pub put-refusal-of : {l m n o p t : List ℕ} {at q r u v z : ℕ} (a : Refusal) → Put l at (ascii "refused") m q → Put m q (32 ∷ decimal (a .number)) n r
+    → Put n r (32 ∷ decimal (a .concatenation)) o u → Put o u (32 ∷ decimal (a .component)) p v → Put p v (10 ∷ []) t z → Put l at (listing [] (refusedAs a)) t z
+unfolding listing
+put-refusal-of a x y b c d = read-as (refusing (ascii "refused") (decimal (a .number)) (decimal (a .concatenation)) (decimal (a .component))) (x ⨾ y ⨾ b ⨾ c ⨾ d)

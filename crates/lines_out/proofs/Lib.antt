@@ -1,0 +1,4 @@
+-- Laws that the proofs cite.
+pub mod Components
+pub mod Headings
+pub mod Wording

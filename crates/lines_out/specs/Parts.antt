@@ -1,0 +1,92 @@
+-- A line of the listing in the parts that the code writes: its first word, the other words with a space before each, a newline.
+use mathlib.Core.Path.{_≡_, refl, sym, ap, _∙_}
+use mathlib.Core.List.{append-assoc, append-nil}
+use Rattle.laws.specs.Lists.{length-tab}
+use Rattle.laws.specs.Tests.{by-test}
+use Rattle.def_numbers.specs.Prelude.{ℕ, Bool, true, false, List, [], _∷_, _++_, map, reverse, eqb, _+_, Option, none, some}
+use Rattle.def_numbers.specs.Basics.{if_then_else_, joined, tab, ascii}
+use Rattle.def_image.specs.Image.{u32At, bytesAt, bytesFor}
+use Rattle.def_run.specs.Answer.{Field, Group, Bound, widthAt, textAt, boundAt, groupAt, fieldAt, readAnswer}
+use Rattle.def_run.specs.Listing.{line, decimal, hex, shown, boundWord, endWord, summaryWords, flagWord, isSet, fieldLine, groupLines, answerLines}
+
+-- words, each with a space before it
+unfoldable pub spaced : List (List ℕ) → List ℕ
+spaced [] = []
+spaced (w ∷ ws) = (32 ∷ w) ++ spaced ws
+
+pub spaced-append : (a b : List (List ℕ)) → spaced (a ++ b) ≡ spaced a ++ spaced b
+unfolding spaced
+spaced-append [] b = refl
+spaced-append (w ∷ a) b = rw (spaced-append a b, append-assoc)
+
+pub line-spaced : (w : List ℕ) (ws : List (List ℕ)) → line (w ∷ ws) ≡ w ++ (spaced ws ++ (10 ∷ []))
+unfolding line spaced
+line-spaced w [] = refl
+line-spaced w (v ∷ ws) = rw (line-spaced v ws, append-assoc)
+
+-- a line that begins with two words after its first
+pub line-counted : (w a b : List ℕ) (ws : List (List ℕ)) → w ++ ((32 ∷ a) ++ ((32 ∷ b) ++ (spaced ws ++ (10 ∷ [])))) ≡ line (w ∷ a ∷ b ∷ ws)
+unfolding spaced
+line-counted w a b ws = sym (line-spaced w (a ∷ b ∷ ws) ∙ rw (append-assoc, append-assoc))
+
+pub spaced-one : (v : List ℕ) → spaced (v ∷ []) ≡ 32 ∷ v
+unfolding spaced
+spaced-one v = rw append-nil
+
+-- and ends with one more
+pub line-last : (ws : List (List ℕ)) (v : List ℕ) → spaced ws ++ ((32 ∷ v) ++ (10 ∷ [])) ≡ spaced (ws ++ (v ∷ [])) ++ (10 ∷ [])
+line-last ws v = sym (rw (spaced-append ws (v ∷ []), append-assoc, spaced-one v))
+
+-- the end of the component at a place
+abbrev pub endAt : List ℕ → List ℕ → ℕ → Option Bound
+endAt image s at = if eqb (u32At s (at + 20)) 0 then none else some (boundAt image s (at + 48))
+
+-- a component's kind, and what it has after its bounds
+abbrev pub kindWord : ℕ → List ℕ
+kindWord kind = if eqb kind 1 then ascii "literal" else if eqb kind 2 then ascii "variable" else ascii "filler"
+
+abbrev pub contentWords : ℕ → List ℕ → List ℕ → List (List ℕ)
+contentWords kind literal text =
+    if eqb kind 1 then joined (map hex (reverse literal)) ∷ [] else if eqb kind 2 then shown text ∷ [] else []
+
+-- the same of the component at a place, the literal block beginning at `literals`
+abbrev pub contentAt : List ℕ → List ℕ → ℕ → ℕ → List (List ℕ)
+contentAt image s place literals =
+    contentWords (u32At s place) (bytesAt s (literals + u32At s (place + 16)) (bytesFor (u32At s (place + 12)))) (textAt image s (place + 4))
+
+pub line-parts : (w : List ℕ) (a b : List (List ℕ)) → line (w ∷ (a ++ b)) ≡ w ++ (spaced a ++ (spaced b ++ (10 ∷ [])))
+line-parts w a b = line-spaced w (a ++ b) ∙ rw (spaced-append a b, append-assoc)
+
+pub field-parts : (f : Field) →
+    fieldLine f ≡ kindWord (f .kind) ++ (spaced (boundWord (f .start) ∷ endWord (f .«end») ∷ []) ++ (spaced (contentWords (f .kind) (f .literal) (f .text)) ++ (10 ∷ [])))
+field-parts f = go (eqb (f .kind) 1) (eqb (f .kind) 2)
+  where
+    bounds : List (List ℕ)
+    bounds = boundWord (f .start) ∷ endWord (f .«end») ∷ []
+
+    go : (t u : Bool) →
+        (if t then line (ascii "literal" ∷ (bounds ++ (joined (map hex (reverse (f .literal))) ∷ [])))
+        else if u then line (ascii "variable" ∷ (bounds ++ (shown (f .text) ∷ []))) else line (ascii "filler" ∷ bounds))
+        ≡ (if t then ascii "literal" else if u then ascii "variable" else ascii "filler")
+        ++ (spaced bounds ++ (spaced (if t then joined (map hex (reverse (f .literal))) ∷ [] else if u then shown (f .text) ∷ [] else []) ++ (10 ∷ [])))
+    go true u = line-parts (ascii "literal") bounds (joined (map hex (reverse (f .literal))) ∷ [])
+    go false true = line-parts (ascii "variable") bounds (shown (f .text) ∷ [])
+    go false false = line-parts (ascii "filler") bounds []
+
+-- ---- the lines of the concatenations
+
+abbrev pub groupLine : ℕ → Group → List ℕ
+groupLine i g = line (ascii "c" ∷ decimal i ∷ decimal (g .size) ∷ summaryWords (g .width) (g .align) (g .flags))
+
+-- ---- line 1
+
+abbrev pub headLine : List ℕ → List ℕ → List ℕ
+headLine image s =
+    line (ascii "layout" ∷ decimal (u32At s 0) ∷ decimal (u32At s 4)
+    ∷ (summaryWords (widthAt s 8) (u32At s 20) (u32At s 16) ++ (flagWord (isSet (u32At s 16) 4) (61 ∷ shown (textAt image s 24)) ∷ [])))
+
+-- an answer's lines are line 1 and those of the concatenations
+pub answer-parts : (image s : List ℕ) →
+    answerLines (readAnswer image s) ≡ headLine image s ++ groupLines 0 (tab (groupAt s) 0 (u32At s 0)) (tab (fieldAt image s) 0 (u32At s 4))
+unfolding readAnswer
+answer-parts image s = rw (length-tab (groupAt s) 0 (u32At s 0))

@@ -1,0 +1,74 @@
+// Line 1, a concatenation's own line, and a refusal's.
+use crate::fields::put_text_at;
+use crate::fields::width_at;
+use crate::words::put_count;
+use crate::words::put_summary;
+use digits_out::put_byte;
+use digits_out::put_bytes;
+use errors::Refusal;
+use token_tree::u32_at;
+ghost use mathlib.Core.Path.{_≡_};
+ghost use mathlib.Core.List.{[], _∷_};
+ghost use Rattle.def_image.specs.Image.{u32At};
+ghost use Rattle.def_run.specs.Answer.{textAt, groupAt};
+ghost use Rattle.def_run.specs.Listing.{shown, flagWord, isSet, listing};
+ghost use Rattle.errors.specs.Refused.{refusedAs};
+ghost use Rattle.digits_out.specs.Put.{Put};
+ghost use Rattle.lines_out.specs.Parts.{headLine, groupLine};
+
+// The starting value.
+fn put_init(out: &mut [u8], at: usize, image: &[u8], s: &[u8]) -> usize
+    ensures { λ r. ⌜ Put (now (out .entry)) at (32 ∷ flagWord (isSet (u32At (now (s .entry)) 16) 4) (61 ∷ shown (textAt (now (image .entry)) (now (s .entry)) 24))) (now (out .exit)) r ⌝ }
+{
+    let flags = u32_at(s, 16);
+    let after = put_byte(out, at, b' ');
+    if flags / 4 % 2 == 1 {
+        let after = put_byte(out, after, b'=');
+        return put_text_at(out, after, image, s, 24);
+    }
+    put_byte(out, after, b'-')
+}
+
+// Line 1.
+pub fn put_head(out: &mut [u8], at: usize, image: &[u8], s: &[u8]) -> usize
+    ensures { λ r. ⌜ Put (now (out .entry)) at (headLine (now (image .entry)) (now (s .entry))) (now (out .exit)) r ⌝ }
+{
+    let groups = u32_at(s, 0);
+    let fields = u32_at(s, 4);
+    let width = width_at(s, 8);
+    let flags = u32_at(s, 16);
+    let align = u32_at(s, 20);
+    let after = put_bytes(out, at, b"layout");
+    let after = put_count(out, after, groups as u64);
+    let after = put_count(out, after, fields as u64);
+    let after = put_summary(out, after, width, align, flags);
+    let after = put_init(out, after, image, s);
+    put_byte(out, after, 10)
+}
+
+// The line of concatenation i.
+pub fn put_group(out: &mut [u8], at: usize, s: &[u8], i: u32) -> usize
+    ensures { λ r. ⌜ Put (now (out .entry)) at (groupLine i (groupAt (now (s .entry)) i)) (now (out .exit)) r ⌝ }
+{
+    let place = 32 + 20 * (i as usize);
+    let size = u32_at(s, place);
+    let align = u32_at(s, place + 4);
+    let flags = u32_at(s, place + 8);
+    let width = width_at(s, place + 12);
+    let after = put_byte(out, at, b'c');
+    let after = put_count(out, after, i as u64);
+    let after = put_count(out, after, size as u64);
+    let after = put_summary(out, after, width, align, flags);
+    put_byte(out, after, 10)
+}
+
+// A refusal's line.
+pub fn put_refusal(out: &mut [u8], at: usize, r: Refusal) -> usize
+    ensures { λ q. ⌜ Put (now (out .entry)) at (listing [] (refusedAs r)) (now (out .exit)) q ⌝ }
+{
+    let after = put_bytes(out, at, b"refused");
+    let after = put_count(out, after, r.number as u64);
+    let after = put_count(out, after, r.concatenation as u64);
+    let after = put_count(out, after, r.component as u64);
+    put_byte(out, after, 10)
+}

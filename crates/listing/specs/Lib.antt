@@ -1,0 +1,2 @@
+-- What an outcome and an answer of the listing mean.
+pub mod Outcomes

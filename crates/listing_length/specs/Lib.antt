@@ -1,0 +1,3 @@
+-- How long a listing can be.
+pub mod Words
+pub mod Lines
