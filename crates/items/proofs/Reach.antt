@@ -1,5 +1,6 @@
 -- Runs in reach: the test in code, and what the sums over a run stay below.
 use mathlib.Core.Path.{_≡_, refl, sym, ap, _∙_}
+use mathlib.Core.Bool.{true≢false}
 use Prim.Native.Nat.{_≤_, _<_}
 use native.Mathlib.Omega.{arith}
 use borrow.Author.Tests.{lt-ltb, le-ltb, ltb-true, ltb-false}
@@ -7,7 +8,7 @@ use Rattle.def_numbers.specs.Prelude.{ℕ, _+_, _*_, _-_, _/_, _^_, Bool, true,
 use Rattle.def_image.specs.Image.{recsFrom}
 use Rattle.def_stages.specs.Text as Text
 use Rattle.laws.specs.Tests.{by-test, and-iff}
-use Rattle.items.specs.Run.{inReach, Reach, itemsIn, itemsOf}
+use Rattle.items.specs.Run.{inReach, Reach, Ended, itemsIn, itemsOf}
 use Rattle.items.specs.declared.Run.{Run}
 
 -- the test by a quotient, which no sum passes, is the definition's
@@ -40,14 +41,18 @@ near text run a b = rw (lt-ltb text (2 ^ 62) a, lt-ltb (run .r + run .left) (2 ^
 
 -- ---- runs with no items
 
-pub none-far : (image : List ℕ) (text : ℕ) (run : Run) → inReach text run ≡ false → itemsIn image text run ≡ []
+pub none-far : (image : List ℕ) (text : ℕ) (run : Run) → inReach text run ≡ false → Ended image text run
 unfolding itemsIn
-none-far image text run h = rw h
+none-far image text run h = record { none = rw h; left = λ t. absurd (true≢false (sym t ∙ h)) }
 
 none-of : (image : List ℕ) (text at r n : ℕ) → n ≡ 0 → Text.items at (recsFrom image (text + at) r n) ≡ []
 unfolding recsFrom Text.itemsOf Text.chunks
 none-of image text at r n h = rw h
 
-pub none-left : (image : List ℕ) (text : ℕ) (run : Run) → run .left ≡ 0 → itemsIn image text run ≡ []
+pub none-left : (image : List ℕ) (text : ℕ) (run : Run) → run .left ≡ 0 → Ended image text run
 unfolding itemsIn
-none-left image text run h = by-test (inReach text run) (λ t. rw t (none-of image text (run .at) (run .r) (run .left) h)) (λ t. rw t)
+none-left image text run h =
+    record {
+      none = by-test (inReach text run) (λ t. rw t (none-of image text (run .at) (run .r) (run .left) h)) (λ t. rw t);
+      left = λ t. h;
+    }

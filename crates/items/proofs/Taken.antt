@@ -93,6 +93,8 @@ module _
           fewer = omega arith;
           at = refl;
           next = refl;
+          length = whole ∙ ap (lengthOf image (run .r)) (omega arith);
+          single = λ o. let z : m ≡ 0 = rw o at e-m in omega arith;
           byte = e-byte;
           reach = reach-made text run (h .text-small) (h .records) (h .end);
           reach-rest = reach-made text (record { r = run .r + 1 + m; left = run .left - 1 - m; at = run .at + (first + tail) }) (h .text-small) (omega arith) (omega arith);

@@ -1,7 +1,7 @@
 -- A run of records in code as the definition's: `text` is the byte of the image where the component's text begins.
 use mathlib.Core.Path.{_≡_}
 use Prim.Native.Nat.{_<_, _≤_}
-use Rattle.def_numbers.specs.Prelude.{ℕ, zero, suc, _+_, _*_, _-_, _^_, Bool, true, _&&_, not, List, [], _∷_, getD, ltb, eqb}
+use Rattle.def_numbers.specs.Prelude.{ℕ, zero, suc, _+_, _*_, _-_, _^_, Bool, true, false, _&&_, not, List, [], _∷_, getD, ltb, eqb}
 use Rattle.def_numbers.specs.Basics.{if_then_else_}
 use Rattle.def_image.specs.Image.{Rec, bytesAt, entryAt, recsFrom, opens}
 use Rattle.def_stages.specs.Text as Text
@@ -72,14 +72,21 @@ pub record Taken (image : List ℕ) (text : ℕ) (run : Run) (i : Item) (rest : 
   pub fewer : run .r < rest .r
   pub at : i .at ≡ run .at
   pub next : i .at + i .len ≡ rest .at
+  pub length : i .len ≡ lengthOf image (run .r) (rest .r - run .r)
+  pub single : opens (i .kind) ≡ false → rest .r ≡ run .r + 1
   pub byte : i .byte ≡ getD image (text + i .at) 0
   pub reach : inReach text run ≡ true
   pub reach-rest : inReach text rest ≡ true
   pub reach-inside : inReach text (i .inside) ≡ true
 
+-- a run in reach ends where no record is left
+pub record Ended (image : List ℕ) (text : ℕ) (run : Run) : Type 0 where
+  pub none : itemsIn image text run ≡ []
+  pub left : inReach text run ≡ true → run .left ≡ 0
+
 abbrev pub NextIs : List ℕ → ℕ → Run → Next → Type 0
 NextIs image text run (N.First i rest) = Taken image text run i rest
-NextIs image text run N.End = itemsIn image text run ≡ []
+NextIs image text run N.End = Ended image text run
 
 -- a token of just the one character
 abbrev pub tokenOf : ℕ → Item → Bool
