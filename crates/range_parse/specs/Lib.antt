@@ -1,2 +1,4 @@
 -- What the parts of reading a bound and a range give.
 pub mod Sides
+pub mod Signs
+pub mod Walked

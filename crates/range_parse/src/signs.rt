@@ -1,0 +1,97 @@
+// The sign at which a bound is cut: "With any `+`, cut at the last. Else, with any `-`, cut at the first of the leftmost pair of
+// adjacent minuses, or with no pair at the last." A sign is kept as the run that begins with it; a run with no records is none.
+use items::Item;
+use items::Next;
+use items::Run;
+ghost use mathlib.Core.Path.{_≡_};
+ghost use mathlib.Core.Bool.{true};
+ghost use Rattle.def_numbers.specs.Basics.{if_then_else_};
+ghost use Rattle.items.specs.Run.{inReach};
+ghost use Rattle.range_parse.specs.Signs.{adjacentTo, pairBy, steppedBy, SignsAre};
+
+pub struct Signs {
+    pub plus: Run,
+    pub pair: Run,
+    pub minus: Run,
+}
+
+// The signs of a run, and the offset at which its text ends.
+pub struct Found {
+    pub signs: Signs,
+    pub end: usize,
+}
+
+// The sign of the cut, and whether it is a minus.
+pub struct Sign {
+    pub run: Run,
+    pub negative: bool,
+}
+
+// Whether the sign stands right before record r.
+fn adjacent(s: Run, r: u32) -> bool
+    ensures { λ b. ⌜ b ≡ adjacentTo s r ⌝ }
+{
+    if s.left == 0 {
+        return false;
+    }
+    (s.r as usize) + 1 == (r as usize)
+}
+
+fn pick(t: bool, a: Run, b: Run) -> Run
+    ensures { λ r. ⌜ r ≡ (if t then a else b) ⌝ }
+{
+    if t { a } else { b }
+}
+
+// The first of the leftmost pair, with an item at record r that is a minus or not.
+fn pair_by(pair: Run, minus: Run, r: u32, token: bool) -> Run
+    ensures { λ s. ⌜ s ≡ pairBy pair minus r token ⌝ }
+{
+    if pair.left != 0 {
+        return pair;
+    }
+    if !token {
+        return pair;
+    }
+    pick(adjacent(minus, r), minus, pair)
+}
+
+// The signs with the item that stands at `cur`.
+fn stepped(signs: Signs, item: Item, cur: Run) -> Signs
+    ensures { λ s. ⌜ s ≡ steppedBy signs item cur ⌝ }
+{
+    let token = items::is_token(item, b'-');
+    let plus = signs.plus;
+    let pair = signs.pair;
+    let minus = signs.minus;
+    Signs {
+        plus: pick(items::is_token(item, b'+'), cur, plus),
+        pair: pair_by(pair, minus, cur.r, token),
+        minus: pick(token, cur, minus),
+    }
+}
+
+// The signs of a run in reach.
+fn signs_in(image: &[u8], text: usize, run: Run) -> Found
+    requires { ⌜ inReach text run ≡ true ⌝ }
+    ensures { λ f. ⌜ SignsAre (now (image .entry)) text run f ⌝ }
+{
+    let none = Run {
+        r: 0,
+        left: 0,
+        at: 0,
+    };
+    let mut signs = Signs {
+        plus: none,
+        pair: none,
+        minus: none,
+    };
+    let mut cur = run;
+    loop {
+        let Next::First(item, next) = items::next_item(image, text, cur) else {
+            return Found { signs, end: cur.at };
+        };
+        signs = stepped(signs, item, cur);
+        cur = next;
+    }
+}
