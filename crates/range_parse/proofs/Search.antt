@@ -44,7 +44,7 @@ cut-same : {a : List Text.Item} {i j : Text.Item} {r q : List Text.Item} → i �
     → _≡_ {A = Option Cut} (some (record { before = a; sign = i; after = r })) (some (record { before = a; sign = j; after = q }))
 cut-same p q = cc
 
-cut-some : (image : List ℕ) (text : ℕ) (run s : Run) → 0 < s .left
+pub cut-some : (image : List ℕ) (text : ℕ) (run s : Run) → 0 < s .left
     → cutAt image text run s
     ≡ some (record { before = passed image text run s; sign = signAt image text s; after = itemsAt image text (s .at + 1) (s .r + 1) (s .left - 1) })
 cut-some image text run s h = rw (ne-eqb (s .left) 0 (λ e. omega arith))
@@ -152,7 +152,7 @@ module _ (image : List ℕ) (text : ℕ) (run : Run) where
   abbrev cutOf : Run → Option Cut
   cutOf = cutAt image text run
 
-  cut-none : (s : Run) → eqb (s .left) 0 ≡ true → cutAt image text run s ≡ none
+  pub cut-none : (s : Run) → eqb (s .left) 0 ≡ true → cutAt image text run s ≡ none
   cut-none s e = rw e
 
   pair-cut : (pair minus : Run) (r : ℕ) (b : Bool) →

@@ -1,4 +1,5 @@
 -- What the parts of reading a bound and a range give.
+pub mod Bound
 pub mod Sides
 pub mod Signs
 pub mod Walked

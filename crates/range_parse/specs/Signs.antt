@@ -1,6 +1,6 @@
 -- The signs of a bound: the last plus, the first of the leftmost pair of minuses, and the last minus.
 use mathlib.Core.Path.{_≡_}
-use Rattle.def_numbers.specs.Prelude.{ℕ, _+_, Bool, _&&_, not, List, eqb}
+use Rattle.def_numbers.specs.Prelude.{ℕ, _+_, Bool, true, false, _&&_, not, List, eqb}
 use Rattle.def_numbers.specs.Basics.{if_then_else_}
 use Rattle.def_numbers.specs.Numbers.{char}
 use Rattle.def_stages.specs.Ranges.{orElse, cutBound}
@@ -35,6 +35,13 @@ pub record SignsAre (image : List ℕ) (text : ℕ) (run : Run) (f : Found) : Ty
   pub plus : Marked image text run (char .plus) (f .signs .plus)
   pub pair : Marked image text run (char .minus) (f .signs .pair)
   pub minus : Marked image text run (char .minus) (f .signs .minus)
+
+-- "With any `+`, cut at the last. Else .. at the first of the leftmost pair of adjacent minuses, or with no pair at the last."
+abbrev pub chosenOf : Signs → Sign
+chosenOf s =
+    if eqb (s .plus .left) 0
+    then (if eqb (s .pair .left) 0 then record { run = s .minus; negative = true } else record { run = s .pair; negative = true })
+    else record { run = s .plus; negative = false }
 
 -- the sign of the cut, and whether it is a minus
 pub record SignIs (image : List ℕ) (text : ℕ) (run : Run) (s : Sign) : Type 0 where

@@ -7,7 +7,7 @@ ghost use mathlib.Core.Path.{_≡_};
 ghost use mathlib.Core.Bool.{true};
 ghost use Rattle.def_numbers.specs.Basics.{if_then_else_};
 ghost use Rattle.items.specs.Run.{inReach};
-ghost use Rattle.range_parse.specs.Signs.{adjacentTo, pairBy, steppedBy, SignsAre};
+ghost use Rattle.range_parse.specs.Signs.{adjacentTo, pairBy, steppedBy, chosenOf, SignsAre};
 
 pub struct Signs {
     pub plus: Run,
@@ -72,7 +72,7 @@ fn stepped(signs: Signs, item: Item, cur: Run) -> Signs
 }
 
 // The signs of a run in reach.
-fn signs_in(image: &[u8], text: usize, run: Run) -> Found
+pub(crate) fn signs_in(image: &[u8], text: usize, run: Run) -> Found
     requires { ⌜ inReach text run ≡ true ⌝ }
     ensures { λ f. ⌜ SignsAre (now (image .entry)) text run f ⌝ }
 {
@@ -93,5 +93,29 @@ fn signs_in(image: &[u8], text: usize, run: Run) -> Found
         };
         signs = stepped(signs, item, cur);
         cur = next;
+    }
+}
+
+pub(crate) fn chosen(signs: Signs) -> Sign
+    ensures { λ s. ⌜ s ≡ chosenOf signs ⌝ }
+{
+    let plus = signs.plus;
+    let pair = signs.pair;
+    let minus = signs.minus;
+    if plus.left != 0 {
+        return Sign {
+            run: plus,
+            negative: false,
+        };
+    }
+    if pair.left != 0 {
+        return Sign {
+            run: pair,
+            negative: true,
+        };
+    }
+    Sign {
+        run: minus,
+        negative: true,
     }
 }
