@@ -4,6 +4,8 @@ pub mod Cuts
 pub mod Joined
 pub mod Lone
 pub mod Marks
+pub mod Scans
 pub mod Search
+pub mod Steps
 pub mod Texts
 pub mod Walks

@@ -3,5 +3,6 @@
 pub use bound::parse_usb;
 
 mod bound;
+mod scan;
 mod sides;
 mod signs;

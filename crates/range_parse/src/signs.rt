@@ -44,16 +44,16 @@ fn pick(t: bool, a: Run, b: Run) -> Run
 }
 
 // The first of the leftmost pair, with an item at record r that is a minus or not.
-fn pair_by(pair: Run, minus: Run, r: u32, token: bool) -> Run
-    ensures { λ s. ⌜ s ≡ pairBy pair minus r token ⌝ }
+fn pair_by(found: Run, minus: Run, r: u32, token: bool) -> Run
+    ensures { λ s. ⌜ s ≡ pairBy found minus r token ⌝ }
 {
-    if pair.left != 0 {
-        return pair;
+    if found.left != 0 {
+        return found;
     }
     if !token {
-        return pair;
+        return found;
     }
-    pick(adjacent(minus, r), minus, pair)
+    pick(adjacent(minus, r), minus, found)
 }
 
 // The signs with the item that stands at `cur`.
