@@ -1,6 +1,7 @@
 -- Laws that the functions' proofs cite.
 pub mod Bounds
 pub mod Cuts
+pub mod Dots
 pub mod Joined
 pub mod Lone
 pub mod Marks
