@@ -20,6 +20,19 @@ adjacentTo s r = not (eqb (s .left) 0) && eqb (s .r + 1) r
 abbrev pub pairBy : Run → Run → ℕ → Bool → Run
 pairBy pair minus r t = if eqb (pair .left) 0 then (if t && adjacentTo minus r then minus else pair) else pair
 
+-- the new sign where there is one, else the old
+abbrev pub latestOf : Run → Run → Run
+latestOf old new = if eqb (new .left) 0 then old else new
+
+abbrev pub steppedLast : Signs → Item → Run → Signs
+steppedLast s i cur =
+    record {
+      plus = latestOf (s .plus) (if tokenOf (char .plus) i then cur else record { r = 0; left = 0; at = 0 });
+      pair = pairBy (s .pair) (s .minus) (cur .r) (tokenOf (char .minus) i);
+      minus = if tokenOf (char .minus) i then cur else s .minus;
+    }
+
+-- the same, where a record is left at `cur`
 abbrev pub steppedBy : Signs → Item → Run → Signs
 steppedBy s i cur =
     record {

@@ -7,7 +7,7 @@ ghost use mathlib.Core.Path.{_≡_};
 ghost use mathlib.Core.Bool.{true};
 ghost use Rattle.def_numbers.specs.Basics.{if_then_else_};
 ghost use Rattle.items.specs.Run.{inReach};
-ghost use Rattle.range_parse.specs.Signs.{adjacentTo, pairBy, steppedBy, chosenOf, SignsAre};
+ghost use Rattle.range_parse.specs.Signs.{adjacentTo, pairBy, latestOf, steppedLast, chosenOf, SignsAre};
 
 pub struct Signs {
     pub plus: Run,
@@ -43,6 +43,13 @@ fn pick(t: bool, a: Run, b: Run) -> Run
     if t { a } else { b }
 }
 
+// The new sign where there is one, else the old.
+fn latest(old: Run, new: Run) -> Run
+    ensures { λ r. ⌜ r ≡ latestOf old new ⌝ }
+{
+    if new.left != 0 { new } else { old }
+}
+
 // The first of the leftmost pair, with an item at record r that is a minus or not.
 fn pair_by(found: Run, minus: Run, r: u32, token: bool) -> Run
     ensures { λ s. ⌜ s ≡ pairBy found minus r token ⌝ }
@@ -58,14 +65,19 @@ fn pair_by(found: Run, minus: Run, r: u32, token: bool) -> Run
 
 // The signs with the item that stands at `cur`.
 fn stepped(signs: Signs, item: Item, cur: Run) -> Signs
-    ensures { λ s. ⌜ s ≡ steppedBy signs item cur ⌝ }
+    ensures { λ s. ⌜ s ≡ steppedLast signs item cur ⌝ }
 {
     let token = items::is_token(item, b'-');
     let plus = signs.plus;
     let pair = signs.pair;
     let minus = signs.minus;
+    let none = Run {
+        r: 0,
+        left: 0,
+        at: 0,
+    };
     Signs {
-        plus: pick(items::is_token(item, b'+'), cur, plus),
+        plus: latest(plus, pick(items::is_token(item, b'+'), cur, none)),
         pair: pair_by(pair, minus, cur.r, token),
         minus: pick(token, cur, minus),
     }

@@ -1,7 +1,8 @@
 -- The loop keeps what Search says; it ends where no record is left.
-use mathlib.Core.Path.{refl, sym, subst}
+use mathlib.Core.Path.{refl, sym, subst, _∙_}
 use native.Mathlib.Omega.{arith}
 use borrow.Author.Needs.{needs}
+use Rattle.range_parse.proofs.Marks.{stepped-last}
 use Rattle.range_parse.proofs.Search.{Searching, searching-start, searching-next, searching-done}
 use Rattle.range_parse.proofs.Walks.{taken-of, ended-of}
 use Rattle.range_parse.proofs.signs.signs_in.Statement.{statement}
@@ -40,7 +41,8 @@ loop-again c =
     let n = c .before .before .before .before .next-item in
     let v = c .before .before .item .given in
     let t = taken-of (a .image .now) (a .text) (l .cur) (n .result) (v .0 .0) (v .0 .1 .0) (n .ensures) (v .1) in
-    subst (λ s. Searching (a .image .now) (a .text) (a .run) (v .0 .1 .0) s) (sym (c .stepped .ensures))
+    subst (λ s. Searching (a .image .now) (a .text) (a .run) (v .0 .1 .0) s)
+    (sym (c .stepped .ensures ∙ stepped-last (l .signs) (v .0 .0) (l .cur) (omega (arith, t .left, t .fewer))))
     (searching-next (a .image .now) (a .text) (a .run) (l .cur) (v .0 .0) (v .0 .1 .0) (l .inv .walked) t (l .signs) (l .inv))
 
 pub signs-in-spec : {M : Type 1} → statement M
