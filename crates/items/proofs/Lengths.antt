@@ -1,9 +1,9 @@
 -- Lengths of texts, summed record by record.
-use mathlib.Core.Path.{_≡_, refl, sym, ap, _∙_}
-use Prim.Native.Nat.{_≤_, _<_}
-use native.Mathlib.Nat.{zero-add, add-zero, add-assoc}
+use mathlib.Core.Path.{_≡_, refl, ap, _∙_}
+use Prim.Native.Nat.{_<_}
+use native.Mathlib.Nat.{zero-add, add-zero}
 use native.Mathlib.Omega.{arith}
-use Rattle.def_numbers.specs.Prelude.{ℕ, zero, suc, _+_, _*_, _-_, List}
+use Rattle.def_numbers.specs.Prelude.{ℕ, suc, _+_, _-_, List}
 use Rattle.def_image.specs.Image.{entryAt}
 use Rattle.items.specs.Run.{lengthAt, lengthOf}
 use Rattle.items.specs.First.{length-suc}

@@ -1,10 +1,10 @@
 -- Runs in reach: the test in code, and what the sums over a run stay below.
-use mathlib.Core.Path.{_≡_, refl, sym, ap, _∙_}
+use mathlib.Core.Path.{_≡_, sym, _∙_}
 use mathlib.Core.Bool.{true≢false}
 use Prim.Native.Nat.{_≤_, _<_}
 use native.Mathlib.Omega.{arith}
 use borrow.Author.Tests.{lt-ltb, le-ltb, ltb-true, ltb-false}
-use Rattle.def_numbers.specs.Prelude.{ℕ, _+_, _*_, _-_, _/_, _^_, Bool, true, false, _&&_, List, [], ltb}
+use Rattle.def_numbers.specs.Prelude.{ℕ, _+_, _*_, _-_, _/_, _^_, true, false, List, [], ltb}
 use Rattle.def_image.specs.Image.{recsFrom}
 use Rattle.def_stages.specs.Text as Text
 use Rattle.laws.specs.Tests.{by-test, and-iff}

@@ -1,15 +1,15 @@
 -- The first item of a run that was read, and the run after it.
 use mathlib.Core.Path.{_≡_, refl, sym, ap, _∙_}
-use mathlib.Core.Logic.{_⊎_, inl, inr}
+use mathlib.Core.Logic.{inl, inr}
 use Prim.Native.Nat.{_≤_, _<_}
 use native.Mathlib.Omega.{arith}
-use borrow.Author.Tests.{lt-ltb, le-ltb, ltb-true, ltb-false}
-use Rattle.def_numbers.specs.Prelude.{ℕ, suc, _+_, _*_, _-_, _^_, Bool, true, false, List, _∷_, getD, ltb}
+use borrow.Author.Tests.{lt-ltb, le-ltb, ltb-false}
+use Rattle.def_numbers.specs.Prelude.{ℕ, suc, _+_, _*_, _-_, _^_, true, false, List, _∷_, getD, ltb}
 use Rattle.def_numbers.specs.Basics.{if_then_else_}
 use Rattle.def_image.specs.Image.{Rec, bytesAt, entryAt, opens}
-use Rattle.def_stages.specs.Text.{Item, more, items}
+use Rattle.def_stages.specs.Text.{Item, more}
 use Rattle.laws.specs.Tests.{by-test}
-use Rattle.items.specs.Run.{Reach, Taken, inReach, recsAt, itemsAt, recAt, lengthAt, lengthOf, moreIn}
+use Rattle.items.specs.Run.{Reach, Taken, recsAt, itemsAt, recAt, lengthAt, lengthOf, moreIn}
 use Rattle.items.specs.First.{Cut, first-item, length-suc}
 use Rattle.items.proofs.Reach.{reach-made}
 use Rattle.items.specs.declared.Run.{Run}

@@ -1,14 +1,13 @@
 -- The law of the first item: the records of a run are those of its first item, then those of the run after it.
 use mathlib.Core.Path.{_≡_, refl, sym, ap, _∙_}
 use mathlib.Core.Logic.{_⊎_, inl, inr}
-use mathlib.Core.List.{append-assoc, append-nil}
-use Prim.Native.Nat.{_≤_, _<_}
+use mathlib.Core.List.{append-nil}
+use Prim.Native.Nat.{_≤_}
 use native.Mathlib.Nat.{zero-add, add-zero, suc-add, add-suc, add-assoc}
 use native.Mathlib.Omega.{arith}
-use lib.ListN.{length-append}
 use lib.Seq.{drop-drop}
-use Rattle.def_numbers.specs.Prelude.{ℕ, zero, suc, _+_, _*_, _-_, _^_, List, [], _∷_, _++_, dropLast, length, getD, drop}
-use Rattle.def_image.specs.Image.{Rec, Entry, padded, bytesAt, entryAt, recsFrom, opens}
+use Rattle.def_numbers.specs.Prelude.{ℕ, zero, suc, _+_, _-_, List, [], _∷_, _++_, dropLast, length, drop}
+use Rattle.def_image.specs.Image.{Rec, padded, bytesAt, recsFrom}
 use Rattle.def_image.specs.Tree.{textOf}
 use Rattle.def_stages.specs.Text.{Item, more, chunks, itemOf, itemsOf, items}
 use Rattle.items.specs.Run.{recAt, lengthAt, lengthOf, recsAt, itemsAt}

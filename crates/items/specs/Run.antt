@@ -1,5 +1,5 @@
 -- A run of records in code as the definition's: `text` is the byte of the image where the component's text begins.
-use mathlib.Core.Path.{_≡_}
+use mathlib.Core.Path.{_≡_, refl}
 use Prim.Native.Nat.{_<_, _≤_}
 use Rattle.def_numbers.specs.Prelude.{ℕ, zero, suc, _+_, _*_, _-_, _^_, Bool, true, false, _&&_, not, List, [], _∷_, getD, ltb, eqb}
 use Rattle.def_numbers.specs.Basics.{if_then_else_}
@@ -27,6 +27,10 @@ itemsOf image text run = itemsAt image text (run .at) (run .r) (run .left)
 -- comes after an item of it, is in reach
 abbrev pub inReach : ℕ → Run → Bool
 inReach text run = ltb text (2 ^ 62) && (ltb (run .r + run .left) (2 ^ 32) && ltb (run .at + run .left * 2 ^ 32) (2 ^ 62))
+
+-- every run of an image within the limits is in reach
+pub limits-near : inReach 51306 (record { r = 0; left = 2048; at = 16384 }) ≡ true
+limits-near = refl
 
 -- what the test says
 pub record Reach (text : ℕ) (run : Run) : Type 0 where

@@ -4,9 +4,9 @@ use borrow.Author.Tests.{eq-eqb, ne-eqb}
 use lib.Seq.{getD-drop}
 use native.Mathlib.Nat.{add-zero}
 use native.Mathlib.Omega.{arith}
-use Rattle.def_numbers.specs.Prelude.{ℕ, zero, suc, _+_, Bool, true, false, _&&_, not, List, [], _∷_, length, getD, drop, eqb, ltb}
+use Rattle.def_numbers.specs.Prelude.{ℕ, zero, suc, _+_, Bool, true, false, _&&_, List, [], _∷_, getD, drop, eqb}
 use Rattle.def_numbers.specs.Basics.{sameBytes}
-use Rattle.def_image.specs.Image.{padded, bytesAt, opens}
+use Rattle.def_image.specs.Image.{padded, opens}
 use Rattle.def_stages.specs.Text as Text
 use Rattle.items.specs.Run.{itemIs, tokenOf}
 use Rattle.items.specs.declared.Item.{Item}

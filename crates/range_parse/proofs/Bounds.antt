@@ -1,18 +1,18 @@
 -- A bound cut at its sign: the texts on both sides.
 use mathlib.Core.Path.{_≡_, refl, sym, ap, _∙_}
-use mathlib.Core.Logic.{_⊎_, inl, inr}
+use mathlib.Core.Logic.{inl, inr}
 use mathlib.Core.Bool.{true≢false}
-use Prim.Native.Nat.{_≤_, _<_}
+use Prim.Native.Nat.{_<_}
 use native.Mathlib.Omega.{arith}
 use borrow.Author.Tests.{not-true, not-false, eqb-true, eqb-false, eq-eqb, ne-eqb}
 use Rattle.def_numbers.specs.Prelude.{ℕ, zero, suc, _+_, _-_, Bool, true, false, _&&_, not, Option, none, some, List, [], _∷_, eqb, pos, _^_}
-use Rattle.def_numbers.specs.Basics.{Result, ok, if_then_else_, sameBytes}
+use Rattle.def_numbers.specs.Basics.{ok, if_then_else_, sameBytes}
 use Rattle.def_stages.specs.Text as Text
 use Rattle.def_stages.specs.Text.{isToken}
 use Rattle.def_stages.specs.Ranges as Ranges
 use Rattle.def_stages.specs.Ranges.{Cut, cutBound, orElse, readBound}
 use Rattle.laws.specs.Tests.{by-test, and-iff}
-use Rattle.items.specs.Run.{itemsAt, itemsOf, lengthAt, lengthOf}
+use Rattle.items.specs.Run.{itemsAt, itemsOf, lengthOf}
 use Rattle.items.specs.declared.Run.{Run}
 use Rattle.misc.specs.Value.{valueOf}
 use Rattle.misc.specs.declared.I128.{I128}

@@ -1,16 +1,15 @@
 -- A range cut at its dots: one law for each way through the code.
 use mathlib.Core.Path.{_≡_, refl, sym, ap, _∙_}
-use Prim.Native.Nat.{_≤_, _<_}
 use native.Mathlib.Omega.{arith}
 use lib.Seq.{take-append-seam, drop-append-seam}
-use Rattle.def_numbers.specs.Prelude.{ℕ, _+_, _-_, _*_, _^_, Bool, true, false, Option, none, some, List, [], _∷_, _++_, take, drop, length, ℤ, pos, _+ℤ_}
+use Rattle.def_numbers.specs.Prelude.{ℕ, _+_, _-_, Bool, true, false, Option, none, some, List, [], _∷_, _++_, take, drop, length, pos, _+ℤ_}
 use Rattle.def_numbers.specs.Basics.{Result, ok, refused, _>>=_, if_then_else_}
 use Rattle.def_numbers.specs.Numbers.{narrow}
 use Rattle.def_numbers.specs.Refusals.{bound-overflow}
 use Rattle.def_image.specs.Image.{padded}
 use Rattle.def_stages.specs.Text as Text
 use Rattle.def_stages.specs.Ranges as Ranges
-use Rattle.def_stages.specs.Ranges.{withX, parseUsb, parseStart, parseEnd, parseRange, scan}
+use Rattle.def_stages.specs.Ranges.{withX, parseUsb, parseStart, parseRange}
 use Rattle.errors.specs.Refused.{refusedAs}
 use Rattle.errors.specs.declared.Refusal.{Refusal}
 use Rattle.items.specs.Run.{itemsAt, itemsOf, itemsIn, inReach}

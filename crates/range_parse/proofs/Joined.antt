@@ -1,10 +1,9 @@
 -- The two sides of a bound's sign: one law for each way through the code.
 use mathlib.Core.Path.{_≡_, refl, sym, ap, _∙_}
-use native.Mathlib.Omega.{arith}
 use Rattle.def_numbers.specs.Prelude.{ℕ, zero, suc, _+_, Bool, true, false, Option, none, some, List, [], _∷_, drop, ℤ, pos, _+ℤ_, _-ℤ_}
-use Rattle.def_numbers.specs.Basics.{Result, ok, refused, if_then_else_, isEmpty}
+use Rattle.def_numbers.specs.Basics.{Result, ok, refused, isEmpty}
 use Rattle.def_numbers.specs.Numbers.{narrow, tryParse}
-use Rattle.def_numbers.specs.Refusals.{refuse, bound-overflow}
+use Rattle.def_numbers.specs.Refusals.{bound-overflow}
 use Rattle.def_image.specs.Image.{padded}
 use Rattle.def_stages.specs.Ranges as R
 use Rattle.def_stages.specs.Text as Text

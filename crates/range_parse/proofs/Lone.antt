@@ -1,11 +1,9 @@
 -- A bound is one item: a token, or a group in parentheses.
 use mathlib.Core.Path.{_≡_, refl, sym, ap, _∙_}
-use Prim.Native.Nat.{_<_}
-use native.Mathlib.Omega.{arith}
 use borrow.Author.Tests.{eq-eqb, ne-eqb}
-use Rattle.def_numbers.specs.Prelude.{ℕ, zero, suc, _+_, Bool, true, false, List, [], _∷_, eqb}
-use Rattle.def_numbers.specs.Basics.{Result, refused, if_then_else_}
-use Rattle.def_image.specs.Image.{recsFrom, opens}
+use Rattle.def_numbers.specs.Prelude.{ℕ, true, false, List, [], _∷_}
+use Rattle.def_numbers.specs.Basics.{Result, refused}
+use Rattle.def_image.specs.Image.{opens}
 use Rattle.def_stages.specs.Text as Text
 use Rattle.def_stages.specs.Ranges as Ranges
 use Rattle.def_stages.specs.Ranges.{readBound, parseUsb}

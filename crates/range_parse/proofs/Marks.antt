@@ -1,9 +1,9 @@
 -- The signs found on the way: one law for each way through the code.
-use mathlib.Core.Path.{_≡_, refl, sym, ap, _∙_}
+use mathlib.Core.Path.{_≡_, refl, ap, _∙_}
 use Prim.Native.Nat.{_<_}
 use native.Mathlib.Omega.{arith}
 use borrow.Author.Tests.{eq-eqb, ne-eqb}
-use Rattle.def_numbers.specs.Prelude.{ℕ, _+_, Bool, true, false, _&&_, not, eqb}
+use Rattle.def_numbers.specs.Prelude.{ℕ, Bool, true, false}
 use Rattle.def_numbers.specs.Basics.{if_then_else_}
 use Rattle.items.specs.Run.{tokenOf}
 use Rattle.items.specs.declared.Item.{Item}

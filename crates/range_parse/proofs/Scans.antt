@@ -1,27 +1,21 @@
 -- The scan for dots: what the loop keeps, from its start to its end.
-use mathlib.Core.Path.{_≡_, refl, sym, ap, subst, _∙_}
+use mathlib.Core.Path.{_≡_, refl, sym, ap, _∙_}
 use mathlib.Core.Logic.{_⊎_, inl, inr}
-use Prim.Native.Nat.{_≤_, _<_}
+use Prim.Native.Nat.{_≤_}
 use native.Mathlib.Omega.{arith}
-use borrow.Author.Tests.{eqb-true, eqb-false, eq-eqb, ne-eqb}
-use lib.ListN.{length-append}
-use Rattle.def_numbers.specs.Prelude.{ℕ, zero, suc, _+_, _-_, Bool, true, false, Option, none, some, List, [], _∷_, _++_, length, eqb}
-use Rattle.def_numbers.specs.Basics.{Result, ok, refused, _>>=_, if_then_else_}
-use Rattle.def_stages.specs.Text.{isToken}
-use Rattle.def_stages.specs.Text as Text
+use Rattle.def_numbers.specs.Prelude.{ℕ, _+_, _-_, Bool, true, false, Option, none, some, List, [], length}
+use Rattle.def_numbers.specs.Basics.{Result, ok}
 use Rattle.def_stages.specs.Ranges as Ranges
-use Rattle.def_stages.specs.Ranges.{scanStep, scanFrom, withDots}
+use Rattle.def_stages.specs.Ranges.{scanFrom}
 use Rattle.laws.specs.Tests.{by-test}
-use Rattle.items.specs.Run.{Taken, itemsAt, itemsOf, itemIs, tokenOf, inReach}
-use Rattle.items.specs.Token.{token-is}
-use Rattle.items.specs.declared.Item.{Item}
+use Rattle.items.specs.Run.{itemsAt, itemsOf, inReach}
 use Rattle.items.specs.declared.Run.{Run}
 use Rattle.range_parse.specs.Walked.{Walked, passed}
-use Rattle.range_parse.specs.Scan.{foundBy, dottedBy, undottedBy, scannedBy, scanOf, resultScan, Places, ScanIs}
+use Rattle.range_parse.specs.Scan.{foundBy, scanOf, resultScan, Places}
 use Rattle.range_parse.specs.declared.scan.Scan.{Scan}
 use Rattle.range_parse.specs.declared.scan.Scanned.{Scanned}
 use Rattle.range_parse.specs.declared.scan.Scanned.the-variants as S
-use Rattle.range_parse.proofs.Walks.{items-none, items-next, passed-next, walked-start, walked-next}
+use Rattle.range_parse.proofs.Walks.{items-none, walked-start}
 
 -- how many items lie before a place
 abbrev pub count : List ℕ → ℕ → Run → Run → ℕ

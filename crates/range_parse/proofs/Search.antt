@@ -1,7 +1,7 @@
 -- The search for the signs: what the loop keeps, from its start to its end.
 use mathlib.Core.Path.{_≡_, refl, sym, ap, _∙_, subst}
 use mathlib.Core.Logic.{_⊎_, inl, inr}
-use Prim.Native.Nat.{_≤_, _<_}
+use Prim.Native.Nat.{_<_}
 use native.Mathlib.Omega.{arith}
 use borrow.Author.Tests.{not-true, eqb-false, eqb-true, eq-eqb, ne-eqb}
 use Rattle.def_numbers.specs.Prelude.{ℕ, _+_, _-_, Bool, true, false, _&&_, not, Option, none, some, List, [], _∷_, _++_, eqb}

@@ -1,15 +1,12 @@
 -- The text of the items of a run is one part of the text.
 use mathlib.Core.Path.{_≡_, refl, sym, ap, _∙_}
 use mathlib.Core.List.{append-assoc}
-use Prim.Native.Nat.{_≤_, _<_}
+use Prim.Native.Nat.{_<_}
 use native.Mathlib.Omega.{arith}
-use borrow.Author.Tests.{eq-eqb, ne-eqb}
-use Rattle.def_numbers.specs.Prelude.{ℕ, zero, suc, _+_, _-_, Bool, true, false, List, [], _∷_, _++_, length, eqb}
-use Rattle.def_numbers.specs.Basics.{if_then_else_}
+use Rattle.def_numbers.specs.Prelude.{ℕ, zero, suc, _+_, _-_, Bool, true, false, List, [], _∷_, _++_, length}
 use Rattle.def_image.specs.Image.{Rec, padded, bytesAt, recsFrom}
 use Rattle.def_image.specs.Tree.{textOf}
 use Rattle.def_stages.specs.Text as Text
-use Rattle.laws.specs.Tests.{by-test}
 use Rattle.items.specs.Run.{itemsAt, recAt, lengthAt, lengthOf}
 use Rattle.items.specs.First.{recs-suc, text-recs}
 use Rattle.usb.specs.Usb.{partOf}

@@ -1,23 +1,21 @@
 -- A run walked item by item, and the marks on the way.
 use mathlib.Core.Path.{_≡_, refl, sym, ap, _∙_}
-use mathlib.Core.Logic.{_⊎_, inl, inr}
 use mathlib.Core.List.{append-assoc}
-use Prim.Native.Nat.{_≤_, _<_}
+use Prim.Native.Nat.{_≤_}
 use native.Mathlib.Nat.{zero-add, add-zero, add-assoc, suc-add, add-suc}
 use native.Mathlib.Omega.{arith}
-use borrow.Author.Tests.{not-true, eqb-true, eq-eqb, ne-eqb}
-use Rattle.def_numbers.specs.Prelude.{ℕ, zero, suc, _+_, _-_, Bool, true, false, _&&_, not, Option, none, some, List, [], _∷_, _++_, getD, eqb}
-use Rattle.def_numbers.specs.Basics.{if_then_else_}
+use borrow.Author.Tests.{not-true, eqb-true}
+use Rattle.def_numbers.specs.Prelude.{ℕ, zero, suc, _+_, _-_, true, false, _&&_, not, List, [], _∷_, _++_, eqb}
 use Rattle.def_image.specs.Image.{recsFrom, opens}
 use Rattle.def_stages.specs.Text.{isToken, items, itemsOf, chunks}
-use Rattle.laws.specs.Tests.{by-test, and-iff}
+use Rattle.laws.specs.Tests.{and-iff}
 use Rattle.items.specs.Run.{Taken, Ended, NextIs, itemsAt, itemIs, tokenOf, lengthAt, lengthOf, inReach}
 use Rattle.items.specs.Token.{token-is}
 use Rattle.items.specs.declared.Item.{Item}
 use Rattle.items.specs.declared.Run.{Run}
 use Rattle.items.specs.declared.Next.{Next}
 use Rattle.items.specs.declared.Next.the-variants as N
-use Rattle.range_parse.specs.Walked.{Walked, Mark, passed, signAt, cutAt}
+use Rattle.range_parse.specs.Walked.{Walked, Mark, passed, signAt}
 
 module _ (image : List ℕ) where
   pub length-add : (r a b : ℕ) → lengthOf image r (a + b) ≡ lengthOf image r a + lengthOf image (r + a) b

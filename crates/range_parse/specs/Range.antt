@@ -1,7 +1,7 @@
 -- The parts of reading a range.
 use mathlib.Core.Path.{_≡_, refl}
-use Rattle.def_numbers.specs.Prelude.{ℕ, _-_, Bool, true, false, not, Option, none, some, List, [], _∷_, take, drop, length, pos, _+ℤ_}
-use Rattle.def_numbers.specs.Basics.{Result, ok, _>>=_, if_then_else_, isEmpty}
+use Rattle.def_numbers.specs.Prelude.{ℕ, _-_, Bool, Option, none, some, List, _∷_, take, drop, pos, _+ℤ_}
+use Rattle.def_numbers.specs.Basics.{Result, ok, _>>=_, if_then_else_}
 use Rattle.def_numbers.specs.Refusals.{bound-overflow}
 use Rattle.def_stages.specs.Text as Text
 use Rattle.def_stages.specs.Ranges as Ranges

@@ -1,6 +1,6 @@
 -- The scan for dots in code, as the definition's: places in the run stand for numbers of items.
 use mathlib.Core.Path.{_≡_}
-use Rattle.def_numbers.specs.Prelude.{ℕ, _+_, Bool, true, false, Option, none, some, List, length, eqb}
+use Rattle.def_numbers.specs.Prelude.{ℕ, Bool, true, false, none, some, List, length, eqb}
 use Rattle.def_numbers.specs.Basics.{Result, ok, if_then_else_}
 use Rattle.def_numbers.specs.Numbers.{char}
 use Rattle.def_stages.specs.Ranges as Ranges

@@ -1,8 +1,8 @@
 -- The two sides of a bound's sign, by their texts.
 use mathlib.Core.Path.{_≡_, refl}
-use Rattle.def_numbers.specs.Prelude.{ℕ, Bool, Option, none, some, List, _∷_, ℤ, pos, _+ℤ_, _-ℤ_}
+use Rattle.def_numbers.specs.Prelude.{Bool, Option, none, some, _∷_, ℤ, pos, _+ℤ_, _-ℤ_}
 use Rattle.def_numbers.specs.Basics.{Result, ok, if_then_else_}
-use Rattle.def_numbers.specs.Numbers.{narrow, char}
+use Rattle.def_numbers.specs.Numbers.{char}
 use Rattle.def_numbers.specs.Refusals.{refuse, bound-overflow}
 use Rattle.def_stages.specs.Text.{Part, isToken, partOf}
 use Rattle.def_stages.specs.Ranges.{Usb, Cut, text, withX, numberIn, side, joinSides}

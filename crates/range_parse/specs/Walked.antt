@@ -2,11 +2,11 @@
 use mathlib.Core.Path.{_≡_}
 use mathlib.Core.Logic.{_⊎_}
 use Prim.Native.Nat.{_≤_, _<_}
-use Rattle.def_numbers.specs.Prelude.{ℕ, _+_, _-_, Bool, true, Option, none, some, List, _∷_, _++_, eqb}
+use Rattle.def_numbers.specs.Prelude.{ℕ, _+_, _-_, true, Option, none, some, List, _∷_, _++_, eqb}
 use Rattle.def_numbers.specs.Basics.{if_then_else_}
 use Rattle.def_stages.specs.Text.{Item, itemOf, isToken}
 use Rattle.def_stages.specs.Ranges.{Cut}
-use Rattle.items.specs.Run.{recsAt, itemsAt, itemsOf, inReach, lengthAt, lengthOf}
+use Rattle.items.specs.Run.{recsAt, itemsAt, inReach, lengthAt, lengthOf}
 use Rattle.items.specs.declared.Run.{Run}
 
 -- the items of a run before a place in it

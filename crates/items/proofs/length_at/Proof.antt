@@ -1,4 +1,3 @@
-use native.Mathlib.Omega.{arith}
 use borrow.Author.Needs.{needs}
 use Rattle.items.proofs.Lengths.{length-read}
 use Rattle.items.proofs.length_at.Statement.{statement}

@@ -1,4 +1,4 @@
-use mathlib.Core.Path.{sym, _∙_, ap}
+use mathlib.Core.Path.{sym, _∙_}
 use borrow.Author.Needs.{needs}
 use Rattle.range_parse.proofs.scan.scan_step.Statement.{statement}
 use Rattle.range_parse.proofs.scan.scan_step.Tie as tie

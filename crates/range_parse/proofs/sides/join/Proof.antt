@@ -1,5 +1,5 @@
 use borrow.Author.Needs.{needs}
-use mathlib.Core.Path.{_≡_, ap, _∙_}
+use mathlib.Core.Path.{ap, _∙_}
 use Rattle.usb.specs.Usb.{partOf}
 use Rattle.misc.specs.Value.{valueOf}
 use Rattle.range_parse.specs.Sides.{movedBy}
