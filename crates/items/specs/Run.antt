@@ -28,7 +28,7 @@ itemsOf image text run = itemsAt image text (run .at) (run .r) (run .left)
 abbrev pub inReach : ℕ → Run → Bool
 inReach text run = ltb text (2 ^ 62) && (ltb (run .r + run .left) (2 ^ 32) && ltb (run .at + run .left * 2 ^ 32) (2 ^ 62))
 
--- every run of an image within the limits is in reach
+-- a witness: the numbers of the limits are in reach
 pub limits-near : inReach 51306 (record { r = 0; left = 2048; at = 16384 }) ≡ true
 limits-near = refl
 
