@@ -10,15 +10,10 @@ use Rattle.def_numbers.specs.Prelude.{ℕ, zero, suc, _+_, _-_, List, [], _∷_
 use Rattle.def_image.specs.Image.{Rec, padded, bytesAt, recsFrom}
 use Rattle.def_image.specs.Tree.{textOf}
 use Rattle.def_stages.specs.Text.{Item, more, chunks, itemOf, itemsOf, items}
+use Rattle.laws.specs.Padded.{length-padded}
 use Rattle.items.specs.Run.{recAt, lengthAt, lengthOf, recsAt, itemsAt}
 
 -- ---- bytes
-
-pub length-padded : (n : ℕ) (s : List ℕ) → length (padded n s) ≡ n
-unfolding padded
-length-padded zero s = refl
-length-padded (suc n) [] = ap suc (length-padded n [])
-length-padded (suc n) (b ∷ s) = ap suc (length-padded n s)
 
 padded-add : (a b : ℕ) (s : List ℕ) → padded (a + b) s ≡ padded a s ++ padded b (drop a s)
 unfolding padded

@@ -37,7 +37,7 @@ returns : tie.Need-returns
 returns c =
     let first = c .before .before .before .before .before .before .before .before in
     let s = first .before .before .before .before .before .before .before in
-    let e = first .before .before .before .before .before .entry-at in
+    let e = first .before .before .before .before .before .read-entry in
     let image = s .args .image .now in
     let run = s .args .run in
     taken image (s .args .text) run (e .result .kind) (e .result .skip) (first .before .before .before .more-in .result) (first .before .before .between .result)
