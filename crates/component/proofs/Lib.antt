@@ -1,0 +1,4 @@
+-- Laws that the functions' proofs cite.
+pub mod Colons
+pub mod Lasts
+pub mod Walks

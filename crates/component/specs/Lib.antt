@@ -1,0 +1,4 @@
+-- A run walked item by item, and what the functions of a component give.
+pub mod Ends
+pub mod Prefix
+pub mod Walked
