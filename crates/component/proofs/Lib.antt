@@ -1,4 +1,5 @@
 -- Laws that the functions' proofs cite.
 pub mod Colons
 pub mod Lasts
+pub mod Texts
 pub mod Walks

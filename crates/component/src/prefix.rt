@@ -22,7 +22,7 @@ pub enum Step {
 }
 
 // The text of a run up to a place in it.
-fn part_to(run: Run, cur: Run) -> Part
+pub(crate) fn part_to(run: Run, cur: Run) -> Part
     requires { ⌜ run .at ≤ cur .at ⌝ }
     ensures { λ p. ⌜ p ≡ partTo run cur ⌝ }
 {
