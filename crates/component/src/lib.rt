@@ -4,9 +4,13 @@ pub use begins::is_literal;
 pub use ends::OptionRun;
 pub use ends::Split;
 pub use ends::split_range;
+pub use places::Place;
+pub use places::StartResult;
+pub use places::starting_value;
 pub use prefix::Colon;
 pub use prefix::split_colon;
 
 mod begins;
 mod ends;
+mod places;
 mod prefix;
