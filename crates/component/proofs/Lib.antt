@@ -4,5 +4,6 @@ pub mod Lasts
 pub mod Slices
 pub mod Stages
 pub mod Starts
+pub mod Tested
 pub mod Texts
 pub mod Walks

@@ -4,5 +4,6 @@ pub mod Ends
 pub mod Places
 pub mod Prefix
 pub mod Stage2
+pub mod Tests
 pub mod Values
 pub mod Walked
