@@ -6,4 +6,5 @@ pub mod Stages
 pub mod Starts
 pub mod Tested
 pub mod Texts
+pub mod Types
 pub mod Walks

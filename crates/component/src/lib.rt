@@ -24,4 +24,5 @@ mod places;
 mod prefix;
 mod stage2;
 mod tests;
+mod typed;
 mod values;
