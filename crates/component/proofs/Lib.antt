@@ -1,6 +1,7 @@
 -- Laws that the functions' proofs cite.
 pub mod Colons
 pub mod Lasts
+pub mod Parsed
 pub mod Slices
 pub mod Stages
 pub mod Starts
