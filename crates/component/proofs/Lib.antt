@@ -1,0 +1,6 @@
+-- Laws that the functions' proofs cite.
+pub mod Colons
+pub mod Lasts
+pub mod Starts
+pub mod Texts
+pub mod Walks

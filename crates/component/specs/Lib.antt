@@ -1,0 +1,6 @@
+-- A run walked item by item, and what the functions of a component give.
+pub mod Begins
+pub mod Ends
+pub mod Places
+pub mod Prefix
+pub mod Walked

@@ -1,0 +1,16 @@
+// Stages 1 and 2 of one component (src/component.rs), free of its place. Nothing is copied from the image: a text is a part, a
+// literal is a place and its bits from .. to. Nothing is asked of a caller: a run out of reach has no items.
+pub use begins::is_literal;
+pub use ends::OptionRun;
+pub use ends::Split;
+pub use ends::split_range;
+pub use places::Place;
+pub use places::StartResult;
+pub use places::starting_value;
+pub use prefix::Colon;
+pub use prefix::split_colon;
+
+mod begins;
+mod ends;
+mod places;
+mod prefix;

@@ -1,0 +1,75 @@
+// A component in the image, and what stands before its records' range and after its starting value.
+use super::begins::is_empty;
+use super::ends::Split;
+use super::ends::split_range;
+use super::prefix::Colon;
+use super::prefix::split_colon;
+use errors::Refusal;
+use items::Run;
+use usb::Part;
+ghost use mathlib.Core.Path.{_≡_};
+ghost use mathlib.Core.List.{List, [], _∷_};
+ghost use Prim.Native.Nat.{ℕ};
+ghost use Rattle.def_stages.specs.Component.{splitOf, startingValue};
+ghost use Rattle.items.specs.Run.{itemsIn};
+ghost use Rattle.component.specs.Ends.{splitIn};
+ghost use Rattle.component.specs.Places.{wholeOf, unparsedIn, placedAt, middleOf, startIn};
+
+// A component's records, the bytes of the image where its text and its literal begin, and its literal's width.
+pub struct Place {
+    pub run: Run,
+    pub text: usize,
+    pub literal: usize,
+    pub width: u32,
+}
+
+// Result<Option<Part>, _>
+pub enum StartResult {
+    None,
+    Some(Part),
+    Refused(Refusal),
+}
+
+// The records of a component, its text at offset 0.
+fn whole(run: Run) -> Run
+    ensures { λ r. ⌜ r ≡ wholeOf run ⌝ }
+{
+    Run {
+        r: run.r,
+        left: run.left,
+        at: 0,
+    }
+}
+
+pub fn parts_of(image: &[u8], place: Place) -> Split
+    ensures { λ s. ⌜ splitIn (now (image .entry)) (place .text) s ≡ splitOf (unparsedIn (now (image .entry)) place) ⌝ }
+{
+    split_range(image, place.text, whole(place.run))
+}
+
+// "A starting value and its colon are taken off first": of the component that is scanned for it.
+pub fn middle(image: &[u8], text: usize, mid: Run, scanned: bool) -> Run
+    ensures { λ r. ⌜ itemsIn (now (image .entry)) text r ≡ middleOf scanned (itemsIn (now (image .entry)) text mid) ⌝ }
+{
+    if !scanned {
+        return mid;
+    }
+    let Colon::At(_, after) = split_colon(image, text, mid) else {
+        return mid;
+    };
+    after
+}
+
+// The starting value of component k, where it is the one that is scanned for it: 10.
+pub fn starting_value(image: &[u8], place: Place, k: u32) -> StartResult
+    ensures { λ r. ⌜ ((base : ℕ) → startIn (now (image .entry)) (place .text) base r ≡ startingValue k (placedAt base (unparsedIn (now (image .entry)) place) ∷ [])) ⌝ }
+{
+    let parts = parts_of(image, place);
+    let Colon::At(p, after) = split_colon(image, place.text, parts.mid) else {
+        return StartResult::None;
+    };
+    if is_empty(place.text, after) {
+        return StartResult::Refused(errors::placed_at(errors::refuse(10), 0, k));
+    }
+    StartResult::Some(p)
+}

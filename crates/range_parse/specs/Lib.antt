@@ -1,0 +1,2 @@
+-- What the parts of reading a bound and a range give.
+pub mod Sides

@@ -1,0 +1,3 @@
+// Reading bounds and ranges (parse_usb and parse_range of src/ranges.rs) from the items of a run of records. Nothing is asked of a
+// caller: a run out of reach has no items.
+mod sides;
