@@ -1,0 +1,3 @@
+-- Where each component of an image stands, and the walk over all of them in order.
+pub mod Chain
+pub mod Walk

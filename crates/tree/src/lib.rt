@@ -1,0 +1,1 @@
+// Where each component of an image stands, and the walk over all of them in order.
