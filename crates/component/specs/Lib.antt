@@ -3,4 +3,6 @@ pub mod Begins
 pub mod Ends
 pub mod Places
 pub mod Prefix
+pub mod Stage2
+pub mod Values
 pub mod Walked

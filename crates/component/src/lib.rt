@@ -9,8 +9,15 @@ pub use places::StartResult;
 pub use places::starting_value;
 pub use prefix::Colon;
 pub use prefix::split_colon;
+pub use stage2::simplify;
+pub use values::Bits;
+pub use values::Component;
+pub use values::ComponentResult;
+pub use values::ComponentType;
 
 mod begins;
 mod ends;
 mod places;
 mod prefix;
+mod stage2;
+mod values;
