@@ -1,3 +1,4 @@
 -- Where each component of an image stands, and the walk over all of them in order.
 pub mod Chain
+pub mod Cursor
 pub mod Walk

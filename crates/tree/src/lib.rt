@@ -1,1 +1,8 @@
-// Where each component of an image stands, and the walk over all of them in order.
+// Where each component of an image stands, and the walk over all of them in order. Nothing is asked of a caller.
+pub use cursor::Cursor;
+pub use cursor::Spot;
+pub use cursor::first;
+pub use cursor::next;
+pub use cursor::place_at;
+
+mod cursor;
