@@ -1,4 +1,5 @@
 -- Where each component of an image stands, and the walk over all of them in order.
 pub mod Chain
 pub mod Cursor
+pub mod Pass
 pub mod Walk

@@ -36,7 +36,7 @@ module _ (image : List ℕ) where
   unfolding componentsFrom componentAt recordsOf literalOf
   components-head k r l n = refl
 
-  components-none : (k r l : ℕ) → componentsFrom image k r l 0 ≡ []
+  pub components-none : (k r l : ℕ) → componentsFrom image k r l 0 ≡ []
   unfolding componentsFrom
   components-none k r l = refl
 
@@ -57,6 +57,10 @@ module _ (image : List ℕ) where
 
   pub components-drop : (k r l m n : ℕ) → drop m (componentsFrom image k r l n) ≡ componentsAfter image k r l m (n - m)
   components-drop k r l m n = simp chained (chain-drop _ _ _ k r l m n)
+
+  pub is-last : (k r l n : ℕ) → isEmpty (componentsFrom image k r l n) ≡ eqb n 0
+  is-last k r l zero = rw components-none
+  is-last k r l (suc n) = rw components-head (sym (eqb-false (suc n) 0 λ e. omega arith))
 
   -- the first of suc c concatenations of these sizes, and the rest from where it stops
   pub parts-head : (size : ℕ → ℕ) (i c k r l n : ℕ) → parts (tab size i (suc c)) (componentsFrom image k r l n)
@@ -99,10 +103,6 @@ module _ {B : Type 0} (f : Bool → Placed Unparsed → Result B) (image : List 
       (eachFrom (suc i) c (k + m) (r + taken (recordsOf image) k m) (l + taken (literalOf image) k m) (n - m))
   unfolding eachFrom
   each-head i c k r l n m e = rw e (each-sizes (componentCount image) i c k r l n)
-
-  is-last : (k r l n : ℕ) → isEmpty (componentsFrom image k r l n) ≡ eqb n 0
-  is-last k r l zero = rw components-none
-  is-last k r l (suc n) = rw components-head (sym (eqb-false (suc n) 0 λ e. omega arith))
 
   -- one component, and the rest of its concatenation
   pub each-in-head : (i j k r l n : ℕ) → eachIn f i j (componentsFrom image k r l (suc n))
