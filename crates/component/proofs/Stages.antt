@@ -33,7 +33,7 @@ use Rattle.component.specs.declared.values.ComponentType.the-variants as
 use Rattle.component.specs.declared.values.ComponentType as types
 
 -- a refusal says the same whatever it is an answer for
-refused-then : {A B : Type 0} (q : Refusal) (m : Result A) (f : A → Result B) → refusedAs {A = A} q ≡ m → refusedAs {A = B} q ≡ (m >>= f)
+pub refused-then : {A B : Type 0} (q : Refusal) (m : Result A) (f : A → Result B) → refusedAs {A = A} q ≡ m → refusedAs {A = B} q ≡ (m >>= f)
 refused-then q m f e = rw (← e)
 
 -- ---- a literal's bits

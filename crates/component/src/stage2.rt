@@ -41,9 +41,9 @@ fn simplify_variable(image: &[u8], place: Place, p: Part, range: Usbr) -> Compon
 {
     let s = ranges::simplify(image, place.text, range);
     match s {
-        ResultUsbr::Ok(r) => ComponentResult::Ok(Component {
+        ResultUsbr::Ok(simple) => ComponentResult::Ok(Component {
             c_type: ComponentType::Variable(p),
-            range: r,
+            range: simple,
         }),
         ResultUsbr::Refused(q) => ComponentResult::Refused(q),
     }

@@ -40,7 +40,8 @@ pub fn in_reach(text: usize, run: Run) -> bool
     run.at / 0x1_0000_0000 + (run.left as usize) < 0x4000_0000
 }
 
-fn is_opener(kind: u32) -> bool
+// Whether a record of that kind opens a group.
+pub fn is_opener(kind: u32) -> bool
     ensures { λ r. ⌜ r ≡ opens kind ⌝ }
 {
     1 <= kind && kind <= 4

@@ -1,2 +1,12 @@
 -- Laws that the functions' proofs cite.
+pub mod Bounds
+pub mod Cuts
+pub mod Dots
 pub mod Joined
+pub mod Lone
+pub mod Marks
+pub mod Scans
+pub mod Search
+pub mod Steps
+pub mod Texts
+pub mod Walks

@@ -1,2 +1,7 @@
 -- What the parts of reading a bound and a range give.
+pub mod Bound
+pub mod Range
+pub mod Scan
 pub mod Sides
+pub mod Signs
+pub mod Walked

@@ -1,0 +1,79 @@
+// A component's type: "else a text beginning with `-` or a digit makes it a literal, any other a variable".
+use super::begins::is_literal;
+use super::begins::part_of;
+use super::places::Place;
+use super::values::Bits;
+use super::values::Component;
+use super::values::ComponentResult;
+use super::values::ComponentType;
+use items::Run;
+use usb::OptionUsb;
+use usb::Part;
+use usb::Usb;
+use usb::Usbr;
+ghost use mathlib.Core.Path.{_≡_};
+ghost use mathlib.Core.List.{List};
+ghost use Prim.Native.Nat.{ℕ};
+ghost use Rattle.def_image.specs.Image.{bitsAt};
+ghost use Rattle.def_stages.specs.Ranges.{singleBit, unbounded};
+ghost use Rattle.def_stages.specs.Component.{typed};
+ghost use Rattle.items.specs.Run.{itemsIn};
+ghost use Rattle.usb.specs.Usb.{usbrOf};
+ghost use Rattle.component.specs.Values.{resultIn};
+
+// "17 .. literal width is 0"
+pub(crate) fn typed(image: &[u8], place: Place, mid: Run, range: Usbr) -> ComponentResult
+    ensures { λ r. ⌜ resultIn (now (image .entry)) place r ≡ typed (itemsIn (now (image .entry)) (place .text) mid) (bitsAt (now (image .entry)) (place .literal) (place .width)) (usbrOf (now (image .entry)) (place .text) range) ⌝ }
+{
+    if !is_literal(image, place.text, mid) {
+        let p = part_of(image, place.text, mid);
+        return ComponentResult::Ok(Component {
+            c_type: ComponentType::Variable(p),
+            range,
+        });
+    }
+    if place.width == 0 {
+        return ComponentResult::Refused(errors::refuse(17));
+    }
+    let bits = Bits {
+        from: 0,
+        to: place.width as usize,
+    };
+    ComponentResult::Ok(Component {
+        c_type: ComponentType::Literal(bits),
+        range,
+    })
+}
+
+// "In a bracket without dots, text s means s up to s+1."
+pub(crate) fn single_bit(image: &[u8], text: usize, run: Run) -> Usbr
+    ensures { λ r. ⌜ usbrOf (now (image .entry)) text r ≡ singleBit (itemsIn (now (image .entry)) text run) ⌝ }
+{
+    let s = part_of(image, text, run);
+    let start = Usb {
+        s,
+        x: misc::usize_to_i128(0),
+    };
+    let end = Usb {
+        s,
+        x: misc::usize_to_i128(1),
+    };
+    Usbr {
+        start,
+        end: OptionUsb::Some(end),
+    }
+}
+
+// A range without a bracket.
+pub(crate) fn unbounded() -> Usbr
+    ensures { λ r. ⌜ ((image : List ℕ) (text : ℕ) → usbrOf image text r ≡ unbounded) ⌝ }
+{
+    let start = Usb {
+        s: Part { at: 0, len: 0 },
+        x: misc::usize_to_i128(0),
+    };
+    Usbr {
+        start,
+        end: OptionUsb::None,
+    }
+}
