@@ -2,4 +2,5 @@
 pub mod Chain
 pub mod Cursor
 pub mod Pass
+pub mod Stage1
 pub mod Walk

@@ -4,5 +4,7 @@ pub use cursor::Spot;
 pub use cursor::first;
 pub use cursor::next;
 pub use cursor::place_at;
+pub use stage1::stage1_components;
 
 mod cursor;
+mod stage1;
