@@ -2,5 +2,6 @@
 pub mod Chain
 pub mod Cursor
 pub mod Pass
+pub mod Sound
 pub mod Stage1
 pub mod Walk
