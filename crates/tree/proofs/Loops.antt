@@ -4,7 +4,7 @@ use Prim.Native.Nat.{_≤_, _<_}
 use native.Mathlib.Numerals.{add-one}
 use native.Mathlib.Omega.{arith}
 use Rattle.def_numbers.specs.Prelude.{ℕ, zero, suc, _+_, _-_, Bool, true, false, _&&_, not, List, eqb}
-use Rattle.def_numbers.specs.Basics.{Result, ok, refused, placed, if_then_else_}
+use Rattle.def_numbers.specs.Basics.{Result, ok, placed, if_then_else_}
 use Rattle.def_image.specs.Image.{counts, componentCount}
 use Rattle.errors.specs.Refused.{resultOf, refusedAs}
 use Rattle.errors.specs.declared.Checked.{Checked}

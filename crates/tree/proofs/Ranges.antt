@@ -1,5 +1,5 @@
 -- A cursor in range or not, the next one, and the component at it, as the code finds them.
-use mathlib.Core.Path.{_≡_, refl, sym, ap, _∙_}
+use mathlib.Core.Path.{_≡_, sym, ap, _∙_}
 use Prim.Native.Nat.{_≤_, _<_}
 use borrow.Author.Tests.{lt-ltb, le-ltb, ltb-true}
 use Rattle.def_numbers.specs.Prelude.{ℕ, _+_, _*_, _^_, Bool, true, false, _&&_, List, ltb}

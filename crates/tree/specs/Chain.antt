@@ -1,6 +1,6 @@
 -- Things one after the other, each at a number and at two places that advance by what it takes: laws over any such list.
 use mathlib.Core.Path.{_≡_, refl, sym, ap, _∙_}
-use native.Mathlib.Nat.{zero-add, add-zero, add-suc, suc-add, add-assoc}
+use native.Mathlib.Nat.{zero-add, add-zero, suc-add, add-assoc}
 use native.Mathlib.Omega.{arith}
 use Rattle.def_numbers.specs.Prelude.{ℕ, zero, suc, _+_, _-_, List, [], _∷_, _++_, length, take, drop}
 use Rattle.def_numbers.specs.Basics.{sum, tab}

@@ -1,12 +1,10 @@
 -- A cursor over the components of an image, and the component at it as the definition's.
-use mathlib.Core.Path.{_≡_, refl, sym, _∙_}
+use mathlib.Core.Path.{_≡_, refl, _∙_}
 use Prim.Native.Nat.{_<_}
 use native.Mathlib.Numerals.{add-one}
-use Rattle.def_numbers.specs.Prelude.{ℕ, suc, _+_, _^_, Bool, true, _&&_, List, [], _∷_, ltb}
+use Rattle.def_numbers.specs.Prelude.{ℕ, suc, _+_, _^_, Bool, true, _&&_, List, _∷_, ltb}
 use Rattle.def_numbers.specs.Basics.{if_then_else_}
 use Rattle.def_image.specs.Image.{tables, startAt, recordCount, literalWidth, bytesFor, Placed, Unparsed, componentsFrom}
-use Rattle.items.specs.declared.Run.{Run}
-use Rattle.component.specs.declared.places.Place.{Place}
 use Rattle.component.specs.Places.{unparsedOf}
 use Rattle.tree.specs.declared.cursor.Cursor.{Cursor}
 use Rattle.tree.specs.declared.cursor.Spot.{Spot}

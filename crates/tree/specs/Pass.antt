@@ -3,9 +3,9 @@ use mathlib.Core.Path.{_≡_, refl, sym, ap, _∙_}
 use Prim.Native.Nat.{_≤_, _<_}
 use native.Mathlib.Nat.{zero-add, suc-add}
 use native.Mathlib.Omega.{arith}
-use Rattle.def_numbers.specs.Prelude.{ℕ, zero, suc, _+_, _-_, Bool, true, false, _&&_, List, [], _∷_, take, drop, eqb}
-use Rattle.def_numbers.specs.Basics.{Result, ok, refused, _>>=_, placed, isEmpty, tab}
-use Rattle.def_image.specs.Image.{Placed, Unparsed, componentsFrom, parts}
+use Rattle.def_numbers.specs.Prelude.{ℕ, zero, suc, _+_, _-_, Bool, true, _&&_, List, drop, eqb}
+use Rattle.def_numbers.specs.Basics.{Result, ok, refused, _>>=_, placed, tab}
+use Rattle.def_image.specs.Image.{Placed, Unparsed, parts}
 use Rattle.def_stages.specs.Component.{eachIn, each}
 use Rattle.tree.specs.declared.cursor.Cursor.{Cursor}
 use Rattle.tree.specs.Chain.{atMost}

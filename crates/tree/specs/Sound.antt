@@ -1,11 +1,11 @@
 -- An image within document 01's limits has every component in range and in reach.
-use mathlib.Core.Path.{_≡_, refl, sym, ap, _∙_}
+use mathlib.Core.Path.{_≡_, ap, _∙_}
 use Prim.Native.Nat.{_≤_, _<_}
 use native.Mathlib.Nat.{zero-add, add-zero, add-assoc}
 use native.Mathlib.Numerals.{add-one}
 use native.Mathlib.Omega.{arith}
 use borrow.Author.Tests.{lt-ltb}
-use Rattle.def_numbers.specs.Prelude.{ℕ, zero, suc, _+_, _-_, _*_, _^_, Bool, true, List}
+use Rattle.def_numbers.specs.Prelude.{ℕ, zero, suc, _+_, _-_, _*_, _^_, true, List}
 use Rattle.def_numbers.specs.Basics.{sum, tab}
 use Rattle.def_image.specs.Image.{counts, tables, startAt}
 use Rattle.laws.specs.Lists.{sum-tab-add}

@@ -1,7 +1,7 @@
 -- Stage 1 of every component in order, as the code walks them.
-use mathlib.Core.Path.{_≡_, refl, ap, _∙_}
+use mathlib.Core.Path.{_≡_, refl}
 use Prim.Native.Nat.{_<_}
-use Rattle.def_numbers.specs.Prelude.{ℕ, zero, suc, _+_, _-_, Bool, true, false, _&&_, List, eqb}
+use Rattle.def_numbers.specs.Prelude.{ℕ, suc, _-_, Bool, true, _&&_, List, eqb}
 use Rattle.def_numbers.specs.Basics.{Result, ok, refused, _>>=_, placed}
 use Rattle.def_image.specs.Image.{counts, componentCount, Placed, treeOf}
 use Rattle.def_stages.specs.Component.{stage1Component, keepBase, each}
@@ -9,7 +9,7 @@ use Rattle.component.specs.Places.{unparsedIn, unparsed-in, reachable}
 use Rattle.tree.specs.declared.cursor.Cursor.{Cursor}
 use Rattle.tree.specs.Chain.{atMost}
 use Rattle.tree.specs.Cursor.{firstIn, inRange, nextIn, spotIn, placedOf}
-use Rattle.tree.specs.Pass.{passed, andThen, advance, passIn, passAll, Right, pass-all}
+use Rattle.tree.specs.Pass.{passed, andThen, advance, passIn, passAll, pass-all}
 
 -- of the component at a cursor; one out of range or out of reach has no records, so it is refused by 11
 unfoldable pub stage1At : List ℕ → Bool → Cursor → Result Unit
