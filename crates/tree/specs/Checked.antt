@@ -2,7 +2,7 @@
 use mathlib.Core.Path.{_≡_, refl, sym}
 use Prim.Native.Nat.{_≤_, _<_}
 use native.Mathlib.Omega.{arith}
-use Rattle.def_numbers.specs.Prelude.{ℕ, zero, suc, _+_, _*_, _^_, Bool, true, _&&_, List, map, getD, leb, eqb}
+use Rattle.def_numbers.specs.Prelude.{ℕ, zero, suc, _+_, _*_, _^_, Bool, true, _&&_, List, [], _∷_, map, getD, leb, eqb}
 use Rattle.def_numbers.specs.Basics.{within, sum, all, tab}
 use Rattle.def_numbers.specs.Limits.{limits}
 use Rattle.def_image.specs.Image.{bytesFor, counts, startAt, componentCount, recordCount, literalWidth, treeOf}
@@ -57,3 +57,15 @@ module _ (image : List ℕ) (bytes : (i : ℕ) → getD image i 0 < 256) (c : co
   -- stage 1 of the whole image is then the definition's
   pub stage1-checked : stage1All image ≡ passed (each (keepBase stage1Component) 0 (treeOf image))
   stage1-checked = stage1-tree image (limited-sound image checked-limited)
+
+-- such an image: one component, the character `a`
+abbrev pub example : List ℕ
+example =
+    1 ∷ 0 ∷ 0 ∷ 0 ∷ 1 ∷ 0 ∷ 0 ∷ 0 ∷ 1 ∷ 0 ∷ 0 ∷ 0 ∷ 1 ∷ 0 ∷ 0 ∷ 0 ∷ 0 ∷ 0 ∷ 0 ∷ 0 ∷
+    40 ∷ 0 ∷ 0 ∷ 0 ∷ 44 ∷ 0 ∷ 0 ∷ 0 ∷ 52 ∷ 0 ∷ 0 ∷ 0 ∷ 64 ∷ 0 ∷ 0 ∷ 0 ∷ 65 ∷ 0 ∷ 0 ∷ 0 ∷
+    1 ∷ 0 ∷ 0 ∷ 0 ∷ 1 ∷ 0 ∷ 0 ∷ 0 ∷ 0 ∷ 0 ∷ 0 ∷ 0 ∷ 0 ∷ 0 ∷ 0 ∷ 0 ∷ 0 ∷ 0 ∷ 0 ∷ 0 ∷
+    1 ∷ 0 ∷ 0 ∷ 0 ∷ 97 ∷ []
+
+pub example-right : (countsRight example ≡ true) × (entriesRight example ≡ true)
+unfolding sum all tab sparesZero
+example-right = (refl, refl)
