@@ -1,0 +1,8 @@
+-- Where each component of an image stands, and the walk over all of them in order.
+pub mod Chain
+pub mod Checked
+pub mod Cursor
+pub mod Pass
+pub mod Sound
+pub mod Stage1
+pub mod Walk
