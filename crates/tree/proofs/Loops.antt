@@ -4,18 +4,20 @@ use Prim.Native.Nat.{_≤_, _<_}
 use native.Mathlib.Numerals.{add-one}
 use native.Mathlib.Omega.{arith}
 use Rattle.def_numbers.specs.Prelude.{ℕ, zero, suc, _+_, _-_, Bool, true, false, _&&_, not, List, eqb}
-use Rattle.def_numbers.specs.Basics.{Result, ok, placed, if_then_else_}
+use Rattle.def_numbers.specs.Basics.{Result, ok, _>>=_, placed, if_then_else_}
 use Rattle.def_image.specs.Image.{counts, componentCount}
 use Rattle.errors.specs.Refused.{resultOf, refusedAs}
 use Rattle.errors.specs.declared.Checked.{Checked}
 use Rattle.errors.specs.declared.Checked.the-variants as C
 use Rattle.errors.specs.declared.Refusal.{Refusal}
-use Rattle.def_stages.specs.Component.{stage1Component}
+use Rattle.def_stages.specs.Component.{stage1Component, simplify}
+use Rattle.def_stages.specs.Component as Def
 use Rattle.laws.specs.Tests.{eqb-false}
 use Rattle.token_tree.specs.Tables.{countsOf}
 use Rattle.token_tree.specs.declared.Counts.{Counts}
 use Rattle.component.specs.Places.{unparsedIn}
-use Rattle.component.specs.Values.{resultIn}
+use Rattle.component.specs.Values.{resultIn, componentOf}
+use Rattle.component.specs.declared.places.Place.{Place}
 use Rattle.component.specs.declared.values.Component.{Component}
 use Rattle.component.specs.declared.values.ComponentResult.{ComponentResult}
 use Rattle.component.specs.declared.values.ComponentResult.the-variants as R
@@ -121,3 +123,11 @@ stops false total here rest answer n e h = sym (e ∙ h)
 pub goes-on : (b : Bool) (total here rest answer : Result Unit) → not b ≡ false → total ≡ here → here ≡ (if b then rest else answer) → total ≡ rest
 goes-on true total here rest answer n e h = e ∙ h
 goes-on false total here rest answer n e h = cc
+
+-- stage 1, and stage 2 of what it leaves
+module _ (image : List ℕ) (place : Place) (u : Result Def.Component) (s : ComponentResult) (e : resultIn image place s ≡ u) where
+  pub then-ok : (x : Component) (m : Result Def.Component) → s ≡ R.Ok x → m ≡ simplify (componentOf image place x) → m ≡ (u >>= simplify)
+  then-ok x m o h = rw (← e, o) h
+
+  pub then-refused : (q : Refusal) → s ≡ R.Refused q → refusedAs q ≡ (u >>= simplify)
+  then-refused q o = rw (← e, o)

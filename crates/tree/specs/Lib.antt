@@ -3,6 +3,7 @@ pub mod Chain
 pub mod Checked
 pub mod Cursor
 pub mod Pass
+pub mod Read
 pub mod Sound
 pub mod Stage1
 pub mod Walk

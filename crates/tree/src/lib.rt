@@ -4,7 +4,9 @@ pub use cursor::Spot;
 pub use cursor::first;
 pub use cursor::next;
 pub use cursor::place_at;
+pub use read::stage2_component;
 pub use stage1::stage1_components;
 
 mod cursor;
+mod read;
 mod stage1;
