@@ -1,0 +1,2 @@
+-- Stage 3 of a concatenation: what is found of it.
+pub mod Check

@@ -1,0 +1,2 @@
+-- Stage 5: the merged components of a concatenation, written into the answer area.
+pub mod Put

@@ -1,0 +1,2 @@
+-- The stages in turn, with stages 1 and 2 of each component in one go.
+pub mod Statement
