@@ -1,3 +1,4 @@
 -- Every refusal of the whole run has a number of document 01's table and places within the limits of an image.
+pub mod Component
 pub mod Ends
 pub mod Statement
