@@ -91,6 +91,10 @@ module _ {A : Type 0} {P : A → Type 0} where
 pub fine : {A : Type 0} (a : A) → Fine (ok a)
 fine a = answers tt
 
+pub less : {A : Type 0} {P : A → Type 0} {m : Result A} → Ends P m → Fine m
+less (answers h) = answers tt
+less (refuses h) = refuses h
+
 pub refuse-fine : (A : Type 0) (r : Reason) → Fine (refuse {A = A} r)
 refuse-fine A r = refuse-ends (λ (a : A). Unit) r
 

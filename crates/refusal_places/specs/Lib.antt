@@ -1,4 +1,7 @@
 -- Every refusal of the whole run has a number of document 01's table and places within the limits of an image.
 pub mod Component
+pub mod Concatenation
 pub mod Ends
+pub mod Overall
 pub mod Statement
+pub mod Tree
