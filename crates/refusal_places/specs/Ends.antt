@@ -91,6 +91,11 @@ module _ {A : Type 0} {P : A → Type 0} where
 pub fine : {A : Type 0} (a : A) → Fine (ok a)
 fine a = answers tt
 
+-- what is known whatever the answer is
+pub known : {A : Type 0} {P : Type 0} {m : Result A} → P → Fine m → Ends (λ _. P) m
+known p (answers h) = answers p
+known p (refuses h) = refuses h
+
 pub less : {A : Type 0} {P : A → Type 0} {m : Result A} → Ends P m → Fine m
 less (answers h) = answers tt
 less (refuses h) = refuses h
