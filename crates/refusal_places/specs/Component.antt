@@ -1,14 +1,14 @@
 -- Stages 1 and 2 of one component refuse with a number of the table; their places are 0 and 0 until the tree gives them.
 use Prim.Native.Nat.{ℕ, suc, _+_, _-_}
 use Rattle.def_numbers.specs.Prelude.{Bool, true, false, _&&_, _||_, not, Option, none, some, List, [], _∷_, length, take, drop, eqb, ℤ, pos, _+ℤ_, _-ℤ_, ltZ, leZ, nonNeg}
-use Rattle.def_numbers.specs.Basics.{Result, ok, _>>=_, if_then_else_, isEmpty}
+use Rattle.def_numbers.specs.Basics.{ok, _>>=_, if_then_else_, isEmpty}
 use Rattle.def_numbers.specs.Numbers.{narrow, tryParse, char}
 use Rattle.def_numbers.specs.Refusals.{Reason, need, empty-range, second-dots, three-dots, not-one-token, bound-overflow, nothing-before-range, no-literal, overflow, negative-bound, reversed, zero-width, start-above-width, end-above-width, range-above-width, end-zero, open-start}
 use Rattle.def_image.specs.Image.{Unparsed, kinds}
 use Rattle.def_stages.specs.Text.{Part, noText, Item, items, isGroup, isToken, partOf}
-use Rattle.def_stages.specs.Ranges.{Usb, Usbr, Cut, Scan, withX, numberIn, side, joinSides, cutBound, readBound, parseUsb, find, scanStep, scanFrom, scan, parseStart, parseEnd, parseRange, singleBit, unbounded}
+use Rattle.def_stages.specs.Ranges.{Usb, Usbr, Cut, Scan, withX, numberIn, side, joinSides, cutBound, readBound, parseUsb, find, scanStep, scanFrom, parseStart, parseEnd, parseRange, unbounded}
 use Rattle.def_stages.specs.Component.{Component, ComponentType, literal, variable, filler, isLiteral, typed, parseComponent, splitOf, middle, stage1Component, simplifyUsb, simplifyEnd, ifStatic, ifStaticEnd, ifKnown, simplifyRange, withEnd, simplifyLiteral, isZero, hasEnd, simplify}
-use Rattle.refusal_places.specs.Ends.{Ends, Fine, fine, refuse-fine, need-ends, next-ends, if-ends, test-ends, option-ends}
+use Rattle.refusal_places.specs.Ends.{Fine, fine, refuse-fine, need-ends, next-ends, if-ends, test-ends, option-ends}
 
 -- ---- ranges
 
@@ -119,10 +119,10 @@ unfolding simplify
 simplify-fine c = next-ends (simplifyRange-fine (c .range)) (of-type (c .c-type))
   where
     of-type : (t : ComponentType) (r : Usbr) → Fine {A = Component} (elim t [
-        | literal bits ↦ simplifyLiteral bits r
-        | variable p ↦ ok (record { c-type = variable p; range = r })
-        | filler ↦ (need (isZero (r .start) || hasEnd r) open-start >>= λ _. ok (record { c-type = filler; range = r }))
-      ])
+      | literal bits ↦ simplifyLiteral bits r
+      | variable p ↦ ok (record { c-type = variable p; range = r })
+      | filler ↦ (need (isZero (r .start) || hasEnd r) open-start >>= λ _. ok (record { c-type = filler; range = r }))
+    ])
     of-type (literal bits) r = simplifyLiteral-fine bits r
     of-type (variable p) r = fine _
     of-type filler r = next-ends (need-ends (isZero (r .start) || hasEnd r) open-start) (λ _. fine _)

@@ -1,9 +1,8 @@
 -- Stage 3 over a tree within the limits: its refusals have places of the tree, and each concatenation keeps its components.
-use mathlib.Core.Path.{_≡_, refl}
 use Prim.Native.Nat.{ℕ, suc, _+_, _^_, _≤_, _<_}
 use native.Mathlib.Omega.{arith}
 use Rattle.def_numbers.specs.Prelude.{Bool, true, false, _&&_, not, none, some, List, [], _∷_, map, length, ltb, eqb, natAbs}
-use Rattle.def_numbers.specs.Basics.{Result, ok, isEmpty}
+use Rattle.def_numbers.specs.Basics.{isEmpty}
 use Rattle.def_numbers.specs.Limits.{limits}
 use Rattle.def_numbers.specs.Refusals.{literal-in-sink, lone-filler-sink, second-filler, zero-total-width, sum-overflow}
 use Rattle.def_image.specs.Image.{Placed}

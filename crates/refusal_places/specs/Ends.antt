@@ -11,7 +11,7 @@ use Rattle.def_numbers.specs.Refusals.{Reason, mode-above-2, short-image, bad-c
 abbrev pub Told : ℕ → ℕ → ℕ → Type 0
 Told n i k = (n ≤ 45) × (1 ≤ n) × (i < limits .concatenations) × (k < limits .components)
 
--- an answer of which P holds, or a refusal that is told so
+-- an answer of which P holds, or a refusal with such a number and such places
 pub data Ends {A : Type 0} (P : A → Type 0) : Result A → Type 0 where
   answers : {a : A} → P a → Ends P (ok a)
   refuses : {n i k : ℕ} → Told n i k → Ends P (refused n i k)
@@ -96,6 +96,7 @@ pub known : {A : Type 0} {P : Type 0} {m : Result A} → P → Fine m → Ends (
 known p (answers h) = answers p
 known p (refuses h) = refuses h
 
+-- what is known of the answer is left out
 pub less : {A : Type 0} {P : A → Type 0} {m : Result A} → Ends P m → Fine m
 less (answers h) = answers tt
 less (refuses h) = refuses h

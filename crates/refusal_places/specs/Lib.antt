@@ -7,3 +7,4 @@ pub mod Overall
 pub mod Run
 pub mod Statement
 pub mod Tree
+pub mod Witness
