@@ -1,5 +1,5 @@
 -- Merging makes nothing heavier, and so the answer of a tree weighs no more than the tree.
-use mathlib.Core.Path.{_≡_, refl, sym, ap, _∙_}
+use mathlib.Core.Path.{_≡_, sym, ap, _∙_}
 use Prim.Native.Nat.{_≤_}
 use native.Mathlib.Nat.{le-refl, le-trans}
 use native.Mathlib.Omega.{arith}
@@ -10,7 +10,7 @@ use Rattle.def_image.specs.Image.{Unparsed, Placed}
 use Rattle.def_stages.specs.Component.{Component}
 use Rattle.def_stages.specs.Concatenation.{Concatenation, isStaticLiteral, bitsOf, fixedLiteral, mergeOnto, merge, merged}
 use Rattle.def_stages.specs.Overall.{stage4}
-use Rattle.def_run.specs.Answer.{Answer, components}
+use Rattle.def_run.specs.Answer.{components}
 use Rattle.def_run.specs.Run.{stages}
 use Rattle.answer_read.specs.Facts.{Yields, given, Every, after, bound}
 use Rattle.answer_read.specs.Trees.{total, total-append, stage3-comps, merged-comps}

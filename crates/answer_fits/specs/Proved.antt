@@ -1,21 +1,19 @@
 -- An answer of a checked image fits the area, and stages 1 and 2 leave every component of one fixed.
-use mathlib.Core.Path.{_≡_, refl, sym, ap, _∙_}
+use mathlib.Core.Path.{_≡_, refl, ap, _∙_}
 use mathlib.Core.Bool.{false≢true}
 use mathlib.Core.List.{map-map}
 use Prim.Native.Nat.{_≤_}
 use native.Mathlib.Nat.{le-refl}
 use native.Mathlib.Omega.{arith}
 use lib.ListN.{length-append}
-use Rattle.def_numbers.specs.Prelude.{ℕ, suc, _+_, _*_, Bool, true, List, [], _∷_, _++_, map, length}
-use Rattle.def_numbers.specs.Basics.{ok, _>>=_, sum, joined}
+use Rattle.def_numbers.specs.Prelude.{ℕ, _+_, _*_, Bool, true, List, [], _∷_, map, length}
+use Rattle.def_numbers.specs.Basics.{_>>=_, sum, joined}
 use Rattle.def_numbers.specs.Limits.{sizes}
 use Rattle.def_image.specs.Image.{Unparsed, Placed, bytesFor, counts, treeOf}
-use Rattle.def_image.specs.Check.{checkImage}
 use Rattle.def_stages.specs.Ranges.{Usbr}
 use Rattle.def_stages.specs.Component.{Component, ComponentType, literal, variable, filler, keepBase, stage1Component, simplify}
 use Rattle.def_stages.specs.Concatenation.{isStaticLiteral, bitsOf, fixedLiteral}
-use Rattle.def_run.specs.Answer.{Answer, components, headBytes, concatenationBytes, componentsBytes, literalBytes, answerBytes}
-use Rattle.def_run.specs.Run.{stages}
+use Rattle.def_run.specs.Answer.{Answer, components, concatenationBytes, literalBytes, answerBytes}
 use Rattle.laws.specs.Lists.{length-joined}
 use Rattle.prepared.specs.Bits.{length-packed}
 use Rattle.prepared.specs.Tables.{length-rows}
@@ -27,7 +25,7 @@ use Rattle.answer_fits.specs.Fixed.{Fixed, AllFixed, none-left, one-more
 use Rattle.answer_fits.specs.Statement.{literalsOf, Fits, AnswerFits, ReadFixed}
 use Rattle.answer_fits.specs.Kept.{Short, stage1-kept}
 use Rattle.answer_fits.specs.Normal.{Normal, upTo, simplify-normal}
-use Rattle.answer_fits.specs.Staged.{ShortBefore, weightBefore, weight}
+use Rattle.answer_fits.specs.Staged.{ShortBefore, weight}
 use Rattle.answer_fits.specs.Merged.{stages-light}
 use Rattle.answer_fits.specs.Trees.{Counted, tree-counted}
 

@@ -1,9 +1,8 @@
 -- The tree of an image that passes the check: as many concatenations, components and literal bytes as the header says, and short literals.
-use mathlib.Core.Path.{_≡_, refl, sym, ap, ap₂, _∙_}
+use mathlib.Core.Path.{_≡_, refl, ap, ap₂, _∙_}
 use Prim.Native.Nat.{_≤_}
-use native.Mathlib.Nat.{le-refl}
 use native.Mathlib.Omega.{arith}
-use Rattle.def_numbers.specs.Prelude.{ℕ, zero, suc, _+_, _/_, _%_, _^_, true, List, [], _∷_, map, length, getD, drop, leb, ltb}
+use Rattle.def_numbers.specs.Prelude.{ℕ, zero, suc, _+_, _/_, _%_, _^_, true, List, map, length, getD, drop, leb, ltb}
 use Rattle.def_numbers.specs.Basics.{ok, sum, all, joined, tab}
 use Rattle.def_numbers.specs.Limits.{limits}
 use Rattle.def_image.specs.Image.{Unparsed, Placed, bytesFor, bitsAt, counts, tables, componentCount, recordCount, literalWidth, componentsFrom, parts, treeOf}

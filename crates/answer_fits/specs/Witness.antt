@@ -1,7 +1,7 @@
 -- Document 01's worked example meets the premises of `answer-fits` and `read-fixed`: its two literals merge, so it has fewer components
 -- and literal bytes after merging than before.
 use mathlib.Core.Path.{_≡_, refl}
-use Rattle.def_numbers.specs.Prelude.{ℕ, List, [], _∷_, length}
+use Rattle.def_numbers.specs.Prelude.{List, [], _∷_, length}
 use Rattle.def_numbers.specs.Basics.{ok, _>>=_, joined}
 use Rattle.def_image.specs.Image.{Placed, treeOf}
 use Rattle.def_image.specs.Check.{checkImage}

@@ -1,12 +1,11 @@
 -- The stages of a whole tree: every component after stage 2 is normal, and the answer's components are the merged concatenations'.
 use mathlib.Core.Path.{_≡_, ap, _∙_}
 use native.Mathlib.Nat.{le-refl}
-use Rattle.def_numbers.specs.Prelude.{ℕ, Bool, true, false, none, some, List, [], _∷_, map}
-use Rattle.def_numbers.specs.Basics.{Result, all, joined}
-use Rattle.def_image.specs.Image.{Unparsed, Placed}
+use Rattle.def_numbers.specs.Prelude.{ℕ, true, false, none, some, List, [], _∷_, map}
+use Rattle.def_numbers.specs.Basics.{all, joined}
 use Rattle.def_image.specs.Tree.{Node, Tree, soundNode, fits}
-use Rattle.def_stages.specs.Component.{Component, Parsed, startingValue, source, keepBase, stage1Component, stage1, stage2, simplify}
-use Rattle.def_stages.specs.Concatenation.{bitsOf, merge}
+use Rattle.def_stages.specs.Component.{Parsed}
+use Rattle.def_stages.specs.Concatenation.{merge}
 use Rattle.def_stages.specs.Overall.{stage4}
 use Rattle.def_run.specs.Answer.{components}
 use Rattle.cut_component.specs.Statement.{bare}
