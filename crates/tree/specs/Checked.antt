@@ -12,7 +12,7 @@ use Rattle.laws.specs.Tests.{tested}
 use Rattle.tree.specs.Walk.{recordsOf, literalOf}
 use Rattle.tree.specs.Sound.{Limited, limited-sound}
 use Rattle.tree.specs.Pass.{passed}
-use Rattle.tree.specs.Stage1.{stage1All, stage1-tree}
+use Rattle.tree.specs.Stages.{stage1All, stage1-tree}
 
 counts-facts : (c n r t b : ℕ) → (within 1 16 c && within 1 256 n && within 1 2048 r && within 1 16384 t && leb b 8192) ≡ true
     → (c ≤ 16) × (n ≤ 256) × (r ≤ 2048) × (b ≤ 8192)

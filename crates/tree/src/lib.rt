@@ -4,9 +4,10 @@ pub use cursor::Spot;
 pub use cursor::first;
 pub use cursor::next;
 pub use cursor::place_at;
+pub use passes::stage1_components;
+pub use passes::stage2_components;
 pub use read::stage2_component;
-pub use stage1::stage1_components;
 
 mod cursor;
+mod passes;
 mod read;
-mod stage1;
