@@ -7,4 +7,5 @@ pub mod Read
 pub mod ReadTree
 pub mod Sound
 pub mod Stages
+pub mod Start
 pub mod Walk

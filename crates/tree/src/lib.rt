@@ -7,7 +7,10 @@ pub use cursor::place_at;
 pub use passes::stage1_components;
 pub use passes::stage2_components;
 pub use read::stage2_component;
+pub use start::Start;
+pub use start::starting_value;
 
 mod cursor;
 mod passes;
 mod read;
+mod start;
