@@ -1,9 +1,8 @@
 -- The ways to a starting value.
 use mathlib.Core.Path.{_≡_, sym, ap, _∙_}
-use Rattle.def_numbers.specs.Prelude.{ℕ, zero, suc, _-_, Bool, false, Option, none, some, List, [], _∷_, eqb}
-use Rattle.def_numbers.specs.Basics.{Result, ok, if_then_else_}
-use Rattle.def_image.specs.Image.{Placed, counts, componentCount}
-use Rattle.def_stages.specs.Text as Text
+use Rattle.def_numbers.specs.Prelude.{ℕ, _-_, none, some, List, [], _∷_}
+use Rattle.def_numbers.specs.Basics.{ok}
+use Rattle.def_image.specs.Image.{counts, componentCount}
 use Rattle.def_stages.specs.Component.{startingValue}
 use Rattle.errors.specs.Refused.{refusedAs}
 use Rattle.errors.specs.declared.Refusal.{Refusal}

@@ -4,7 +4,7 @@ use Prim.Native.Nat.{_≤_, _<_}
 use native.Mathlib.Omega.{arith}
 use borrow.Author.Tests.{ltb-true}
 use Rattle.def_numbers.specs.Prelude.{ℕ, zero, suc, _+_, _*_, _^_, Bool, true, _&&_, List, [], _∷_, map, length, getD, leb, ltb, eqb}
-use Rattle.def_numbers.specs.Basics.{Result, ok, within, sum, all, tab}
+use Rattle.def_numbers.specs.Basics.{ok, within, sum, all, tab}
 use Rattle.def_numbers.specs.Limits.{limits}
 use Rattle.def_numbers.specs.Refusals.{short-image, bad-count, bad-offset, bad-entry}
 use Rattle.def_image.specs.Image.{bytesFor, counts, startAt, componentCount, recordCount, literalWidth, treeOf}

@@ -3,16 +3,15 @@ use mathlib.Core.Path.{_≡_, refl, sym, ap, _∙_}
 use Prim.Native.Nat.{_≤_, _<_}
 use native.Mathlib.Nat.{zero-add, add-zero}
 use native.Mathlib.Omega.{arith}
-use Rattle.def_numbers.specs.Prelude.{ℕ, zero, suc, _+_, _-_, Bool, true, _&&_, Option, none, List, [], _∷_, eqb}
-use Rattle.def_numbers.specs.Basics.{Result, ok, placed, if_then_else_, tab}
-use Rattle.def_image.specs.Image.{Unparsed, Placed, counts, componentCount, componentsFrom, parts, treeOf}
-use Rattle.def_stages.specs.Text.{Part}
+use Rattle.def_numbers.specs.Prelude.{ℕ, zero, suc, _+_, _-_, true, _&&_, none, List, [], _∷_, eqb}
+use Rattle.def_numbers.specs.Basics.{ok, placed, if_then_else_, tab}
+use Rattle.def_image.specs.Image.{counts, componentCount, parts, treeOf}
 use Rattle.def_stages.specs.Component.{keepBase, each, startingValue, source}
 use Rattle.laws.specs.Tests.{eqb-false}
 use Rattle.component.specs.Places.{reachable}
 use Rattle.tree.specs.declared.cursor.Cursor.{Cursor}
 use Rattle.tree.specs.Chain.{atMost}
-use Rattle.tree.specs.Walk.{components-none, components-take, parts-head, oneThen, firstThen}
+use Rattle.tree.specs.Walk.{components-none, parts-head, oneThen, firstThen}
 use Rattle.tree.specs.Cursor.{firstIn, nextIn, spotIn, placedOf, componentsAt, cursor-head}
 use Rattle.tree.specs.Pass.{advance, at-most, walkIn, walkAll, Along, InRange, along-first, along-rest}
 use Rattle.tree.specs.Read.{stage2Component, unparsedAt, readAt, readIn, readFrom, readAll, startAll}

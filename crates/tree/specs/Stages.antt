@@ -1,8 +1,8 @@
 -- Stage 1, or stages 1 and 2, of every component in order, as the code walks them.
-use mathlib.Core.Path.{_≡_, refl, sym, ap, _∙_}
+use mathlib.Core.Path.{_≡_, refl, ap}
 use Prim.Native.Nat.{_<_}
-use Rattle.def_numbers.specs.Prelude.{ℕ, suc, _-_, Bool, true, false, _&&_, List, [], eqb}
-use Rattle.def_numbers.specs.Basics.{Result, ok, _>>=_, placed}
+use Rattle.def_numbers.specs.Prelude.{ℕ, suc, _-_, Bool, true, false, _&&_, List, eqb}
+use Rattle.def_numbers.specs.Basics.{Result, ok, placed}
 use Rattle.def_image.specs.Image.{counts, componentCount, Unparsed, Placed, treeOf}
 use Rattle.def_stages.specs.Component.{Component, stage1Component, keepBase, each}
 use Rattle.component.specs.Places.{unparsed-in, reachable}

@@ -18,12 +18,13 @@ returns-2 c =
     let h = c .before .before .before .before .before .before .before .before .before .counts-of in
     let k = c .before .before .before .before .before .before .before .before .component-count in
     let s = c .before .before .before .before .before .before .before .at-most in
+    let f = c .before .before .before .before .before .first in
+    let d = c .before .before .before .before .advanced in
     let p = c .before .before .before .place-at in
     let r = c .before .before .starting-value in
     let v = c .enum-told .given in
     start-none (a .image .now) (s .result) (size-is (a .image .now) (h .result) (k .result) (s .result) (h .ensures) (k .ensures) (s .ensures .0))
-    (c .before .before .before .before .before .first .result) (c .before .before .before .before .advanced .result) (p .result) (c .before .before .before .before .before .first .ensures) (c .before .before .before .before .advanced .ensures) (p .ensures)
-    (c .before .before .before .before .before .before .if1 .left) (r .result) (r .ensures) (v .1)
+    (f .result) (d .result) (p .result) (f .ensures) (d .ensures) (p .ensures) (c .before .before .before .before .before .before .if1 .left) (r .result) (r .ensures) (v .1)
 
 returns-3 : tie.Need-returns-3
 returns-3 c =
@@ -31,12 +32,13 @@ returns-3 c =
     let h = c .before .before .before .before .before .before .before .before .before .before .counts-of in
     let k = c .before .before .before .before .before .before .before .before .before .component-count in
     let s = c .before .before .before .before .before .before .before .before .at-most in
+    let f = c .before .before .before .before .before .before .first in
+    let d = c .before .before .before .before .before .advanced in
     let p = c .before .before .before .before .place-at in
     let r = c .before .before .before .starting-value in
     let v = c .before .found .given in
     start-given (a .image .now) (s .result) (size-is (a .image .now) (h .result) (k .result) (s .result) (h .ensures) (k .ensures) (s .ensures .0))
-    (c .before .before .before .before .before .before .first .result) (c .before .before .before .before .before .advanced .result) (p .result) (c .before .before .before .before .before .before .first .ensures) (c .before .before .before .before .before .advanced .ensures) (p .ensures)
-    (c .before .before .before .before .before .before .before .if1 .left) (r .result) (r .ensures) (v .0 .0) (v .1)
+    (f .result) (d .result) (p .result) (f .ensures) (d .ensures) (p .ensures) (c .before .before .before .before .before .before .before .if1 .left) (r .result) (r .ensures) (v .0 .0) (v .1)
 
 returns-4 : tie.Need-returns-4
 returns-4 c =
@@ -44,12 +46,13 @@ returns-4 c =
     let h = c .before .before .before .before .before .before .before .before .before .before .counts-of in
     let k = c .before .before .before .before .before .before .before .before .before .component-count in
     let s = c .before .before .before .before .before .before .before .before .at-most in
+    let f = c .before .before .before .before .before .before .first in
+    let d = c .before .before .before .before .before .advanced in
     let p = c .before .before .before .before .place-at in
     let r = c .before .before .before .starting-value in
     let v = c .before .found2 .given in
     start-refused (a .image .now) (s .result) (size-is (a .image .now) (h .result) (k .result) (s .result) (h .ensures) (k .ensures) (s .ensures .0))
-    (c .before .before .before .before .before .before .first .result) (c .before .before .before .before .before .advanced .result) (p .result) (c .before .before .before .before .before .before .first .ensures) (c .before .before .before .before .before .advanced .ensures) (p .ensures)
-    (c .before .before .before .before .before .before .before .if1 .left) (r .result) (r .ensures) (v .0 .0) (v .1)
+    (f .result) (d .result) (p .result) (f .ensures) (d .ensures) (p .ensures) (c .before .before .before .before .before .before .before .if1 .left) (r .result) (r .ensures) (v .0 .0) (v .1)
 
 pub starting-value-spec : {M : Type 1} → statement M
 starting-value-spec =
