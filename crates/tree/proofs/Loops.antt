@@ -26,9 +26,9 @@ use Rattle.tree.specs.declared.cursor.Spot.{Spot}
 use Rattle.tree.specs.Chain.{atMost}
 use Rattle.tree.specs.Cursor.{firstIn, nextIn, spotIn}
 use Rattle.tree.specs.Pass.{passed, andThen, passed-map, passed-placed, advance}
-use Rattle.tree.specs.Read.{stage2Component}
+use Rattle.tree.specs.Read.{stage2Component, readAll}
 use Rattle.tree.specs.ReadTree.{read-walk}
-use Rattle.tree.specs.Stages.{stageBy, stageAt, stageOf, stageIn, stageFrom, stageAll, stage1All, stage2All, in-none, in-step, from-none, from-step}
+use Rattle.tree.specs.Stages.{stageBy, stageAt, stageOf, stageIn, stageFrom, stageAll, stage1All, in-none, in-step, from-none, from-step}
 
 pub most-first : (m n : ℕ) → m < n → m ≡ atMost m n
 unfolding atMost
@@ -131,7 +131,7 @@ module _ (image : List ℕ) (h : Counts) (s : Checked) (e : countsOf h ≡ count
   unfolding stage1All
   first-all r = all-is image false h s e r
 
-  pub second-all : resultOf s ≡ comesFrom image true 0 firstIn (h .n) (h .c) → resultOf s ≡ stage2All image
+  pub second-all : resultOf s ≡ comesFrom image true 0 firstIn (h .n) (h .c) → resultOf s ≡ passed (readAll image)
   second-all r = all-is image true h s e r ∙ ap passed (sym (read-walk image))
 
 -- stage 1, or stages 1 and 2

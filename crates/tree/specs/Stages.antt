@@ -10,7 +10,7 @@ use Rattle.tree.specs.declared.cursor.Cursor.{Cursor}
 use Rattle.tree.specs.Chain.{atMost}
 use Rattle.tree.specs.Cursor.{firstIn, nextIn, spotIn, placedOf}
 use Rattle.tree.specs.Pass.{passed, andThen, passed-one, passed-first, advance, walkIn, walkAll, InRange, walk-all}
-use Rattle.tree.specs.Read.{stage2Component, unparsedAt, readAll}
+use Rattle.tree.specs.Read.{stage2Component, unparsedAt}
 
 -- stage 1 of a component, or both
 abbrev pub stageBy : Bool → Bool → Unparsed → Result Component
@@ -37,12 +37,9 @@ stageFrom image second i c n m = walkAll (stageAt image second) (componentCount 
 unfoldable pub stageAll : List ℕ → Bool → Result (List (List (Placed Component)))
 stageAll image second = stageFrom image second 0 firstIn ((counts image) .n) ((counts image) .c)
 
--- the first refusal of stage 1, and of stages 1 and 2 of each component
+-- the first refusal of stage 1
 unfoldable pub stage1All : List ℕ → Result Unit
 stage1All image = passed (stageAll image false)
-
-abbrev pub stage2All : List ℕ → Result Unit
-stage2All image = passed (readAll image)
 
 module _ (image : List ℕ) (second : Bool) where
   pub in-none : (i j : ℕ) (c : Cursor) → passed (stageIn image second i j c 0) ≡ ok tt

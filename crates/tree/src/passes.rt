@@ -18,7 +18,8 @@ ghost use Rattle.component.specs.Values.{resultIn};
 ghost use Rattle.errors.specs.Refused.{resultOf};
 ghost use Rattle.tree.specs.Cursor.{firstIn};
 ghost use Rattle.tree.specs.Pass.{passed, andThen};
-ghost use Rattle.tree.specs.Stages.{stageBy, stageAt, stageOf, stageIn, stageFrom, stage1All, stage2All};
+ghost use Rattle.tree.specs.Read.{readAll};
+ghost use Rattle.tree.specs.Stages.{stageBy, stageAt, stageOf, stageIn, stageFrom, stage1All};
 
 // Whether a check was passed: then what comes after it is what counts.
 fn passes(s: Checked) -> bool
@@ -62,7 +63,7 @@ fn stage_at(image: &[u8], second: bool, scanned: bool, c: Cursor) -> Checked
 }
 
 // The most significant of concatenation 0 is scanned for a starting value.
-fn is_last(i: u32, m: u32) -> bool
+pub fn is_last(i: u32, m: u32) -> bool
     ensures { λ b. ⌜ b ≡ (eqb i 0 && eqb m 0) ⌝ }
 {
     if i == 0 {
@@ -123,7 +124,7 @@ pub fn stage1_components(image: &[u8]) -> Checked
 }
 
 pub fn stage2_components(image: &[u8]) -> Checked
-    ensures { λ r. ⌜ resultOf r ≡ stage2All (now (image .entry)) ⌝ }
+    ensures { λ r. ⌜ resultOf r ≡ passed (readAll (now (image .entry))) ⌝ }
 {
     let h = token_tree::counts_of(image);
     concatenations(image, true, h.c, h.n)
