@@ -1,7 +1,7 @@
 use borrow.Author.Needs.{needs}
 use Rattle.tree.proofs.Loops.{is-passed, is-refused}
-use Rattle.tree.proofs.stage1.passes.Statement.{statement}
-use Rattle.tree.proofs.stage1.passes.Tie as tie
+use Rattle.tree.proofs.passes.passes.Statement.{statement}
+use Rattle.tree.proofs.passes.passes.Tie as tie
 
 returns : tie.Need-returns
 returns c = is-passed (c .before .before .args .s) (c .enum-told .given .1)

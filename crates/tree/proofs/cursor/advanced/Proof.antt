@@ -4,8 +4,8 @@ use Prim.Native.Nat.{_≤_, _<_, _-_, _+_}
 use native.Mathlib.Omega.{arith}
 use Rattle.tree.specs.Pass.{advance}
 use Rattle.tree.proofs.Loops.{advance-step, advance-none}
-use Rattle.tree.proofs.stage1.advanced.Statement.{statement}
-use Rattle.tree.proofs.stage1.advanced.Tie as tie
+use Rattle.tree.proofs.cursor.advanced.Statement.{statement}
+use Rattle.tree.proofs.cursor.advanced.Tie as tie
 
 abbrev Inv-loop : tie.InvT-loop
 Inv-loop image n at₀ j₀ at j = (j ≤ n) × (advance image at₀ n ≡ advance image at (n - j))

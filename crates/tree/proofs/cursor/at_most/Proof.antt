@@ -1,7 +1,7 @@
 use native.Mathlib.Omega.{arith}
 use Rattle.tree.proofs.Loops.{most-first, most-second}
-use Rattle.tree.proofs.stage1.at_most.Statement.{statement}
-use Rattle.tree.proofs.stage1.at_most.Tie as tie
+use Rattle.tree.proofs.cursor.at_most.Statement.{statement}
+use Rattle.tree.proofs.cursor.at_most.Tie as tie
 
 returns : tie.Need-returns
 returns c = (most-first (c .before .args .m) (c .before .args .n) (c .if1 .taken), omega arith)

@@ -1,20 +1,25 @@
-// Stage 1 of every component in order: the first refusal, with its places.
+// Stage 1, or stages 1 and 2, of every component in order: the first refusal, with its places.
 use super::cursor::Cursor;
+use super::cursor::advanced;
+use super::cursor::at_most;
 use super::cursor::first;
 use super::cursor::next;
 use super::cursor::place_at;
+use super::read::stage2_component;
 use component::ComponentResult;
+use component::Place;
 use errors::Checked;
 ghost use mathlib.Core.Path.{_≡_};
-ghost use Prim.Native.Nat.{_≤_};
 ghost use mathlib.Core.Bool.{_&&_};
 ghost use lib.Dec.{eqb};
 ghost use Rattle.def_numbers.specs.Basics.{Result, placed, if_then_else_};
+ghost use Rattle.component.specs.Places.{unparsedIn};
+ghost use Rattle.component.specs.Values.{resultIn};
 ghost use Rattle.errors.specs.Refused.{resultOf};
-ghost use Rattle.tree.specs.Chain.{atMost};
 ghost use Rattle.tree.specs.Cursor.{firstIn};
-ghost use Rattle.tree.specs.Pass.{advance, andThen};
-ghost use Rattle.tree.specs.Stage1.{stage1At, stage1Of, stage1In, stage1From, stage1All};
+ghost use Rattle.tree.specs.Pass.{passed, andThen};
+ghost use Rattle.tree.specs.Read.{readAll};
+ghost use Rattle.tree.specs.Stages.{stageBy, stageAt, stageOf, stageIn, stageFrom, stage1All};
 
 // Whether a check was passed: then what comes after it is what counts.
 fn passes(s: Checked) -> bool
@@ -35,31 +40,22 @@ fn located(s: Checked, i: u32, j: u32) -> Checked
     }
 }
 
-fn at_most(m: u32, n: u32) -> u32
-    ensures { λ r. ⌜ (r ≡ atMost m n) × (r ≤ n) ⌝ }
+// Stage 1 of a component that no stage has read, or stages 1 and 2.
+fn stage_by(image: &[u8], second: bool, place: Place, scanned: bool) -> ComponentResult
+    ensures { λ r. ⌜ resultIn (now (image .entry)) place r ≡ stageBy second scanned (unparsedIn (now (image .entry)) place) ⌝ }
 {
-    if m < n { m } else { n }
-}
-
-// The cursor after n components.
-fn advanced(image: &[u8], c: Cursor, n: u32) -> Cursor
-    ensures { λ r. ⌜ r ≡ advance (now (image .entry)) c n ⌝ }
-{
-    let mut at = c;
-    let mut j: u32 = 0;
-    while j < n {
-        at = next(image, at);
-        j += 1;
+    if second {
+        return stage2_component(image, place, scanned);
     }
-    at
+    component::stage1_component(image, place, scanned)
 }
 
 // Of the component at a cursor.
-fn stage1_at(image: &[u8], scanned: bool, c: Cursor) -> Checked
-    ensures { λ r. ⌜ resultOf r ≡ stage1At (now (image .entry)) scanned c ⌝ }
+fn stage_at(image: &[u8], second: bool, scanned: bool, c: Cursor) -> Checked
+    ensures { λ r. ⌜ resultOf r ≡ passed (stageAt (now (image .entry)) second scanned c) ⌝ }
 {
     let spot = place_at(image, c);
-    let s = component::stage1_component(image, spot.place, scanned);
+    let s = stage_by(image, second, spot.place, scanned);
     match s {
         ComponentResult::Ok(_) => Checked::Passed,
         ComponentResult::Refused(q) => Checked::Refused(q),
@@ -67,7 +63,7 @@ fn stage1_at(image: &[u8], scanned: bool, c: Cursor) -> Checked
 }
 
 // The most significant of concatenation 0 is scanned for a starting value.
-fn is_last(i: u32, m: u32) -> bool
+pub fn is_last(i: u32, m: u32) -> bool
     ensures { λ b. ⌜ b ≡ (eqb i 0 && eqb m 0) ⌝ }
 {
     if i == 0 {
@@ -77,20 +73,20 @@ fn is_last(i: u32, m: u32) -> bool
 }
 
 // Of component j of concatenation i, where m others of it come after.
-fn stage1_of(image: &[u8], i: u32, j: u32, m: u32, c: Cursor) -> Checked
-    ensures { λ r. ⌜ resultOf r ≡ stage1Of (now (image .entry)) i j m c ⌝ }
+fn stage_of(image: &[u8], second: bool, i: u32, j: u32, m: u32, c: Cursor) -> Checked
+    ensures { λ r. ⌜ resultOf r ≡ passed (stageOf (now (image .entry)) second i j m c) ⌝ }
 {
-    located(stage1_at(image, is_last(i, m), c), i, j)
+    located(stage_at(image, second, is_last(i, m), c), i, j)
 }
 
 // Of the n components of concatenation i.
-fn stage1_in(image: &[u8], i: u32, c: Cursor, n: u32) -> Checked
-    ensures { λ r. ⌜ resultOf r ≡ stage1In (now (image .entry)) i 0 c n ⌝ }
+fn stage_in(image: &[u8], second: bool, i: u32, c: Cursor, n: u32) -> Checked
+    ensures { λ r. ⌜ resultOf r ≡ passed (stageIn (now (image .entry)) second i 0 c n) ⌝ }
 {
     let mut at = c;
     let mut j: u32 = 0;
     while j < n {
-        let s = stage1_of(image, i, j, n - j - 1, at);
+        let s = stage_of(image, second, i, j, n - j - 1, at);
         if !passes(s) {
             return s;
         }
@@ -101,15 +97,15 @@ fn stage1_in(image: &[u8], i: u32, c: Cursor, n: u32) -> Checked
 }
 
 // Of so many concatenations, of n components.
-fn concatenations(image: &[u8], count: u32, n: u32) -> Checked
-    ensures { λ r. ⌜ resultOf r ≡ stage1From (now (image .entry)) 0 firstIn n count ⌝ }
+fn concatenations(image: &[u8], second: bool, count: u32, n: u32) -> Checked
+    ensures { λ r. ⌜ resultOf r ≡ passed (stageFrom (now (image .entry)) second 0 firstIn n count) ⌝ }
 {
     let mut c = first();
     let mut left = n;
     let mut i: u32 = 0;
     while i < count {
         let m = at_most(token_tree::component_count(image, i), left);
-        let s = stage1_in(image, i, c, m);
+        let s = stage_in(image, second, i, c, m);
         if !passes(s) {
             return s;
         }
@@ -124,5 +120,12 @@ pub fn stage1_components(image: &[u8]) -> Checked
     ensures { λ r. ⌜ resultOf r ≡ stage1All (now (image .entry)) ⌝ }
 {
     let h = token_tree::counts_of(image);
-    concatenations(image, h.c, h.n)
+    concatenations(image, false, h.c, h.n)
+}
+
+pub fn stage2_components(image: &[u8]) -> Checked
+    ensures { λ r. ⌜ resultOf r ≡ passed (readAll (now (image .entry))) ⌝ }
+{
+    let h = token_tree::counts_of(image);
+    concatenations(image, true, h.c, h.n)
 }

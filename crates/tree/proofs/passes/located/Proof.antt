@@ -1,7 +1,7 @@
 use borrow.Author.Needs.{needs}
 use Rattle.tree.proofs.Loops.{is-located}
-use Rattle.tree.proofs.stage1.located.Statement.{statement}
-use Rattle.tree.proofs.stage1.located.Tie as tie
+use Rattle.tree.proofs.passes.located.Statement.{statement}
+use Rattle.tree.proofs.passes.located.Tie as tie
 
 returns-2 : tie.Need-returns-2
 returns-2 c =

@@ -1,6 +1,6 @@
 use Rattle.tree.proofs.Loops.{last-zero, last-other}
-use Rattle.tree.proofs.stage1.is_last.Statement.{statement}
-use Rattle.tree.proofs.stage1.is_last.Tie as tie
+use Rattle.tree.proofs.passes.is_last.Statement.{statement}
+use Rattle.tree.proofs.passes.is_last.Tie as tie
 
 returns : tie.Need-returns
 returns c = last-zero (c .before .args .i) (c .before .args .m) (c .if1 .taken)
