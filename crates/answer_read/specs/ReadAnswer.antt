@@ -102,7 +102,7 @@ frontBytes a =
     ++ u32 (flag (o .deterministic) 1 + flag (o .nonzero) 2 + startFlag (a .init))
     ++ u32 (alignNumber (o .align))
 
-length-head : (a : Answer) → length (headBytes a) ≡ sizes .head
+pub length-head : (a : Answer) → length (headBytes a) ≡ sizes .head
 length-head a =
     let e = length-append (frontBytes a) (initBytes (a .init)) in
     let l = length-init (a .init) in

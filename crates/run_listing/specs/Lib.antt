@@ -1,0 +1,3 @@
+-- How long the listing of a run can be.
+pub mod Items
+pub mod Ranges
