@@ -1,3 +1,5 @@
 -- How long the listing of a run can be.
 pub mod Items
 pub mod Ranges
+pub mod Components
+pub mod Stages

@@ -15,6 +15,11 @@ use Rattle.answer_read.specs.Facts.{Yields, given, nothing, Found, found, missi
 use Rattle.answer_read.specs.Texts.{CutOf, cut-bound}
 use Rattle.run_listing.specs.Items.{size, part-size, size-append, apart-size, Holding, items-hold, hold-take, hold-drop}
 
+-- a fact that follows from one that is known
+pub yields-map : {A : Type 0} {P Q : A → Type 0} {m : Result A} → ((a : A) → P a → Q a) → Yields P m → Yields Q m
+yields-map f (given {a = a} p) = given (f a p)
+yields-map f nothing = nothing
+
 -- ---- bounds
 
 abbrev pub usbText : Usb → ℕ
@@ -79,10 +84,6 @@ read-bound is = go (cutBound is) (cut-bound is)
     go none h = given first
     go (some c) (found e) = join-sides (size is) original c first (rw (← e) (le-refl (size is)))
 
-yields-least : {n m : ℕ} {r : Result Usb} → n ≤ m → Yields (Within n) r → Yields (Within m) r
-yields-least h (given p) = given (le-trans p h)
-yields-least h nothing = nothing
-
 parse-usb : (is : List Item) → Every Holding is → Yields (Within (size is)) (parseUsb is)
 unfolding parseUsb bytesOf
 parse-usb [] h = nothing
@@ -98,7 +99,7 @@ parse-usb (i ∷ []) (every-cons p ps) = go (isGroup i)
         ])
     go true =
         after (need (eqb (i .kind) (kinds .parenthesis)) not-one-token) λ _.
-        yields-least (le-trans p least) (read-bound (items (i .inside-at) (i .inside)))
+        yields-map (λ u k. le-trans k (le-trans p least)) (read-bound (items (i .inside-at) (i .inside)))
     go false = read-bound (i ∷ [])
 parse-usb (i ∷ j ∷ is) h = nothing
 
