@@ -3,3 +3,4 @@ pub mod Items
 pub mod Ranges
 pub mod Components
 pub mod Stages
+pub mod Records
