@@ -74,7 +74,7 @@ length-total (c ∷ cs) = let l = length-total cs in omega arith
 -- ---- the head
 
 -- whether there is a starting value, as its flag, and its text
-abbrev startFlag : Option (Placed Part) → ℕ
+abbrev pub startFlag : Option (Placed Part) → ℕ
 startFlag x = elim x [ none ↦ 0 | some p ↦ 4 ]
 
 abbrev initText : Option (Placed Part) → List ℕ
@@ -88,14 +88,14 @@ erased-text : (x : Option (Placed Part)) → initText (eraseInit x) ≡ initText
 erased-text none = refl
 erased-text (some p) = refl
 
-abbrev initBytes : Option (Placed Part) → List ℕ
+abbrev pub initBytes : Option (Placed Part) → List ℕ
 initBytes x = elim x [ none ↦ u32 0 ++ u32 0 | some p ↦ textBytes (p .base) (p .value) ]
 
 length-init : (x : Option (Placed Part)) → length (initBytes x) ≡ 8
 length-init none = refl
 length-init (some p) = length-text (p .base) (p .value)
 
-abbrev frontBytes : Answer → List ℕ
+abbrev pub frontBytes : Answer → List ℕ
 frontBytes a =
     let o = a .overall in
     u32 (length (a .cc)) ++ u32 (length (components a)) ++ widthBytes (o .width)

@@ -4,3 +4,4 @@ pub mod Ranges
 pub mod Components
 pub mod Stages
 pub mod Records
+pub mod Reading
