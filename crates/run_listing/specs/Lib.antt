@@ -5,3 +5,4 @@ pub mod Components
 pub mod Stages
 pub mod Records
 pub mod Reading
+pub mod Listing
