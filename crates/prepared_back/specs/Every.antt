@@ -68,7 +68,7 @@ offsets-say : (a b c d e f a′ b′ c′ d′ e′ f′ : ℕ) → (eqb a a′ 
     → (((((a ≡ a′) × (b ≡ b′)) × (c ≡ c′)) × (d ≡ d′)) × (e ≡ e′)) × (f ≡ f′)
 offsets-say a b c d e f a′ b′ c′ d′ e′ f′ h = simp tested at h
 
-entries-say : (p q s u : Bool) (a b c a′ b′ c′ : ℕ) → (p && eqb a a′ && q && eqb b b′ && s && eqb c c′ && u) ≡ true
+pub entries-say : (p q s u : Bool) (a b c a′ b′ c′ : ℕ) → (p && eqb a a′ && q && eqb b b′ && s && eqb c c′ && u) ≡ true
     → ((((((p ≡ true) × (a ≡ a′)) × (q ≡ true)) × (b ≡ b′)) × (s ≡ true)) × (c ≡ c′)) × (u ≡ true)
 entries-say p q s u a b c a′ b′ c′ h = simp tested at h
 
