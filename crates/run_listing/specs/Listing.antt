@@ -16,7 +16,8 @@ use Rattle.def_run.specs.Run.{run, stages}
 use Rattle.laws.specs.Results.{bind-ok, ok-same}
 use Rattle.laws.specs.Tests.{tested}
 use Rattle.prepared_back.specs.Every.{all-tested}
-use Rattle.answer_fits.specs.Statement.{Fits, AnswerFits}
+use Rattle.answer_fits.specs.Statement.{Fits}
+use Rattle.answer_fits.specs.Proved.{answer-fits}
 use Rattle.answer_read.specs.Facts.{the-given}
 use Rattle.answer_read.specs.Trees.{total}
 use Rattle.listing_length.specs.Lines.{texts, literals, accepted-most, refused-most}
@@ -47,45 +48,44 @@ counted image h =
 
 -- ---- an accepted run
 
-module _ (answer-fits : AnswerFits) where
-  answer-listing : (image : List ℕ) (mode : ℕ) (a : Answer) → checkImage image ≡ ok tt → stages mode (treeOf image) ≡ ok a
-      → length (listing image (ok (answerBytes a))) ≤ longestListing
-  answer-listing image mode a h e = go (counted image h) (answer-fits image h mode a e) (the-given (rw e at (stages-text mode (treeOf image))))
-    where
-      go : Counted image → Fits image a → initText (a .init) + total textsOf (components a) ≤ total twice (joined (treeOf image))
-          → length (listing image (ok (answerBytes a))) ≤ longestListing
-      go k f t =
-          let few : length (a .cc) < 2 ^ 32 = omega (arith, f .concatenations, k .concatenations) in
-          let small : length (components a) < 2 ^ 32 = omega (arith, f .merged, k .components-most) in
-          let r : ReadLess image a few small = read-lengths image a few small in
-          accepted-most image (answerBytes a) (2 * limits .text) (limits .literal-bytes) (
-            omega (arith, r .groups, f .concatenations, k .concatenations),
-            omega (arith, r .fields, f .merged, k .components-most),
-            omega (arith, r .text, t, tree-text image h, k .text-most),
-            omega (arith, r .literal-bytes, f .literals, k .literals-most),
-          )
+answer-listing : (image : List ℕ) (mode : ℕ) (a : Answer) → checkImage image ≡ ok tt → stages mode (treeOf image) ≡ ok a
+    → length (listing image (ok (answerBytes a))) ≤ longestListing
+answer-listing image mode a h e = go (counted image h) (answer-fits image h mode a e) (the-given (rw e at (stages-text mode (treeOf image))))
+  where
+    go : Counted image → Fits image a → initText (a .init) + total textsOf (components a) ≤ total twice (joined (treeOf image))
+        → length (listing image (ok (answerBytes a))) ≤ longestListing
+    go k f t =
+        let few : length (a .cc) < 2 ^ 32 = omega (arith, f .concatenations, k .concatenations) in
+        let small : length (components a) < 2 ^ 32 = omega (arith, f .merged, k .components-most) in
+        let r : ReadLess image a few small = read-lengths image a few small in
+        accepted-most image (answerBytes a) (2 * limits .text) (limits .literal-bytes) (
+          omega (arith, r .groups, f .concatenations, k .concatenations),
+          omega (arith, r .fields, f .merged, k .components-most),
+          omega (arith, r .text, t, tree-text image h, k .text-most),
+          omega (arith, r .literal-bytes, f .literals, k .literals-most),
+        )
 
-  accepted-listing : (image : List ℕ) (mode area : ℕ) (bytes : List ℕ) → run image mode area ≡ ok bytes
-      → length (listing image (ok bytes)) ≤ longestListing
-  unfolding run
-  accepted-listing image mode area bytes e =
-      let first = bind-ok (need (leb mode 2) mode-above-2) _ e in
-      let second = bind-ok (checkImage image) _ (first .2) in
-      let third = bind-ok (need (leb (areaNeeded ((counts image) .c) ((counts image) .n) ((counts image) .b)) area) short-area) _ (second .2) in
-      let fourth = bind-ok (stages mode (treeOf image)) (λ a. ok (answerBytes a)) (third .2) in
-      let same : answerBytes (fourth .0) ≡ bytes = ok-same refl (fourth .2) in
-      rw same at (answer-listing image mode (fourth .0) (second .1) (fourth .1))
+accepted-listing : (image : List ℕ) (mode area : ℕ) (bytes : List ℕ) → run image mode area ≡ ok bytes
+    → length (listing image (ok bytes)) ≤ longestListing
+unfolding run
+accepted-listing image mode area bytes e =
+    let first = bind-ok (need (leb mode 2) mode-above-2) _ e in
+    let second = bind-ok (checkImage image) _ (first .2) in
+    let third = bind-ok (need (leb (areaNeeded ((counts image) .c) ((counts image) .n) ((counts image) .b)) area) short-area) _ (second .2) in
+    let fourth = bind-ok (stages mode (treeOf image)) (λ a. ok (answerBytes a)) (third .2) in
+    let same : answerBytes (fourth .0) ≡ bytes = ok-same refl (fourth .2) in
+    rw same at (answer-listing image mode (fourth .0) (second .1) (fourth .1))
 
-  -- ---- every run
+-- ---- every run
 
-  pub listing-most : (image : List ℕ) (mode area : ℕ) → length (listing image (run image mode area)) ≤ longestListing
-  listing-most image mode area = go (run image mode area) refl
-    where
-      go : (r : Result (List ℕ)) → run image mode area ≡ r → length (listing image r) ≤ longestListing
-      go (ok bytes) e = accepted-listing image mode area bytes e
-      go (refused n i k) e = le-trans (refused-most image n i k) (lit≤ tt)
+pub listing-most : (image : List ℕ) (mode area : ℕ) → length (listing image (run image mode area)) ≤ longestListing
+listing-most image mode area = go (run image mode area) refl
+  where
+    go : (r : Result (List ℕ)) → run image mode area ≡ r → length (listing image r) ≤ longestListing
+    go (ok bytes) e = accepted-listing image mode area bytes e
+    go (refused n i k) e = le-trans (refused-most image n i k) (lit≤ tt)
 
-  pub output-most : (input : List ℕ) → length (output input) ≤ longestListing
-  unfolding output
-  output-most [] = le-trans (refused-most [] 2 0 0) (lit≤ tt)
-  output-most (mode ∷ rest) = listing-most (take (maxInput - 1) rest) mode programArea
+pub output-most : (input : List ℕ) → length (output input) ≤ longestListing
+unfolding output
+output-most [] = le-trans (refused-most [] 2 0 0) (lit≤ tt)
+output-most (mode ∷ rest) = listing-most (take (maxInput - 1) rest) mode programArea
