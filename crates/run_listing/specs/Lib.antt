@@ -6,3 +6,4 @@ pub mod Stages
 pub mod Records
 pub mod Reading
 pub mod Listing
+pub mod Witness
