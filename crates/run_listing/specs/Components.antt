@@ -1,7 +1,6 @@
 -- The bytes of text of a component that stages 1 and 2 read: with its starting value, at most twice the bytes of its records.
-use mathlib.Core.Path.{_≡_, refl}
 use Prim.Native.Nat.{_≤_, zero-le}
-use native.Mathlib.Nat.{le-refl, le-trans}
+use native.Mathlib.Nat.{le-refl}
 use native.Mathlib.Omega.{arith}
 use lib.ListN.{length-append}
 use Rattle.def_numbers.specs.Prelude.{ℕ, _+_, _*_, Bool, true, false, _&&_, _||_, not, Option, none, some, List, [], _∷_, _++_, length, take, drop, eqb, ℤ, pos, natAbs, _+ℤ_, _-ℤ_, ltZ, leZ, nonNeg}
@@ -12,8 +11,8 @@ use Rattle.def_image.specs.Image.{Unparsed, kinds}
 use Rattle.def_image.specs.Tree.{textOf}
 use Rattle.def_stages.specs.Text.{noText, Item, items, bytesOf, partOf}
 use Rattle.def_stages.specs.Ranges.{Usb, Usbr, val, withX, unbounded, parseRange, singleBit, staticVal}
-use Rattle.def_stages.specs.Component.{Component, ComponentType, literal, variable, filler, Split, splitRange, Prefix, splitColon, splitOf, prefixOf, middle, isLiteral, typed, parseComponent, stage1Component, simplifyUsb, simplifyEnd, simplifyRange, theEnd, withEnd, cutLiteral, simplifyLiteral, simplify, isZero, hasEnd, ifStatic, ifStaticEnd, ifKnown}
-use Rattle.answer_read.specs.Facts.{Yields, given, Found, found, missing, Every, every-nil, every-cons, every-split, after, bound, yields-if}
+use Rattle.def_stages.specs.Component.{Component, ComponentType, literal, variable, filler, Split, splitRange, Prefix, splitOf, prefixOf, middle, isLiteral, typed, parseComponent, stage1Component, simplifyUsb, simplifyEnd, simplifyRange, theEnd, withEnd, cutLiteral, simplifyLiteral, simplify, isZero, hasEnd, ifStatic, ifStaticEnd, ifKnown}
+use Rattle.answer_read.specs.Facts.{Yields, given, Found, found, missing, Every, every-cons, every-split, after, bound, yields-if}
 use Rattle.answer_read.specs.Components.{before-range, ColonAt, colon-at}
 use Rattle.run_listing.specs.Items.{size, part-size, size-append, items-size, Holding, items-hold}
 use Rattle.run_listing.specs.Ranges.{yields-map, usbText, Within, with-x, endText, rangeText, parse-range}

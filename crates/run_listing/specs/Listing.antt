@@ -4,13 +4,13 @@ use Prim.Native.Nat.{_≤_, _<_}
 use native.Mathlib.Nat.{le-trans}
 use native.Mathlib.Omega.{arith}
 use lib.Dec.{lit≤}
-use Rattle.def_numbers.specs.Prelude.{ℕ, _+_, _*_, _-_, _^_, List, [], _∷_, map, length, take, leb}
-use Rattle.def_numbers.specs.Basics.{Result, ok, refused, _>>=_, joined}
+use Rattle.def_numbers.specs.Prelude.{ℕ, _+_, _*_, _-_, _^_, List, [], _∷_, length, take, leb}
+use Rattle.def_numbers.specs.Basics.{Result, ok, refused, joined}
 use Rattle.def_numbers.specs.Limits.{limits, areaNeeded, maxInput}
-use Rattle.def_numbers.specs.Refusals.{need, mode-above-2, short-area, short-image}
+use Rattle.def_numbers.specs.Refusals.{need, mode-above-2, short-area}
 use Rattle.def_image.specs.Image.{counts, treeOf}
 use Rattle.def_image.specs.Check.{checkImage}
-use Rattle.def_run.specs.Answer.{Answer, components, literalBytes, answerBytes, readAnswer}
+use Rattle.def_run.specs.Answer.{Answer, components, answerBytes}
 use Rattle.def_run.specs.Listing.{listing, programArea, output}
 use Rattle.def_run.specs.Run.{run, stages}
 use Rattle.laws.specs.Results.{bind-ok, ok-same}
@@ -20,7 +20,7 @@ use Rattle.answer_fits.specs.Statement.{Fits}
 use Rattle.answer_fits.specs.Proved.{answer-fits}
 use Rattle.answer_read.specs.Facts.{the-given}
 use Rattle.answer_read.specs.Trees.{total}
-use Rattle.listing_length.specs.Lines.{texts, literals, accepted-most, refused-most}
+use Rattle.listing_length.specs.Lines.{accepted-most, refused-most}
 use Rattle.run_listing.specs.Stages.{twice, textsOf, initText, stages-text}
 use Rattle.run_listing.specs.Records.{tree-text}
 use Rattle.run_listing.specs.Reading.{ReadLess, read-lengths}

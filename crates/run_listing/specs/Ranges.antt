@@ -1,5 +1,4 @@
 -- The bytes of text of the bounds and ranges that are read of items: no more than the items have; a bracket without dots, twice.
-use mathlib.Core.Path.{_≡_, refl, ap}
 use Prim.Native.Nat.{_≤_, zero-le}
 use native.Mathlib.Nat.{le-refl, le-trans}
 use native.Mathlib.Omega.{arith}
@@ -7,13 +6,13 @@ use lib.ListN.{length-append}
 use Rattle.def_numbers.specs.Prelude.{ℕ, suc, _+_, _-_, Bool, true, false, not, Option, none, some, List, [], _∷_, _++_, length, take, drop, eqb, ℤ, pos, _+ℤ_, _-ℤ_}
 use Rattle.def_numbers.specs.Basics.{Result, ok, _>>=_, if_then_else_, isEmpty}
 use Rattle.def_numbers.specs.Numbers.{char, narrow}
-use Rattle.def_numbers.specs.Refusals.{Reason, need, refuse, bound-overflow, not-one-token, empty-range, second-dots, three-dots}
+use Rattle.def_numbers.specs.Refusals.{Reason, need, refuse, bound-overflow, not-one-token, empty-range, second-dots}
 use Rattle.def_image.specs.Image.{kinds}
 use Rattle.def_stages.specs.Text.{Part, Item, items, isGroup, isToken, bytesOf, partOf}
-use Rattle.def_stages.specs.Ranges.{Usb, Usbr, Cut, Scan, val, text, withX, cutBound, numberIn, side, joinSides, readBound, parseUsb, find, withDots, scanStep, scanFrom, scan, parseStart, parseEnd, parseRange}
-use Rattle.answer_read.specs.Facts.{Yields, given, nothing, Found, found, missing, Every, every-nil, every-cons, after, bound, yields-if}
+use Rattle.def_stages.specs.Ranges.{Usb, Usbr, Cut, Scan, val, text, withX, cutBound, numberIn, side, joinSides, readBound, parseUsb, find, scanStep, scanFrom, parseStart, parseEnd, parseRange}
+use Rattle.answer_read.specs.Facts.{Yields, given, nothing, Found, found, missing, Every, every-cons, after, bound, yields-if}
 use Rattle.answer_read.specs.Texts.{CutOf, cut-bound}
-use Rattle.run_listing.specs.Items.{size, part-size, size-append, apart-size, Holding, items-hold, hold-take, hold-drop}
+use Rattle.run_listing.specs.Items.{size, part-size, size-append, apart-size, Holding, hold-take, hold-drop}
 
 -- a fact that follows from one that is known
 pub yields-map : {A : Type 0} {P Q : A → Type 0} {m : Result A} → ((a : A) → P a → Q a) → Yields P m → Yields Q m

@@ -1,32 +1,30 @@
 -- What is read of an answer's bytes is no longer than the answer: its texts and literals, whatever the image.
-use mathlib.Core.Path.{_≡_, refl, sym, ap, _∙_}
+use mathlib.Core.Path.{_≡_, refl, ap, _∙_}
 use Prim.Native.Nat.{_≤_, _<_}
-use native.Mathlib.Nat.{add-zero, le-trans}
+use native.Mathlib.Nat.{add-zero}
 use native.Mathlib.Omega.{arith}
-use lib.ListN.{length-append, length-map}
-use Rattle.def_numbers.specs.Prelude.{ℕ, zero, suc, _+_, _*_, _/_, _%_, _^_, Bool, true, false, Option, none, some, List, [], _∷_, _++_, map, length, drop, eqb}
-use Rattle.def_numbers.specs.Basics.{if_then_else_, isEmpty, sum, tab, joined}
+use Rattle.def_numbers.specs.Prelude.{ℕ, suc, _+_, _*_, _^_, Bool, Option, none, some, List, [], _∷_, map, length, drop, eqb}
+use Rattle.def_numbers.specs.Basics.{if_then_else_, sum, tab, joined}
 use Rattle.def_numbers.specs.Limits.{sizes}
-use Rattle.def_image.specs.Image.{Placed, u32At, bytesAt, bytesFor, tables}
-use Rattle.def_image.specs.Tree.{u32, packed}
+use Rattle.def_image.specs.Image.{Placed, u32At, bytesFor, tables}
+use Rattle.def_image.specs.Tree.{u32}
 use Rattle.def_stages.specs.Text.{Part, noText}
 use Rattle.def_stages.specs.Ranges.{Usb}
 use Rattle.def_stages.specs.Component.{Component, ComponentType, literal, variable, filler}
 use Rattle.def_stages.specs.Concatenation.{bitsOf}
-use Rattle.def_run.specs.Answer.{Answer, components, textBytes, xBytes, usbBytes, headBytes, concatenationBytes, componentBytes, componentsBytes, literalBytes, answerBytes, Field, Bound, textAt, boundAt, groupAt, fieldAt, readAnswer}
+use Rattle.def_run.specs.Answer.{Answer, components, textBytes, xBytes, usbBytes, componentBytes, componentsBytes, literalBytes, answerBytes, Field, Bound, textAt, boundAt, groupAt, fieldAt, readAnswer}
 use Rattle.laws.specs.Lists.{length-tab, length-joined}
 use Rattle.laws.specs.Padded.{length-padded}
 use Rattle.prepared.specs.Bits.{length-packed}
 use Rattle.prepared.specs.Bytes.{Holds, holds-whole, holds-left, u32At-holds}
-use Rattle.prepared.specs.Tables.{length-rows}
-use Rattle.answer_read.specs.Blocks.{u32At-in, holds-next, four-parts, length-text}
-use Rattle.answer_read.specs.Fields.{textPart, bitsIn, presentBytes, endBytes, Parts, parts-at, length-component, length-components, readField}
-use Rattle.answer_read.specs.ReadAnswer.{initBytes, frontBytes, length-head}
+use Rattle.answer_read.specs.Blocks.{u32At-in, holds-next}
+use Rattle.answer_read.specs.Fields.{textPart, presentBytes, endBytes, Parts, parts-at, length-component, readField}
+use Rattle.answer_read.specs.ReadAnswer.{shown-small, initBytes, frontBytes, placed-parts, word}
 use Rattle.answer_read.specs.Trees.{total}
 use Rattle.listing_length.specs.Lines.{textOf, texts, literals}
 use Rattle.listing_length.specs.Words
 use Rattle.run_listing.specs.Ranges.{usbText, endText}
-use Rattle.run_listing.specs.Components.{typeText, componentText}
+use Rattle.run_listing.specs.Components.{typeText}
 use Rattle.run_listing.specs.Stages.{textsOf, initText}
 
 -- a number that is written in four bytes is read as itself or less
@@ -111,28 +109,14 @@ module _ (image : List ℕ) (a : Answer) (few : length (a .cc) < 2 ^ 32) (small 
   abbrev s : List ℕ
   s = answerBytes a
 
-  placed-parts : Holds s 0 (headBytes a) × Holds s (sizes .head) (joined (map concatenationBytes (a .cc)))
-      × Holds s (sizes .head + sizes .concatenation * length (a .cc)) (componentsBytes 0 (components a))
-      × Holds s (sizes .head + sizes .concatenation * length (a .cc) + sizes .component * length (components a)) (joined (map literalBytes (components a)))
-  unfolding answerBytes
-  placed-parts =
-      let h = length-head a in
-      let c = length-rows (sizes .concatenation) concatenationBytes (λ c. refl) (a .cc) in
-      let k = length-components 0 (components a) in
-      four-parts s 0 (sizes .head) (sizes .head + sizes .concatenation * length (a .cc))
-      (sizes .head + sizes .concatenation * length (a .cc) + sizes .component * length (components a)) (headBytes a) (joined (map concatenationBytes (a .cc)))
-      (componentsBytes 0 (components a)) (joined (map literalBytes (components a))) (omega arith) (omega arith) (omega arith) (holds-whole s)
-
-  word : (j n : ℕ) → j + 4 ≤ sizes .head → u32At (headBytes a) j ≡ u32At (u32 n) 0 → n < 2 ^ 32 → u32At s j ≡ n
-  word j n l e b =
-      let h = length-head a in
-      u32At-in s 0 (headBytes a) j j (placed-parts .0) (omega arith) (omega arith) ∙ e ∙ u32At-holds (u32 n) 0 n (holds-whole (u32 n)) b
+  whole : Holds s 0 s
+  whole = holds-whole s
 
   c-is : u32At s 0 ≡ length (a .cc)
-  c-is = word 0 (length (a .cc)) (omega arith) refl few
+  c-is = word a s whole 0 (omega arith) ∙ shown-small (length (a .cc)) few
 
   m-is : u32At s 4 ≡ length (components a)
-  m-is = word 4 (length (components a)) (omega arith) refl small
+  m-is = word a s whole 4 (omega arith) ∙ shown-small (length (components a)) small
 
   init-less : (x : Option (Placed Part)) → Holds s 24 (initBytes x) → length (textAt image s 24) ≤ initText x
   init-less none h = text-less image s 24 0 noText h
@@ -151,7 +135,7 @@ module _ (image : List ℕ) (a : Answer) (few : length (a .cc) < 2 ^ 32) (small 
       let first = sizes .head + sizes .concatenation * u32At s 0 in
       let behind = first + sizes .component * u32At s 4 in
       let n = length (components a) in
-      let held : Holds s (first + sizes .component * 0) (componentsBytes 0 (components a)) = rw (c-is, add-zero) (placed-parts .2) in
+      let held : Holds s (first + sizes .component * 0) (componentsBytes 0 (components a)) = rw (c-is, add-zero) (placed-parts a s whole .2) in
       let less = fields-less image s first behind 0 0 (components a) held in
       let same : tab (fieldAt image s) 0 (u32At s 4) ≡ tab (fieldOf image s first behind) 0 n = ap (tab (fieldAt image s) 0) m-is in
       record {
@@ -160,7 +144,7 @@ module _ (image : List ℕ) (a : Answer) (few : length (a .cc) < 2 ^ 32) (small 
         text =
             omega (
               arith,
-              init-less (a .init) (holds-next s 0 (frontBytes a) (initBytes (a .init)) 24 (placed-parts .0) refl),
+              init-less (a .init) (holds-next s 0 (frontBytes a) (initBytes (a .init)) 24 (placed-parts a s whole .0) refl),
               less .0,
               ap (total textOf) same,
             );

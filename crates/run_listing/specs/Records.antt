@@ -6,12 +6,12 @@ use native.Mathlib.Numerals.{add-one}
 use native.Mathlib.Omega.{arith}
 use lib.ListN.{take-append-drop, length-append, length-take, length-drop}
 use borrow.Author.Tests.{eq-eqb, ne-eqb}
-use Rattle.def_numbers.specs.Prelude.{ℕ, zero, suc, _+_, _*_, _-_, Bool, true, List, [], _∷_, _++_, length, take, drop, leb, eqb}
+use Rattle.def_numbers.specs.Prelude.{ℕ, zero, suc, _+_, _*_, _-_, Bool, true, List, [], _∷_, length, take, drop, eqb}
 use Rattle.def_numbers.specs.Basics.{ok, if_then_else_, sum, all, joined, tab}
 use Rattle.def_image.specs.Image.{Entry, bytesAt, bytesFor, counts, tables, componentCount, recordCount, literalWidth, startAt, entryAt, recsFrom, componentsFrom, parts, opens, treeOf}
 use Rattle.def_image.specs.Check.{textRight, wordRight, insideOf, closerOf, afterOf, openRight, closeRight, checkIn, checkComponents, checkImage}
 use Rattle.def_image.specs.Tree.{textOf}
-use Rattle.laws.specs.Tests.{by-test, and-iff, leb-iff, tested}
+use Rattle.laws.specs.Tests.{by-test, and-iff, tested}
 use Rattle.laws.specs.Lists.{length-tab, tab-add, all-append, sum-tab-add}
 use Rattle.laws.specs.Padded.{length-padded}
 use Rattle.prepared_back.specs.Groups.{opened, word-kept, in-parts}

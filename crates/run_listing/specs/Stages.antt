@@ -1,20 +1,20 @@
 -- The bytes of text of an answer: at most twice those of the tree's records.
-use mathlib.Core.Path.{_≡_, refl, ap}
+use mathlib.Core.Path.{_≡_}
 use Prim.Native.Nat.{_≤_, zero-le}
-use native.Mathlib.Nat.{le-refl, le-trans}
+use native.Mathlib.Nat.{le-refl}
 use native.Mathlib.Omega.{arith}
-use Rattle.def_numbers.specs.Prelude.{ℕ, suc, _+_, _*_, Bool, true, false, _&&_, not, Option, none, some, List, [], _∷_, _++_, map, length, eqb}
+use Rattle.def_numbers.specs.Prelude.{ℕ, suc, _+_, _*_, Bool, true, false, _&&_, not, Option, none, some, List, [], _∷_, _++_, map, length}
 use Rattle.def_numbers.specs.Basics.{ok, _>>=_, placed, if_then_else_, isEmpty, sum, joined}
 use Rattle.def_numbers.specs.Refusals.{need, empty-after-colon}
 use Rattle.def_image.specs.Image.{Unparsed, Placed}
 use Rattle.def_image.specs.Tree.{textOf}
-use Rattle.def_stages.specs.Text.{Part, bytesOf, partOf}
-use Rattle.def_stages.specs.Component.{Component, Prefix, Parsed, prefixOf, startingValue, source, eachIn, each, keepBase, stage1Component, simplify, stage1, stage2}
-use Rattle.def_stages.specs.Concatenation.{Concatenation, isStaticLiteral, fixedLiteral, bitsOf, stage3, mergeOnto, merge, merged}
+use Rattle.def_stages.specs.Text.{Part, partOf}
+use Rattle.def_stages.specs.Component.{Component, Prefix, Parsed, prefixOf, startingValue, eachIn, each, keepBase, stage1Component, simplify, stage1, stage2}
+use Rattle.def_stages.specs.Concatenation.{Concatenation, isStaticLiteral, fixedLiteral, bitsOf, mergeOnto, merge, merged}
 use Rattle.def_stages.specs.Overall.{stage4}
-use Rattle.def_run.specs.Answer.{Answer, components}
+use Rattle.def_run.specs.Answer.{components}
 use Rattle.def_run.specs.Run.{stages}
-use Rattle.answer_read.specs.Facts.{Yields, given, Found, Every, every-nil, every-cons, after, bound, yields-placed}
+use Rattle.answer_read.specs.Facts.{Yields, given, Every, every-nil, every-cons, after, bound, yields-placed}
 use Rattle.answer_read.specs.Trees.{total, total-append, each-kept, stage3-comps, merged-comps}
 use Rattle.run_listing.specs.Items.{size, part-size}
 use Rattle.run_listing.specs.Ranges.{yields-map}

@@ -2,7 +2,7 @@
 use mathlib.Core.Path.{_≡_, refl}
 use Prim.Native.Nat.{_≤_, _<_}
 use lib.Dec.{lit≤}
-use Rattle.def_numbers.specs.Prelude.{ℕ, _*_, _^_, true, List, [], _∷_, length}
+use Rattle.def_numbers.specs.Prelude.{ℕ, _*_, _^_, List, [], _∷_, length}
 use Rattle.def_numbers.specs.Basics.{ok, joined, ascii}
 use Rattle.def_image.specs.Image.{counts, kinds, treeOf}
 use Rattle.def_image.specs.Check.{checkImage}
