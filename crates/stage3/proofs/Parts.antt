@@ -56,6 +56,10 @@ module _ (c : Component) where
 
 -- ---- what is found
 
+pub first-not : (p : Place) (t : Bool) (j : ℕ) → t ≡ false → placeOf p ≡ firstOf (placeOf p) t j
+first-not (P.At k) t j h = refl
+first-not P.None t j h = rw h
+
 module _ (p : Place) (t : Bool) (j : ℕ) where
   pub first-kept : (k : ℕ) → p ≡ P.At k → some k ≡ firstOf (placeOf p) t j
   first-kept k h = rw h

@@ -49,9 +49,12 @@ pub(crate) fn start() -> State
 fn first_of(p: Place, found: bool, j: u32) -> Place
     ensures { λ r. ⌜ placeOf r ≡ firstOf (placeOf p) found j ⌝ }
 {
+    if !found {
+        return p;
+    }
     match p {
         Place::At(k) => Place::At(k),
-        Place::None => { if found { Place::At(j) } else { Place::None } }
+        Place::None => Place::At(j),
     }
 }
 
