@@ -1,10 +1,10 @@
 -- What each turn of the walk leaves to come.
-use mathlib.Core.Path.{_≡_, refl, sym, ap, _∙_}
+use mathlib.Core.Path.{_≡_, sym, ap, _∙_}
 use Prim.Native.Nat.{_≤_, _<_}
 use native.Mathlib.Numerals.{add-one}
 use native.Mathlib.Omega.{arith}
 use Rattle.def_numbers.specs.Prelude.{ℕ, suc, _+_, _-_, Bool, true, false, _&&_, List, eqb}
-use Rattle.def_numbers.specs.Basics.{Result, ok, refused, _>>=_, placed}
+use Rattle.def_numbers.specs.Basics.{ok, _>>=_, placed}
 use Rattle.def_stages.specs.Component.{Component}
 use Rattle.def_stages.specs.Concatenation.{isStaticLiteral}
 use Rattle.laws.specs.Results.{bind-ok}
@@ -18,7 +18,7 @@ use Rattle.stage3.specs.declared.state.State.{State}
 use Rattle.stage3.specs.declared.state.Turned.{Turned}
 use Rattle.stage3.specs.declared.state.Turned.the-variants as T
 use Rattle.stage3.specs.Count.{oneMore}
-use Rattle.stage3.specs.Tally.{Tally, Total, noTally, tallied, stepTally, endOf, tallyOf, turnedOf}
+use Rattle.stage3.specs.Tally.{Tally, noTally, tallied, stepTally, endOf, tallyOf, turnedOf}
 use Rattle.stage3.specs.Walk.{turnOf, walk, walk-none, walk-step}
 
 -- one component is at most one more

@@ -1,8 +1,8 @@
 -- What is asked of a component, and what is found: one law for each way through the code.
-use mathlib.Core.Path.{_≡_, refl, sym, ap, _∙_}
+use mathlib.Core.Path.{_≡_, refl}
 use native.Mathlib.Omega.{arith}
-use Rattle.def_numbers.specs.Prelude.{ℕ, _+_, Bool, true, false, _&&_, Option, none, some, List, eqb}
-use Rattle.def_numbers.specs.Basics.{Result, ok, refused, _>>=_}
+use Rattle.def_numbers.specs.Prelude.{ℕ, _+_, Bool, true, false, _&&_, Option, some, eqb}
+use Rattle.def_numbers.specs.Basics.{Result, ok, _>>=_}
 use Rattle.def_stages.specs.Component as Def
 use Rattle.def_stages.specs.Concatenation.{Running, isStaticLiteral, isUnboundedFiller}
 use Rattle.def_stages.specs.Overall.{isFiller}

@@ -1,5 +1,5 @@
 -- One component: it is read, then the running check goes over it.
-use mathlib.Core.Path.{_≡_, refl, sym, ap, _∙_}
+use mathlib.Core.Path.{_≡_, sym, ap, _∙_}
 use native.Mathlib.Omega.{arith}
 use Rattle.def_numbers.specs.Prelude.{ℕ, Bool, _&&_, List, eqb}
 use Rattle.def_numbers.specs.Basics.{Result, ok, refused, _>>=_, placed}

@@ -1,5 +1,5 @@
 -- The number of components after merging, counted from the first to the last.
-use mathlib.Core.Path.{_≡_, refl, sym, _∙_, ap}
+use mathlib.Core.Path.{_≡_, refl, sym, _∙_}
 use native.Mathlib.Omega.{arith}
 use Rattle.def_numbers.specs.Prelude.{ℕ, suc, _+_, Bool, true, false, _&&_, List, [], _∷_, _++_, length}
 use Rattle.def_numbers.specs.Basics.{if_then_else_}

@@ -4,3 +4,4 @@ pub mod Count
 pub mod Tally
 pub mod Walk
 pub mod Whole
+pub mod Example

@@ -1,7 +1,7 @@
 -- The components of a concatenation one after the other, as the code walks them: each is read, then checked.
 use mathlib.Core.Path.{_≡_, refl, sym, _∙_, ap}
 use native.Mathlib.Omega.{arith}
-use Rattle.def_numbers.specs.Prelude.{ℕ, zero, suc, Bool, true, false, _&&_, List, [], _∷_, eqb}
+use Rattle.def_numbers.specs.Prelude.{ℕ, zero, suc, Bool, false, _&&_, List, [], _∷_, eqb}
 use Rattle.def_numbers.specs.Basics.{Result, ok, refused, _>>=_, placed, isEmpty}
 use Rattle.def_image.specs.Image.{Placed}
 use Rattle.def_stages.specs.Component.{Component}

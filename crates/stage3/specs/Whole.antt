@@ -1,14 +1,14 @@
 -- What the walk finds is what the definition's check says.
 use mathlib.Core.Path.{_≡_, refl, sym, _∙_, ap}
 use native.Mathlib.Omega.{arith}
-use Rattle.def_numbers.specs.Prelude.{ℕ, zero, suc, _+_, Bool, true, false, not, Option, none, some, List, [], _∷_, eqb, length}
+use Rattle.def_numbers.specs.Prelude.{ℕ, suc, _+_, Bool, true, false, not, Option, none, some, List, [], _∷_, eqb}
 use Rattle.def_numbers.specs.Basics.{Result, ok, refused, _>>=_, placed, if_then_else_, isEmpty}
 use Rattle.def_image.specs.Image.{Placed}
 use Rattle.def_stages.specs.Ranges.{orElse}
 use Rattle.def_stages.specs.Component.{Component}
-use Rattle.def_stages.specs.Concatenation.{Running, running, Concatenation, addWidth, checkType, checkFrom, check, merge, isStaticLiteral, isUnboundedFiller}
+use Rattle.def_stages.specs.Concatenation.{Running, running, Concatenation, addWidth, checkType, checkFrom, check, isStaticLiteral, isUnboundedFiller}
 use Rattle.def_stages.specs.Overall.{placeFrom, isFiller}
-use Rattle.concatenation.specs.Running.{finishOf, stepOf}
+use Rattle.concatenation.specs.Running.{finishOf}
 use Rattle.tree.specs.Read.{readIn}
 use Rattle.tree.specs.declared.cursor.Cursor.{Cursor}
 use Rattle.stage3.specs.declared.Found.{Found}
@@ -16,7 +16,7 @@ use Rattle.stage3.specs.declared.CheckResult.{CheckResult}
 use Rattle.stage3.specs.declared.CheckResult.the-variants as R
 use Rattle.stage3.specs.Check.{HasFound, Checks, ReadBy, CheckIs}
 use Rattle.stage3.specs.Count.{oneMore, countFrom, merge-length}
-use Rattle.stage3.specs.Tally.{Tally, Total, noTally, firstOf, tallied, stepTally, totalOf, endOf, foundOf, answerOf}
+use Rattle.stage3.specs.Tally.{Tally, Total, noTally, firstOf, tallied, totalOf, foundOf, answerOf}
 use Rattle.stage3.specs.Walk.{walk, overFrom, bind-same, walk-answer, walk-read}
 
 abbrev filler-at : Placed Component → Bool
