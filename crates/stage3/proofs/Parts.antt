@@ -6,7 +6,6 @@ use Rattle.def_numbers.specs.Basics.{Result, ok, _>>=_}
 use Rattle.def_stages.specs.Component as Def
 use Rattle.def_stages.specs.Concatenation.{Running, isStaticLiteral, isUnboundedFiller}
 use Rattle.def_stages.specs.Overall.{isFiller}
-use Rattle.laws.specs.Tests.{eqb-false}
 use Rattle.errors.specs.Refused.{resultOf, refusedAs}
 use Rattle.errors.specs.declared.Checked.{Checked}
 use Rattle.errors.specs.declared.Checked.the-variants as C
@@ -92,9 +91,3 @@ module _ (s : Checked) (w : Result Unit) (e : resultOf s ≡ w) where
 
   pub end-off : (q : Refusal) (y : Total) → s ≡ C.Refused q → refusedAs q ≡ (w >>= λ _. ok y)
   end-off q y h = rw (← e, h)
-
-pub last-zero : (i m : ℕ) → i ≡ 0 → eqb m 0 ≡ (eqb i 0 && eqb m 0)
-last-zero i m h = rw h
-
-pub last-other : (i m : ℕ) → (i ≡ 0 → ⊥) → false ≡ (eqb i 0 && eqb m 0)
-last-other i m h = rw (eqb-false i 0 h)

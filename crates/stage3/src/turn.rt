@@ -8,8 +8,8 @@ use component::ComponentResult;
 use component::Place;
 use errors::Checked;
 use tree::Cursor;
+use tree::is_last;
 ghost use mathlib.Core.Path.{_≡_};
-ghost use mathlib.Core.Bool.{_&&_};
 ghost use lib.Dec.{eqb};
 ghost use Prim.Native.Nat.{_<_};
 ghost use Rattle.component.specs.Values.{componentOf};
@@ -30,16 +30,6 @@ fn stepped(image: &[u8], i: u32, j: u32, last: bool, place: Place, c: Component,
         Checked::Passed => Turned::Ok(tallied(j, c, after, s)),
         Checked::Refused(q) => Turned::Refused(q),
     }
-}
-
-// The most significant of concatenation 0 is scanned for a starting value.
-fn is_last(i: u32, m: u32) -> bool
-    ensures { λ b. ⌜ b ≡ (eqb i 0 && eqb m 0) ⌝ }
-{
-    if i == 0 {
-        return m == 0;
-    }
-    false
 }
 
 // Component j of concatenation i, where m others of it come after.
