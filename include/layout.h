@@ -1,5 +1,6 @@
-/* The layout reader: one function of the static library target/staticlib/liblayout_c.a, which `rt staticlib layout_c` proves and
- * writes (for x86-64 Linux). It takes any bytes, allocates nothing, keeps nothing between calls, and writes nothing but the area.
+/* The layout reader: two functions of the static library target/staticlib/liblayout_c.a, which `rt staticlib layout_c` proves and
+ * writes (for x86-64 Linux). They take any bytes, allocate nothing, keep nothing between calls, and write nothing but what is lent to
+ * be written.
  *
  *     uint8_t area[LAYOUT_ANY_AREA];
  *     uint64_t outcome = layout_run(image, image_length, 0, area, sizeof area);
@@ -34,7 +35,14 @@ uint64_t layout_run(const uint8_t *image, size_t image_length, uint32_t mode, ui
     ((size_t)32 + (size_t)20 * (concatenations) + (size_t)72 * (components) + (size_t)(literal_bytes))
 #define LAYOUT_ANY_AREA 26976
 
-/* What an outcome says. */
+/* The text that the program `layout` prints, for an input of one mode byte and an image: its length. Where the text is longer than
+ * out, the answer is 0, and out has its first part; LAYOUT_ANY_LISTING bytes are enough for any. The bytes after the text are as lent.
+ * It needs about 30 KB of stack. */
+size_t layout_listing(const uint8_t *input, size_t input_length, uint8_t *out, size_t out_length);
+
+#define LAYOUT_ANY_LISTING 140577
+
+/* What an outcome of layout_run says. */
 static inline int layout_accepted(uint64_t outcome) { return outcome >> 32 == 0; }
 
 /* accepted: the answer's length */

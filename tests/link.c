@@ -103,5 +103,20 @@ int main(int argc, char **argv) {
     outcome = layout_run(NULL, 0, 7, NULL, 0);
     expect(layout_number(outcome) == 1, "nothing at all in mode 7 is refused with number 1");
     expect(LAYOUT_AREA(16, 256, 8192) == LAYOUT_ANY_AREA, "the greatest area");
+
+    static const char empty[] = "refused 2 0 0\n";
+    static uint8_t text[LAYOUT_ANY_LISTING + GUARD], cut_text[LAYOUT_ANY_LISTING + GUARD];
+    memset(text, 0xa5, sizeof text);
+    size_t n = layout_listing(NULL, 0, text, LAYOUT_ANY_LISTING);
+    expect(n == 14 && !memcmp(text, empty, n) && as_lent(text, n, sizeof text), "the listing of no input");
+    memset(text, 0xa5, sizeof text);
+    n = layout_listing(whole.bytes, whole.length, text, LAYOUT_ANY_LISTING);
+    expect(n > 0 && !memcmp(text, "layout 2 3 40 ", 14) && as_lent(text, n, sizeof text), "the listing of the line");
+    expect(layout_listing(cut.bytes, cut.length, cut_text, LAYOUT_ANY_LISTING) == n && !memcmp(text, cut_text, n),
+           "the listing of the cut line is the same");
+    memset(text, 0xa5, sizeof text);
+    expect(layout_listing(whole.bytes, whole.length, text, n - 1) == 0 && as_lent(text, n - 1, sizeof text),
+           "a shorter buffer is said to be too short, guard bytes as lent");
+    expect(layout_listing(NULL, 0, NULL, 0) == 0, "no buffer at all");
     return failures != 0;
 }

@@ -19,10 +19,20 @@ extern "C" {
         area: *mut u8,
         area_length: usize,
     ) -> u64;
+
+    fn layout_listing(
+        input: *const u8,
+        input_length: usize,
+        out: *mut u8,
+        out_length: usize,
+    ) -> usize;
 }
 
 /// A length of area that is enough for any image.
 pub const ANY_AREA: usize = area_needed(16, 256, 8_192);
+
+/// A length of buffer that is enough for any listing.
+pub const ANY_LISTING: usize = 140_577;
 
 /// The length of area that an image with these counts asks for; a shorter one
 /// is refused with number 8.
@@ -67,4 +77,13 @@ pub fn run(image: &[u8], mode: u32, area: &mut [u8]) -> Result<usize, Refusal> {
             component: outcome as u32 & 0xffff,
         }),
     }
+}
+
+/// The text that the program `layout` prints for an input, one mode byte and an
+/// image: its length, or nothing where it is longer than the buffer.
+pub fn listing(input: &[u8], out: &mut [u8]) -> Option<usize> {
+    // SAFETY: as in `run`, with the input read and the buffer written.
+    let length =
+        unsafe { layout_listing(input.as_ptr(), input.len(), out.as_mut_ptr(), out.len()) };
+    (length > 0).then_some(length)
 }

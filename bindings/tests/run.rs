@@ -1,7 +1,7 @@
 //! The safe function over the static library: accepted, refused, guard bytes,
 //! the area as lent after a refusal, empty slices.
 
-use layout_reader::{area_needed, run, Refusal, ANY_AREA};
+use layout_reader::{area_needed, listing, run, Refusal, ANY_AREA, ANY_LISTING};
 
 /// A mode byte and an image each.
 const WHOLE: &[u8] = include_bytes!("../../examples/whole.in");
@@ -67,4 +67,21 @@ fn empty_slices() {
     let mut area = [LENT; 8];
     assert_eq!(run(&[], 2, &mut area), refusal(2, 0, 0));
     assert_eq!(area, [LENT; 8]);
+}
+
+#[test]
+fn listings() {
+    let text = "layout 2 3 40 none D Z -\nc 0 2 40 none D Z\nvariable +0 +24 amount\n\
+                literal +0 +16 1234\nc 1 1 40 none D Z\nvariable +0 +40 card\n";
+    for input in [WHOLE, CUT] {
+        let mut out = vec![LENT; ANY_LISTING];
+        assert_eq!(listing(input, &mut out), Some(text.len()));
+        assert_eq!(out[..text.len()], *text.as_bytes());
+        assert!(out[text.len()..].iter().all(|byte| *byte == LENT));
+    }
+    let mut out = [LENT; 14];
+    assert_eq!(listing(&[], &mut out), Some(14));
+    assert_eq!(out, *b"refused 2 0 0\n");
+    assert_eq!(listing(&[], &mut out[..13]), None);
+    assert_eq!(listing(&[], &mut []), None);
 }
