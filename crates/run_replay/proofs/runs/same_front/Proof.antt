@@ -1,9 +1,9 @@
--- `run_replay::same_front` is safe: the part compared lies in the buffer. Assumes nothing.
+-- `run_replay::runs::same_front` is safe: the part compared lies in the buffer. Assumes nothing.
 use borrow.Author.Needs.{needs}
 use mathlib.Core.Path.{sym}
 use lib.Seq.{length-take-le}
-use Rattle.run_replay.proofs.same_front.Statement.{statement}
-use Rattle.run_replay.proofs.same_front.Tie as tie
+use Rattle.run_replay.proofs.runs.same_front.Statement.{statement}
+use Rattle.run_replay.proofs.runs.same_front.Tie as tie
 
 returns : tie.Need-returns
 returns c = search needs
