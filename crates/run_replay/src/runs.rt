@@ -7,7 +7,7 @@ pub(crate) const DIFFERENT: usize = 46;
 
 // The pattern's byte at a place.
 fn pattern(i: usize) -> u8 {
-    (i % 251) as u8
+    (i % 256) as u8
 }
 
 fn fill(area: &mut [u8]) {
