@@ -1,6 +1,10 @@
 // One run over an area filled with a known pattern, and its listing compared with the one that the Rust gave.
 use listing::Outcome;
 use listing::Written;
+ghost use mathlib.Core.Path.{_≡_};
+ghost use mathlib.Core.Bool.{true};
+ghost use lib.ListN.{take};
+ghost use Rattle.listing.specs.Outcomes.{listingOf};
 
 // What an entry came to is a number: 0 accepted, 1 to 45 the number of its refusal, or this.
 pub(crate) const DIFFERENT: usize = 46;
@@ -31,14 +35,19 @@ fn untouched(area: &[u8], from: usize) -> bool {
 }
 
 // Whether the first n bytes of the buffer are these.
-fn same_front(out: &[u8], n: usize, told: &[u8]) -> bool {
+fn same_front(out: &[u8], n: usize, told: &[u8]) -> bool
+    ensures { λ r. ⌜ (r ≡ true → take n (now (out .entry)) ≡ now (told .entry)) ⌝ }
+{
     if out.len() < n {
         return false;
     }
     check::same(&out[..n], told)
 }
 
-fn same_listing(image: &[u8], area: &[u8], outcome: Outcome, told: &[u8], out: &mut [u8]) -> bool {
+// Whether the listing of the outcome is the one told.
+fn same_listing(image: &[u8], area: &[u8], outcome: Outcome, told: &[u8], out: &mut [u8]) -> bool
+    ensures { λ r. ⌜ (r ≡ true → listingOf (now (image .entry)) (now (area .entry)) outcome ≡ now (told .entry)) ⌝ }
+{
     match listing::write_listing(image, area, outcome, out) {
         Written::Whole(n) => same_front(out, n, told),
         Written::Cut => false,
