@@ -2,3 +2,5 @@
 pub mod Put
 pub mod Runs
 pub mod Blocks
+pub mod Literals
+pub mod State

@@ -1,0 +1,4 @@
+-- Laws that the functions' proofs cite.
+pub mod Appended
+pub mod Spans
+pub mod Closing
