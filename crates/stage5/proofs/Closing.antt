@@ -3,10 +3,10 @@ use mathlib.Core.Path.{_≡_, refl, sym, ap, subst, _∙_}
 use mathlib.Core.Bool.{true≢false}
 use Prim.Native.Nat.{_≤_, _<_, min}
 use native.Mathlib.Omega.{arith}
-use lib.ListN.{length-append, drop-of-length-le}
-use lib.Seq.{sets}
+use lib.ListN.{length-append, length-drop, drop-of-length-le}
+use lib.Seq.{sets, take-all}
 use borrow.Author.Tests.{leb-true, leb-false}
-use Rattle.def_numbers.specs.Prelude.{ℕ, _+_, _*_, _-_, _%_, _^_, Bool, true, false, not, none, some, List, [], _∷_, _++_, length, drop, leb, pos}
+use Rattle.def_numbers.specs.Prelude.{ℕ, _+_, _*_, _-_, _%_, _^_, Bool, true, false, not, none, some, List, [], _∷_, _++_, length, take, drop, leb, pos}
 use Rattle.def_numbers.specs.Basics.{all, tab, joined}
 use Rattle.def_image.specs.Image.{Placed, padded, bytesFor}
 use Rattle.def_image.specs.Tree.{packed}
@@ -42,7 +42,7 @@ pub fixed-is : (n : ℕ) (image : List ℕ) (text : ℕ)
       «end» = O.Some (record { s = record { at = 0; len = 0 }; x = record { high = 0; low = n } });
     })
 unfolding valueOf padded
-fixed-is n image text = let e : n ≡ 0 * 2 ^ 64 + n = omega arith in cc (ap pos e)
+fixed-is n image text = let e : n ≡ 0 * 2 ^ 64 + n = omega arith in cc
 
 -- what is behind the end of a list is behind every later place
 drop-least : (l : List ℕ) (at k : ℕ) → k ≡ min at (length l) → drop k l ≡ drop at l
@@ -50,7 +50,9 @@ drop-least l at k e =
     by-test (leb at (length l))
     (λ t. let h = leb-true at (length l) t in
     let f : k ≡ at = omega arith in ap (λ (n : ℕ). drop n l) f)
-    (λ t. let h = leb-false at (length l) t in drop-of-length-le (omega arith) ∙ sym (drop-of-length-le (omega arith)))
+    (λ t. let h = leb-false at (length l) t in
+    let g : length l ≤ k = omega arith in
+    let f : length l ≤ at = omega arith in drop-of-length-le l g ∙ sym (drop-of-length-le l f))
 
 packed-none : packed [] ≡ []
 unfolding packed tab
@@ -61,7 +63,7 @@ unfolding all
 no-bits = refl
 
 -- an area without an open run
-pub holds-none : (area : List ℕ) (w : Writing) → Holds area area (record { w = w; open = false; bits = 0 }) none
+pub holds-none : (area : List ℕ) (w : Writing) → Holds area area (record { w = w; running = false; bits = 0 }) none
 holds-none area w =
     record {
       is-open = refl;
@@ -75,15 +77,17 @@ written-none base area s h = h .written ∙ ap (sets base (s .w .literals + s .w
 
 -- ---- bits more
 
-pub lengthened : (image entry after : List ℕ) (literal : ℕ) (b : Bits) (s : Merging) (k at count : ℕ) → k ≡ min literal (length image)
-    → at ≡ (s .w .literals + s .w .offset) % 2 ^ 64 → AppendIs at (s .bits) (drop k image) (b .from) (b .to - b .from) entry after
+pub lengthened : (image entry after : List ℕ) (place : ℕ) (b : Bits) (s : Merging) (k at count : ℕ) → b .from ≤ b .to → k ≡ min place (length image)
+    → at ≡ (s .w .literals + s .w .offset) % 2 ^ 64 → AppendIs at (s .bits) (take (length image - k) (drop k image)) (b .from) (b .to - b .from) entry after
     → count ≡ (s .bits + (b .to - b .from)) % 2 ^ 64
-    → LongerIs image literal b s (record { w = s .w; open = true; bits = count }) entry after
-lengthened image entry after literal b s k at count k-is at-is app count-is base o d h bits last same fits reach =
+    → LongerIs image place b s (record { w = s .w; running = true; bits = count }) entry after
+lengthened image entry after place b s k at count order k-is at-is app count-is base o d h bits last same fits reach =
     let n : ℕ = b .to - b .from in
-    let new = bitsFrom (drop k image) (b .from) n in
-    let new-is : new ≡ bitsOf (d .value) = ap (λ (l : List ℕ). bitsFrom l (b .from) n) (drop-least image literal k k-is) ∙ sym same in
-    let l₁ : length (bitsOf (d .value)) ≡ n = ap length same ∙ length-tab (bitOf (drop literal image)) (b .from) n in
+    let part = take (length image - k) (drop k image) in
+    let part-is : part ≡ drop place image = take-all (length image - k) (drop k image) (rw length-drop (omega arith)) ∙ drop-least image place k k-is in
+    let new = bitsFrom part (b .from) n in
+    let new-is : new ≡ bitsOf (d .value) = ap (λ (l : List ℕ). bitsFrom l (b .from) n) part-is ∙ sym same in
+    let l₁ : length (bitsOf (d .value)) ≡ n = ap length same ∙ length-tab (bitOf (drop place image)) (b .from) n in
     let l₂ = length-append (runBits o) (bitsOf (d .value)) in
     let l₃ = length-packed (longer o d .value) in
     let c = h .count in
@@ -127,14 +131,14 @@ finished entry after base kind range count w next bytes offset put next-is bytes
 
 -- ---- the end of a run
 
-pub close-none : (s : Merging) (area : List ℕ) → not (s .open) ≡ true → CloseIs s s area area
+pub close-none : (s : Merging) (area : List ℕ) → not (s .running) ≡ true → CloseIs s s area area
 close-none s area t base none ms h room = record { area = base; holds = h; same = record { bytes = refl; place = refl; room = room } }
 close-none s area t base (some b) ms h room = absurd (true≢false (sym t ∙ ap not (h .is-open)))
 
-pub close-some : (s : Merging) (entry after : List ℕ) (range : Usbr) (w : Writing) → not (s .open) ≡ false
+pub close-some : (s : Merging) (entry after : List ℕ) (range : Usbr) (w : Writing) → not (s .running) ≡ false
     → ((image : List ℕ) (text : ℕ) → fixedRange (s .bits) ≡ usbrOf image text range)
     → FinishIs 0 (K.Literal (s .bits % 2 ^ 32)) range (s .bits) (s .w) w entry after
-    → CloseIs s (record { w = w; open = false; bits = 0 }) entry after
+    → CloseIs s (record { w = w; running = false; bits = 0 }) entry after
 close-some s entry after range w t fixed fin base none ms h room = absurd (true≢false (ap not (sym (h .is-open)) ∙ t))
 close-some s entry after range w t fixed fin base (some b) ms h room =
     let c = h .count in
@@ -142,11 +146,12 @@ close-some s entry after range w t fixed fin base (some b) ms h room =
     let l = length-literals (literalOf b) ms in
     let p = length-packed (b .value) in
     let n : length (b .value) ≡ s .bits % 2 ^ 32 = omega arith in
-    let (f, g) = fin [] 0 (fixedLiteral (b .value)) (b .value, refl, n) (ap fixedRange (sym c) ∙ fixed [] 0) (sym c) base ms (h .written) room in
+    let (f, g) = fin [] 0 (fixedLiteral (b .value)) (b .value, refl, n) (ap fixedRange (sym c) ∙ fixed [] 0) (sym c) base ms (h .written)
+    (record { blocks = room .blocks; literal-block = room .literal-block; offsets = room .offsets }) in
     go f g
   where
     go : after ≡ putOne base (s .w) (literalOf b) → w ≡ writtenOne (s .w) (literalOf b)
-        → Closes base (s .w) (literalOf b ∷ ms) ms after (record { w = w; open = false; bits = 0 })
+        → Closes base (s .w) (literalOf b ∷ ms) ms after (record { w = w; running = false; bits = 0 })
     go f g =
         record {
           area = after;

@@ -2,3 +2,5 @@
 pub mod Appended
 pub mod Spans
 pub mod Closing
+pub mod Steps
+pub mod Turns

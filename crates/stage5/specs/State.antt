@@ -29,7 +29,7 @@ isOpen o = elim o [ none ↦ false | some b ↦ true ]
 
 -- `base` is the area without the open run's bits
 pub record Holds (base area : List ℕ) (s : Merging) (o : Run) : Type 0 where
-  pub is-open : s .open ≡ isOpen o
+  pub is-open : s .running ≡ isOpen o
   pub count : s .bits ≡ length (runBits o)
   pub are-bits : Prepared.Bits (runBits o)
   pub written : area ≡ sets base (s .w .literals + s .w .offset) (packed (runBits o))

@@ -36,7 +36,7 @@ pub fn put_merged(area: &mut [u8], image: &[u8], i: u32, c: Cursor, n: u32, w: W
 {
     let mut s = Merging {
         w,
-        open: false,
+        running: false,
         bits: 0,
     };
     let mut at = c;

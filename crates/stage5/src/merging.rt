@@ -27,7 +27,7 @@ ghost use Rattle.stage5.specs.State.{LongerIs, FinishIs, CloseIs, OtherI
 // Where to write, whether a run of static literals is open, and how many bits it has.
 pub struct Merging {
     pub w: Writing,
-    pub open: bool,
+    pub running: bool,
     pub bits: usize,
 }
 
@@ -62,7 +62,7 @@ fn lengthen(area: &mut [u8], image: &[u8], literal: usize, b: Bits, s: Merging) 
     append_bits(area, at, s.bits, t, b.from, n);
     Merging {
         w,
-        open: true,
+        running: true,
         bits: std::num::wrapping_add_usize(s.bits, n),
     }
 }
@@ -83,7 +83,7 @@ fn finish(area: &mut [u8], base: u32, kind: Kind, range: Usbr, bits: usize, w: W
 pub fn close(area: &mut [u8], s: Merging) -> Merging
     ensures { λ r. ⌜ CloseIs s r (now (area .entry)) (now (area .exit)) ⌝ }
 {
-    if !s.open {
+    if !s.running {
         return s;
     }
     let kind = Kind::Literal((s.bits % 4294967296) as u32);
@@ -91,7 +91,7 @@ pub fn close(area: &mut [u8], s: Merging) -> Merging
     let next = finish(area, 0, kind, fixed_range(s.bits), s.bits, w);
     Merging {
         w: next,
-        open: false,
+        running: false,
         bits: 0,
     }
 }
@@ -109,7 +109,7 @@ fn put_other(area: &mut [u8], image: &[u8], spot: Spot, x: Component, s: Merging
     let next = finish(area, spot.base, kind_of(place, t), range, r.bits, w);
     Merging {
         w: next,
-        open: false,
+        running: false,
         bits: 0,
     }
 }
