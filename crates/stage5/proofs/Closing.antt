@@ -94,8 +94,7 @@ lengthened image entry after place b s k at count order k-is at-is app count-is 
     let at₁ : at ≡ s .w .literals + s .w .offset = omega arith in
     let e : entry ≡ sets base at (packed (runBits o)) = rw at₁ (h .written) in
     let f : after ≡ sets base at (packed (runBits o ++ new)) =
-    app base (runBits o) (h .are-bits) (sym c) e (omega arith) (omega arith) (omega arith) in
-    (
+    app base (runBits o) (h .are-bits) (sym c) e (omega arith) (omega arith) (omega arith) in (
       record {
         is-open = refl;
         count = omega arith;
@@ -121,8 +120,7 @@ finished entry after base kind range count w next bytes offset put next-is bytes
     let p = length-packed (bitsOf c) in
     let o : w .offset % 2 ^ 32 ≡ w .offset = omega arith in
     let a : next ≡ w .at + 72 = omega arith in
-    let b : offset ≡ w .offset + length (packed (bitsOf c)) = omega arith in
-    (
+    let b : offset ≡ w .offset + length (packed (bitsOf c)) = omega arith in (
       put image text c hk hr
           ∙ ap (λ (x : ℕ). sets entry (w .at) (componentBytes x m)) o
           ∙ ap (λ (x : List ℕ). sets x (w .at) (componentBytes (w .offset) m)) e,

@@ -110,8 +110,7 @@ module _ (image : List ℕ) (i : ℕ) where
   unfolding componentsBytes joined
   nothing-put area w =
       let a : w .at + sizes .component * 0 ≡ w .at = omega arith in
-      let b : w .offset + 0 ≡ w .offset = omega arith in
-      (
+      let b : w .offset + 0 ≡ w .offset = omega arith in (
         refl,
         ap (λ (x : ℕ). record { at = x; literals = w .literals; offset = w .offset + 0 }) a
             ∙ ap (λ (x : ℕ). record { at = w .at; literals = w .literals; offset = x }) b,

@@ -41,7 +41,10 @@ fn fixed_range(bits: usize) -> Usbr
     };
     let stop = Usb {
         s: Part { at: 0, len: 0 },
-        x: I128 { high: 0, low: bits as u64 },
+        x: I128 {
+            high: 0,
+            low: bits as u64,
+        },
     };
     Usbr {
         start,
@@ -71,7 +74,14 @@ fn lengthen(area: &mut [u8], image: &[u8], literal: usize, b: Bits, s: Merging) 
 fn finish(area: &mut [u8], base: u32, kind: Kind, range: Usbr, bits: usize, w: Writing) -> Writing
     ensures { λ r. ⌜ FinishIs base kind range bits w r (now (area .entry)) (now (area .exit)) ⌝ }
 {
-    answer::put_component(area, w.at, base, (w.offset % 4294967296) as u32, kind, range);
+    answer::put_component(
+        area,
+        w.at,
+        base,
+        (w.offset % 4294967296) as u32,
+        kind,
+        range,
+    );
     Writing {
         at: std::num::wrapping_add_usize(w.at, 72),
         literals: w.literals,
