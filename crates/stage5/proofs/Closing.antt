@@ -1,19 +1,18 @@
 -- The run's bits, a component's block, and the end of a run.
 use mathlib.Core.Path.{_≡_, refl, sym, ap, subst, _∙_}
 use mathlib.Core.Bool.{true≢false}
-use Prim.Native.Nat.{_≤_, _<_, min}
+use Prim.Native.Nat.{_≤_, min}
 use native.Mathlib.Omega.{arith}
 use lib.ListN.{length-append, length-drop, drop-of-length-le}
 use lib.Seq.{sets, take-all}
 use borrow.Author.Tests.{leb-true, leb-false}
-use Rattle.def_numbers.specs.Prelude.{ℕ, _+_, _*_, _-_, _%_, _^_, Bool, true, false, not, none, some, List, [], _∷_, _++_, length, take, drop, leb, pos}
-use Rattle.def_numbers.specs.Basics.{all, tab, joined}
+use Rattle.def_numbers.specs.Prelude.{ℕ, _+_, _*_, _-_, _%_, _^_, true, false, not, none, some, List, [], _∷_, _++_, length, take, drop, leb}
+use Rattle.def_numbers.specs.Basics.{all, tab}
 use Rattle.def_image.specs.Image.{Placed, padded, bytesFor}
 use Rattle.def_image.specs.Tree.{packed}
-use Rattle.def_stages.specs.Component.{Component, literal}
+use Rattle.def_stages.specs.Component.{Component}
 use Rattle.def_stages.specs.Concatenation.{bitsOf, fixedLiteral}
-use Rattle.def_run.specs.Answer.{componentBytes, literalBytes}
-use Rattle.answer_fits.specs.Statement.{literalsOf}
+use Rattle.def_run.specs.Answer.{componentBytes}
 use Rattle.laws.specs.Tests.{by-test}
 use Rattle.laws.specs.Lists.{length-tab}
 use Rattle.prepared.specs.Bits as Prepared
@@ -30,8 +29,7 @@ use Rattle.answer.specs.declared.Kind.the-variants as K
 use Rattle.answer.specs.Kinds.{HasKind}
 use Rattle.stage5.specs.declared.Writing.{Writing}
 use Rattle.stage5.specs.declared.merging.Merging.{Merging}
-use Rattle.stage5.specs.Put.{Room}
-use Rattle.stage5.specs.Runs.{Run, runBits, literalOf, longer, closed}
+use Rattle.stage5.specs.Runs.{runBits, literalOf, longer}
 use Rattle.stage5.specs.Blocks.{putOne, writtenOne, Same, same-one, length-literals}
 use Rattle.stage5.specs.Literals.{AppendIs, fixedRange}
 use Rattle.stage5.specs.State.{Holds, LongerIs, FinishIs, CloseIs, Closes}

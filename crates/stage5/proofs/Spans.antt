@@ -1,6 +1,5 @@
 -- A component's bits and kind, by its type.
-use mathlib.Core.Path.{_≡_, refl, sym, ap, _∙_}
-use Prim.Native.Nat.{_<_}
+use mathlib.Core.Path.{_≡_, refl, ap, _∙_}
 use native.Mathlib.Omega.{arith}
 use Rattle.def_numbers.specs.Prelude.{ℕ, _-_, false, _&&_, List, [], length, drop, eqb}
 use Rattle.laws.specs.Tests.{eqb-false}

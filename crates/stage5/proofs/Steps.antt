@@ -1,11 +1,10 @@
 -- A component that is no static literal, a component of either kind, and the component at a cursor.
 use mathlib.Core.Path.{_≡_, refl, sym, ap, subst, _∙_}
-use Prim.Native.Nat.{_≤_, _<_}
+use Prim.Native.Nat.{_≤_}
 use native.Mathlib.Omega.{arith}
 use lib.ListN.{length-append}
-use lib.Seq.{sets}
-use Rattle.def_numbers.specs.Prelude.{ℕ, _+_, _*_, _-_, _^_, Bool, true, false, not, none, some, List, [], _∷_, _++_, length, drop}
-use Rattle.def_numbers.specs.Basics.{Result, ok, refused, _>>=_}
+use Rattle.def_numbers.specs.Prelude.{ℕ, _+_, _-_, Bool, true, false, not, none, some, List, [], _∷_, _++_, length}
+use Rattle.def_numbers.specs.Basics.{ok, _>>=_}
 use Rattle.def_image.specs.Image.{Placed, bytesFor}
 use Rattle.def_image.specs.Tree.{packed}
 use Rattle.def_stages.specs.Component.{Component}
@@ -13,7 +12,6 @@ use Rattle.def_stages.specs.Concatenation.{bitsOf, isStaticLiteral}
 use Rattle.answer_fits.specs.Statement.{literalsOf}
 use Rattle.laws.specs.Tests.{by-test}
 use Rattle.laws.specs.Results.{ok-same}
-use Rattle.prepared.specs.Bits as Prepared
 use Rattle.prepared.specs.Bits.{length-packed}
 use Rattle.errors.specs.Refused.{refusedAs}
 use Rattle.errors.specs.declared.Refusal.{Refusal}
@@ -34,7 +32,7 @@ use Rattle.stage5.specs.declared.Writing.{Writing}
 use Rattle.stage5.specs.declared.merging.Merging.{Merging}
 use Rattle.stage5.specs.Put.{Room}
 use Rattle.stage5.specs.Runs.{Run, runBits, literalOf, longer, closed, mergeFrom, from-end, from-static, from-other}
-use Rattle.stage5.specs.Blocks.{putOne, writtenOne, Same, same-one, same-then, length-literals}
+use Rattle.stage5.specs.Blocks.{putOne, Same, same-one, same-then, length-literals}
 use Rattle.stage5.specs.Literals.{Span, typeBits}
 use Rattle.stage5.specs.State.{Holds, LongerIs, FinishIs, CloseIs, Closes, OtherIs, Goes, StepIs, TurnIs}
 use Rattle.stage5.proofs.Closing.{holds-none}

@@ -2,12 +2,12 @@
 use mathlib.Core.Path.{_≡_}
 use Prim.Native.Nat.{_≤_, _<_}
 use lib.Seq.{sets}
-use Rattle.def_numbers.specs.Prelude.{ℕ, _+_, _-_, _*_, _^_, Bool, true, false, none, some, List, [], _∷_, length, drop}
+use Rattle.def_numbers.specs.Prelude.{ℕ, _+_, _-_, _*_, _^_, Bool, true, false, none, some, List, _∷_, length, drop}
 use Rattle.def_numbers.specs.Basics.{ok}
-use Rattle.def_image.specs.Image.{Placed, bytesFor}
+use Rattle.def_image.specs.Image.{Placed}
 use Rattle.def_image.specs.Tree.{packed}
 use Rattle.def_stages.specs.Component.{Component}
-use Rattle.def_stages.specs.Concatenation.{bitsOf, merge}
+use Rattle.def_stages.specs.Concatenation.{bitsOf}
 use Rattle.prepared.specs.Bits as Prepared
 use Rattle.answer_fits.specs.Fixed.{AllFixed}
 use Rattle.usb.specs.declared.Usbr.{Usbr}

@@ -1,4 +1,3 @@
-use mathlib.Core.Path.{_≡_}
 use Rattle.stage5.proofs.Spans.{last-zero, last-other}
 use Rattle.stage5.proofs.is_last.Statement.{statement}
 use Rattle.stage5.proofs.is_last.Tie as tie

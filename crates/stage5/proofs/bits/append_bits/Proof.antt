@@ -1,4 +1,3 @@
-use Prim.Native.Nat.{_+_, _*_, _<_, _^_}
 use native.Mathlib.Omega.{arith}
 use borrow.Author.Needs.{needs}
 use Rattle.stage5.proofs.Appended.{near-is, far-off, appended}

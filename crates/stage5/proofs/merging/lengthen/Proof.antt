@@ -1,4 +1,3 @@
-use native.Mathlib.Omega.{arith}
 use borrow.Author.Needs.{needs}
 use Rattle.stage5.proofs.Closing.{lengthened}
 use Rattle.stage5.proofs.merging.lengthen.Statement.{statement}
