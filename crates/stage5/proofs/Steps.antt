@@ -90,7 +90,7 @@ module _ (image entry : List ℕ) (spot : Spot) (x : code.Component) (s : Mergin
       go area v e same held v-is =
           let same₁ : Same base (s .w) (closed o (d ∷ ms)) area (r .w) (d ∷ ms) =
           subst (λ (u : Writing). Same base (s .w) (closed o (d ∷ ms)) area u (d ∷ ms)) (sym (sym v-is ∙ e)) same in
-          let (p, q) = finish image (spot .place .text) (d .value) (kind image) refl (sym (held .count)) area ms (held .written) (same₁ .room) in
+          let (p, q) = finish image (spot .place .text) (d .value) (d .value) (kind image) refl refl (sym (held .count)) area ms (held .written) (same₁ .room) in
           let last : Same area (r .w) (d ∷ ms) after w ms =
           subst (λ (y : List ℕ). Same area (r .w) (d ∷ ms) y w ms) (sym p)
           (subst (λ (u : Writing). Same area (r .w) (d ∷ ms) (putOne area (r .w) d) u ms) (sym q) (same-one area (r .w) d ms (same₁ .room))) in
