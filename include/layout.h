@@ -37,7 +37,7 @@ uint64_t layout_run(const uint8_t *image, size_t image_length, uint32_t mode, ui
 
 /* The text that the program `layout` prints, for an input of one mode byte and an image: its length. Where the text is longer than
  * out, the answer is 0, and out has its first part; LAYOUT_ANY_LISTING bytes are enough for any. The bytes after the text are as lent.
- * It needs about 30 KB of stack. */
+ * It keeps an area of LAYOUT_ANY_AREA bytes on the stack. */
 size_t layout_listing(const uint8_t *input, size_t input_length, uint8_t *out, size_t out_length);
 
 #define LAYOUT_ANY_LISTING 140577
