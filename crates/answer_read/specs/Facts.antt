@@ -42,3 +42,13 @@ module _ {A : Type 0} {P : A → Type 0} where
   pub every-split : (k : List A) {l : List A} → Every P (k ++ l) → Every P k × Every P l
   every-split [] q = (every-nil, q)
   every-split (a ∷ k) (every-cons p ps) = let (x, y) = every-split k ps in (every-cons p x, y)
+
+-- a fact that follows from another
+module _ {A : Type 0} {P Q : A → Type 0} (f : (a : A) → P a → Q a) where
+  pub yields-of : {m : Result A} → Yields P m → Yields Q m
+  yields-of (given {a = a} p) = given (f a p)
+  yields-of nothing = nothing
+
+  pub every-of : {l : List A} → Every P l → Every Q l
+  every-of every-nil = every-nil
+  every-of (every-cons {a = a} p ps) = every-cons (f a p) (every-of ps)

@@ -22,7 +22,7 @@ use Rattle.answer_read.specs.Trees.{total, sizeBefore, Begins, Fitting, 
 
 -- ---- parts, joined again
 
-joined-parts : {A : Type 0} (ns : List ℕ) (l : List A) → length l ≤ sum ns → joined (parts ns l) ≡ l
+pub joined-parts : {A : Type 0} (ns : List ℕ) (l : List A) → length l ≤ sum ns → joined (parts ns l) ≡ l
 unfolding joined parts sum
 joined-parts [] [] h = refl
 joined-parts [] (a ∷ l) h = absurd (omega arith)
@@ -30,7 +30,7 @@ joined-parts (n ∷ ns) l h =
     let e = length-drop n l in
     rw (joined-parts ns (drop n l) (omega arith)) (take-append-drop n l)
 
-length-parts : {A : Type 0} (ns : List ℕ) (l : List A) → length (parts ns l) ≡ length ns
+pub length-parts : {A : Type 0} (ns : List ℕ) (l : List A) → length (parts ns l) ≡ length ns
 unfolding parts
 length-parts [] l = refl
 length-parts (n ∷ ns) l = ap suc (length-parts ns (drop n l))

@@ -20,17 +20,14 @@ use Rattle.cut_stages.specs.Statement.{bitsBetween}
 use mathlib.Core.List.{map-append}
 use Rattle.laws.specs.Lists.{joined-append, length-joined}
 use Rattle.prepared.specs.Bits.{Bits, packed-bit}
-use Rattle.answer_read.specs.Facts.{the-given, Every, every-nil, every-cons, every-split}
+use Rattle.answer_read.specs.Facts.{the-given, Every, every-nil, every-cons, every-split, every-of}
 use Rattle.cut_bits.specs.Statement.{HoldsBit}
 use Rattle.cut_bits.specs.Runs.{Static, run-every}
 use Rattle.cut_bits.specs.Merging.{HasBits, Begins, runBits, merge-below, begins-run, merge-bits}
 use Rattle.cut_bits.specs.Widths.{width-known}
 use Rattle.cut_bits.specs.Places.{placeAt, place-above}
-use Rattle.cut_bits.specs.Staged.{NormalAt, early-normal, later-merges}
-
-every-of : {A : Type 0} {P Q : A → Type 0} {l : List A} → ((a : A) → P a → Q a) → Every P l → Every Q l
-every-of f every-nil = every-nil
-every-of f (every-cons {a = a} p ps) = every-cons (f a p) (every-of f ps)
+use Rattle.answer_fits.specs.Staged.{NormalAt}
+use Rattle.cut_bits.specs.Staged.{early-normal, later-merges}
 
 -- ---- a bit of a field
 
@@ -69,10 +66,9 @@ widths-bits : {r : List (Placed Component)} → Every (λ c. NormalAt c × Stati
 unfolding sum joined
 widths-bits every-nil = refl
 widths-bits (every-cons {a = c} {l = r} (n, s) ps) =
-    let (e, b) = n s in
     let w : widthOf c ≡ length (bitsOf (c .value)) =
-    ap (λ (g : Usbr). widthOf (record { base = 0; value = record { c-type = c .value .c-type; range = g } })) e
-    ∙ width-known 0 (c .value .c-type) (length (bitsOf (c .value))) (b .0) in
+    ap (λ (g : Usbr). widthOf (record { base = 0; value = record { c-type = c .value .c-type; range = g } })) (n .0 s)
+    ∙ width-known 0 (c .value .c-type) (length (bitsOf (c .value))) (n .1 .0) in
     rw (w, widths-bits ps) (sym (length-append (bitsOf (c .value)) (runBits r)))
 
 -- ---- a component in its place
@@ -100,7 +96,7 @@ module _ (answer : Answer) (cb : List (List (Placed Component))) (l : List (Plac
   -- the merged literal of the component's run has bits
   first-bits : (k : List (Placed Component)) (d : Placed Component) (ds : List (Placed Component)) → merge (l ++ x ∷ h) ≡ k ++ d ∷ ds → HasBits d
   first-bits k d ds e =
-      elim (every-split k (rw e at (merge-bits (every-of (λ c n s. n s .1 .1) normal))) .1) [ every-cons b bs ↦ b ]
+      elim (every-split k (rw e at (merge-bits (every-of (λ c n s. n .1 .1) normal))) .1) [ every-cons b bs ↦ b ]
 
   place-holds : (j : ℕ) → j < length (bitsOf (x .value))
       → bitIn (shown answer) (placeAt (sum (map (λ c. length (merge c)) cb)) (runEnd l) j) ≡ some (getD (bitsOf (x .value)) j 0)

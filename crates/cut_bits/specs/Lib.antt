@@ -3,7 +3,6 @@ pub mod Statement
 pub mod Runs
 pub mod Merging
 pub mod Widths
-pub mod Normal
 pub mod Places
 pub mod Staged
 pub mod Holding

@@ -27,7 +27,7 @@ module _ (image : List ℕ) where
       let (p, rest) = (and-iff (if eqb (w % 8) 0 then true else ltb last (2 ^ (w % 8))) (sparesZero image (l + bytesFor w) ws)) .0 h in
       (λ some. (leb-iff (suc last) (2 ^ (w % 8))) .0 (rw (ne-eqb (w % 8) 0 (λ e. omega arith)) at p), rest)
 
-  component-step : (r n : ℕ) (ns : List ℕ) → checkComponents image r (n ∷ ns) ≡ ok tt
+  pub component-step : (r n : ℕ) (ns : List ℕ) → checkComponents image r (n ∷ ns) ≡ ok tt
       → (checkIn ((counts image) .t) n (tab (entryAt image) r n) 0 ≡ ok tt) × (checkComponents image (r + n) ns ≡ ok tt)
   unfolding checkComponents
   component-step r n ns h = let (_, p, q) = bind-ok (checkIn ((counts image) .t) n (tab (entryAt image) r n) 0) _ h in (p, q)
@@ -68,20 +68,20 @@ offsets-say : (a b c d e f a′ b′ c′ d′ e′ f′ : ℕ) → (eqb a a′ 
     → (((((a ≡ a′) × (b ≡ b′)) × (c ≡ c′)) × (d ≡ d′)) × (e ≡ e′)) × (f ≡ f′)
 offsets-say a b c d e f a′ b′ c′ d′ e′ f′ h = simp tested at h
 
-entries-say : (p q s u : Bool) (a b c a′ b′ c′ : ℕ) → (p && eqb a a′ && q && eqb b b′ && s && eqb c c′ && u) ≡ true
+pub entries-say : (p q s u : Bool) (a b c a′ b′ c′ : ℕ) → (p && eqb a a′ && q && eqb b b′ && s && eqb c c′ && u) ≡ true
     → ((((((p ≡ true) × (a ≡ a′)) × (q ≡ true)) × (b ≡ b′)) × (s ≡ true)) × (c ≡ c′)) × (u ≡ true)
 entries-say p q s u a b c a′ b′ c′ h = simp tested at h
 
 -- the tests of the image check, one after the other
-record Tested (image : List ℕ) : Type 0 where
-  long : leb 40 (length image) ≡ true
-  counted : countsRight image ≡ true
-  placed : offsetsRight image ≡ true
-  entered : entriesRight image ≡ true
-  first : eqb (startAt image 0) 0 ≡ true
-  walked : checkComponents image 0 (tab (recordCount image) 0 ((counts image) .n)) ≡ ok tt
+pub record Tested (image : List ℕ) : Type 0 where
+  pub long : leb 40 (length image) ≡ true
+  pub counted : countsRight image ≡ true
+  pub placed : offsetsRight image ≡ true
+  pub entered : entriesRight image ≡ true
+  pub first : eqb (startAt image 0) 0 ≡ true
+  pub walked : checkComponents image 0 (tab (recordCount image) 0 ((counts image) .n)) ≡ ok tt
 
-all-tested : (image : List ℕ) → checkImage image ≡ ok tt → Tested image
+pub all-tested : (image : List ℕ) → checkImage image ≡ ok tt → Tested image
 unfolding checkImage
 all-tested image h =
     let (p, h₁) = need-then (leb 40 (length image)) short-image _ h in

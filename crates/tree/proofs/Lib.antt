@@ -1,3 +1,4 @@
 -- Laws that the functions' proofs cite.
 pub mod Loops
 pub mod Ranges
+pub mod Starting

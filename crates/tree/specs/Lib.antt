@@ -4,6 +4,8 @@ pub mod Checked
 pub mod Cursor
 pub mod Pass
 pub mod Read
+pub mod ReadTree
 pub mod Sound
-pub mod Stage1
+pub mod Stages
+pub mod Start
 pub mod Walk

@@ -16,7 +16,7 @@ use Rattle.tree.specs.Chain.{taken}
 use Rattle.tree.specs.Walk.{recordsOf, literalOf}
 use Rattle.tree.specs.Cursor.{firstIn, inRange, nextIn, standingIn, spotIn}
 use Rattle.tree.specs.Pass.{advance}
-use Rattle.tree.specs.Stage1.{Sound}
+use Rattle.tree.specs.Stages.{Sound}
 
 abbrev at : ℕ → ℕ → ℕ → Cursor
 at k r l = record { k = k; r = r; l = l }

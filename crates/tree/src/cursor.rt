@@ -5,9 +5,11 @@ use token_tree::Counts;
 use token_tree::PBind;
 use token_tree::PVal;
 ghost use mathlib.Core.Path.{_≡_};
-ghost use Prim.Native.Nat.{_+_, _*_, _^_, _<_};
+ghost use Prim.Native.Nat.{_+_, _*_, _^_, _<_, _≤_};
 ghost use Rattle.def_image.specs.Image.{bytesFor};
+ghost use Rattle.tree.specs.Chain.{atMost};
 ghost use Rattle.tree.specs.Cursor.{firstIn, inRange, nextIn, nowhereIn, standingIn, spotIn};
+ghost use Rattle.tree.specs.Pass.{advance};
 
 // Component k begins with record r and literal byte l.
 pub struct Cursor {
@@ -60,6 +62,19 @@ pub fn next(image: &[u8], c: Cursor) -> Cursor
         r: c.r + (records as usize),
         l: c.l + bytes,
     }
+}
+
+// The cursor after n components.
+pub fn advanced(image: &[u8], c: Cursor, n: u32) -> Cursor
+    ensures { λ r. ⌜ r ≡ advance (now (image .entry)) c n ⌝ }
+{
+    let mut at = c;
+    let mut j: u32 = 0;
+    while j < n {
+        at = next(image, at);
+        j += 1;
+    }
+    at
 }
 
 fn nowhere() -> Spot
@@ -118,4 +133,11 @@ pub fn place_at(image: &[u8], c: Cursor) -> Spot
         return nowhere();
     }
     standing(image, c.k, c.r as u32, c.l)
+}
+
+// m, or n where there are only so many.
+pub fn at_most(m: u32, n: u32) -> u32
+    ensures { λ r. ⌜ (r ≡ atMost m n) × (r ≤ n) ⌝ }
+{
+    if m < n { m } else { n }
 }

@@ -1,0 +1,36 @@
+-- Every refusal of the whole run has a number of the table, and places within the limits of an image.
+use mathlib.Core.Path.{subst}
+use Rattle.def_numbers.specs.Prelude.{ℕ, true, false, none, some, List, leb}
+use Rattle.def_numbers.specs.Basics.{refused}
+use Rattle.def_numbers.specs.Limits.{areaNeeded}
+use Rattle.def_numbers.specs.Refusals.{mode-above-2, short-area}
+use Rattle.def_image.specs.Image.{Unparsed, Placed, counts, treeOf}
+use Rattle.def_run.specs.Run.{stages, run}
+use Rattle.refusal_places.specs.Statement.{RefusalPlaces}
+use Rattle.refusal_places.specs.Ends.{Told, refuses, Fine, fine, need-ends, bind-ends, next-ends}
+use Rattle.refusal_places.specs.Check.{checkImage-ends}
+use Rattle.refusal_places.specs.Tree.{Within, tree-within, stage1-ends, stage2-ends}
+use Rattle.refusal_places.specs.Concatenation.{stage3-ends}
+use Rattle.refusal_places.specs.Overall.{stage4-fine}
+
+stages-fine : (mode : ℕ) (t : List (List (Placed Unparsed))) → Within 0 t → Fine (stages mode t)
+unfolding stages
+stages-fine mode t w =
+    bind-ends (stage1-ends t w) λ t₁ w₁.
+    bind-ends (stage2-ends t₁ w₁) λ t₂ w₂.
+    bind-ends (stage3-ends 0 (t₂ .cc) w₂) λ cc w₃.
+    next-ends (stage4-fine mode (elim (t₂ .init) [ none ↦ false | some p ↦ true ]) cc w₃) λ o. fine _
+
+run-fine : (image : List ℕ) (mode area : ℕ) → Fine (run image mode area)
+unfolding run
+run-fine image mode area =
+    next-ends (need-ends (leb mode 2) mode-above-2) λ _.
+    bind-ends (checkImage-ends image) λ _ h.
+    next-ends (need-ends (leb (areaNeeded ((counts image) .c) ((counts image) .n) ((counts image) .b)) area) short-area) λ _.
+    next-ends (stages-fine mode (treeOf image) (tree-within image (h .0) (h .1))) λ a. fine _
+
+pub refusal-places : RefusalPlaces
+refusal-places image mode area n i k e = told (subst Fine e (run-fine image mode area))
+  where
+    told : Fine {A = List ℕ} (refused n i k) → Told n i k
+    told (refuses t) = t

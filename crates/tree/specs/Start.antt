@@ -1,0 +1,21 @@
+-- The starting value in code: none, one with its component's text start, or a refusal.
+use Rattle.def_numbers.specs.Prelude.{ℕ, _-_, Option, none, some, List}
+use Rattle.def_numbers.specs.Basics.{Result, ok}
+use Rattle.def_image.specs.Image.{Placed, counts, componentCount}
+use Rattle.def_stages.specs.Text as Text
+use Rattle.errors.specs.Refused.{refusedAs}
+use Rattle.usb.specs.Usb as Usb
+use Rattle.tree.specs.declared.start.Start.{Start}
+use Rattle.tree.specs.declared.start.Start.the-variants as S
+use Rattle.tree.specs.Chain.{atMost}
+use Rattle.tree.specs.Cursor.{firstIn, spotIn}
+use Rattle.tree.specs.Pass.{advance}
+
+-- the byte of the image where the text of the last component of concatenation 0 begins
+unfoldable pub sourceText : List ℕ → ℕ
+sourceText image = (spotIn image (advance image firstIn (atMost (componentCount image 0) ((counts image) .n) - 1))) .place .text
+
+abbrev pub startOf : List ℕ → Start → Result (Option (Placed Text.Part))
+startOf image S.None = ok none
+startOf image (S.Given base p) = ok (some (record { base = base; value = Usb.partOf image (sourceText image) p }))
+startOf image (S.Refused q) = refusedAs q
