@@ -70,7 +70,7 @@ OtherIs d s r before after =
     (base : List ℕ) (o : Run) (ms : List (Placed Component)) → Holds base before s o → Prepared.Bits (bitsOf (d .value))
     → Room base (s .w) (closed o (d ∷ ms)) → Closes base (s .w) (closed o (d ∷ ms)) ms after r
 
--- what is to come of components ms from there is what is to come of cs from here
+-- what is to be written of ms from one place is what is to be written of cs, behind a run, from the place that is reached
 pub record Goes (base : List ℕ) (w : Writing) (ms cs : List (Placed Component)) (after : List ℕ) (r : Merging) : Type 0 where
   pub area : List ℕ
   pub run : Run
@@ -86,7 +86,7 @@ StepIs d s r before after =
 abbrev pub TurnIs : List ℕ → Bool → Cursor → Merging → Merging → List ℕ → List ℕ → Type 0
 TurnIs image scanned c s r before after = (d : Placed Component) → readAt image scanned c ≡ ok d → StepIs d s r before after
 
--- component j of concatenation i is next, m components are left
+-- component j of concatenation i is next, at a cursor, and m components are left: what is to be written of them gives the whole
 pub record Midway (image : List ℕ) (i j : ℕ) (c : Cursor) (m : ℕ) (base : List ℕ) (w : Writing) (ms : List (Placed Component)) (after : List ℕ) (r : Merging) : Type 0 where
   pub left : List (Placed Component)
   pub read : readIn image i j c m ≡ ok left

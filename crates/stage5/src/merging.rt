@@ -1,4 +1,5 @@
-// One component after the other: the bits of a run of static literals are written as they come, its block when it ends.
+// One component after the other: the bits of a run of static literals are written as they come, its block when it ends. Nothing is
+// asked of a caller: sums of places wrap, and where there is room for the answer none does.
 use super::Writing;
 use super::bits::append_bits;
 use super::bits::bytes_for;
@@ -89,7 +90,7 @@ fn finish(area: &mut [u8], base: u32, kind: Kind, range: Usbr, bits: usize, w: W
     }
 }
 
-// An open run becomes a literal.
+// An open run becomes a literal. Its block shows the lowest 32 bits of the width.
 pub fn close(area: &mut [u8], s: Merging) -> Merging
     ensures { λ r. ⌜ CloseIs s r (now (area .entry)) (now (area .exit)) ⌝ }
 {
@@ -124,6 +125,8 @@ fn put_other(area: &mut [u8], image: &[u8], spot: Spot, x: Component, s: Merging
     }
 }
 
+// "Every maximal run of literals with static ranges becomes one literal from 0 to its width, the sum of the run's widths, the lowest
+// component's bits lowest."
 fn step(area: &mut [u8], image: &[u8], spot: Spot, x: Component, s: Merging) -> Merging
     ensures { λ r. ⌜ StepIs (record { base = spot .base; value = componentOf (now (image .entry)) (spot .place) x }) s r (now (area .entry)) (now (area .exit)) ⌝ }
 {
