@@ -1,0 +1,2 @@
+-- The common shapes of a component, and what the functions that read them give.
+pub mod Shapes
