@@ -71,7 +71,7 @@ stands-third image r k e s =
 pub kind-at : (image : List ℕ) (r n e : ℕ) → Stands image r n e → u32At image e ≡ 0 → (entryAt image r) .kind ≡ 0
 kind-at image r n e s k = ap (u32At image) (sym (s .place)) ∙ k
 
-none-at : (image : List ℕ) (text at r : ℕ) → itemsAt image text at r 0 ≡ []
+pub none-at : (image : List ℕ) (text at r : ℕ) → itemsAt image text at r 0 ≡ []
 unfolding Text.itemsOf Text.chunks
 none-at image text at r = rw (recs-none image (text + at) r)
 
@@ -213,3 +213,6 @@ module _ (image : List ℕ) (text : ℕ) where
                 range-is = range-made (ah ∙ ap (λ p. Def.text p (pos 0)) (sym (part-token image text at len))) (d .end-is);
               }
       range-text k a E.Other res m ah h q = rw q tt
+
+pub less-one : (n : ℕ) → 1 ≤ n → n ≡ suc (n - 1)
+less-one n h = omega arith

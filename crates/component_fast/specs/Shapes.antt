@@ -143,7 +143,7 @@ parsed-bracket w is bits (some r) q = rw q
 -- `w`
 pub word-is : (scanned : Bool) (u : Unparsed) (w : Item) → items 0 (u .recs) ≡ w ∷ [] → Plain w → eqb (w .kind) (kinds .bracket) ≡ false
     → stage1Component scanned u ≡ typed (w ∷ []) (u .bits) unbounded
-word-is scanned u w h p k = stage-of scanned u ∙ ap (λ is. stageOf scanned is (u .bits)) h 
+word-is scanned u w h p k = stage-of scanned u ∙ ap (λ is. stageOf scanned is (u .bits)) h
     ∙ split-stage scanned (w ∷ []) (u .bits) _ (w ∷ []) (split-word w k) (middle-is scanned w p)
     ∙ parsed-word w (u .bits) p
 

@@ -55,7 +55,11 @@ fn end_in(image: &[u8], text: usize, e: usize, at: usize, n: u32) -> End
         return End::Is(OptionUsb::None);
     }
     let len = length_at(image, e + 24);
-    if !is_word(token_tree::u32_at(image, e + 24), len, token_tree::byte_at(image, text + at + 2)) {
+    if !is_word(
+        token_tree::u32_at(image, e + 24),
+        len,
+        token_tree::byte_at(image, text + at + 2),
+    ) {
         return End::Other;
     }
     if n != 3 {
@@ -91,11 +95,18 @@ pub(crate) fn range_in(image: &[u8], text: usize, e: usize, at: usize, n: u32) -
     ensures { λ r. ⌜ RangeIs (now (image .entry)) text e at n r ⌝ }
 {
     let len = length_at(image, e);
-    if !is_word(token_tree::u32_at(image, e), len, token_tree::byte_at(image, text + at)) {
+    if !is_word(
+        token_tree::u32_at(image, e),
+        len,
+        token_tree::byte_at(image, text + at),
+    ) {
         return from_start(zero_bound(), end_in(image, text, e, at, n));
     }
     if n == 1 {
         return Range::Is(single_bit(at, len));
     }
-    from_start(text_bound(at, len, 0), end_in(image, text, e + 12, at + len, n - 1))
+    from_start(
+        text_bound(at, len, 0),
+        end_in(image, text, e + 12, at + len, n - 1),
+    )
 }

@@ -73,7 +73,9 @@ fn found_in(image: &[u8], place: Place) -> Found
     if place.run.left < 4 {
         return Found::Other;
     }
-    if (token_tree::u32_at(image, 8) as usize) < (place.run.r as usize) + (place.run.left as usize) {
+    if (token_tree::u32_at(image, 8) as usize)
+        < (place.run.r as usize) + (place.run.left as usize)
+    {
         return Found::Other;
     }
     bracketed(image, place, record_place(image, place.run.r))

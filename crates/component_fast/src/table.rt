@@ -10,7 +10,10 @@ ghost use Rattle.component_fast.specs.Table.{lenAt, plainByte, isWord, i
 pub(crate) fn record_place(image: &[u8], r: u32) -> usize
     ensures { λ p. ⌜ (p ≡ (tables (now (image .entry))) .records + 12 * r) × (p < 2 ^ 38) ⌝ }
 {
-    40 + 4 * (token_tree::u32_at(image, 0) as usize) + 8 * (token_tree::u32_at(image, 4) as usize) + 12 * (r as usize)
+    40
+        + 4 * (token_tree::u32_at(image, 0) as usize)
+        + 8 * (token_tree::u32_at(image, 4) as usize)
+        + 12 * (r as usize)
 }
 
 // The length of the text from start to stop, none where they stand the other way round.
@@ -29,7 +32,10 @@ pub(crate) fn length_at(image: &[u8], e: usize) -> usize
     requires { ⌜ e < 2 ^ 41 ⌝ }
     ensures { λ n. ⌜ (n ≡ lenAt (now (image .entry)) e) × (n < 2 ^ 32) ⌝ }
 {
-    between(token_tree::u32_at(image, e + 4), token_tree::u32_at(image, e + 16))
+    between(
+        token_tree::u32_at(image, e + 4),
+        token_tree::u32_at(image, e + 16),
+    )
 }
 
 // The length of the text of record r, of any record.

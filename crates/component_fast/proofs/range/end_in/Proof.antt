@@ -1,101 +1,28 @@
+use borrow.Author.Tests.{not-false}
+use Rattle.component_fast.proofs.Ranges.{end-none, end-text}
 use borrow.Author.Needs.{needs}
 use Rattle.component_fast.proofs.range.end_in.Statement.{statement}
 use Rattle.component_fast.proofs.range.end_in.Tie as tie
-use Rattle.component_fast.proofs.range.end_in.Reads as reads
-use Rattle.component_fast.proofs.range.end_in.Lts as lts
-use Rattle.component_fast.proofs.range.text_bound.Reads as text-bound-reads
-use Rattle.component_fast.proofs.table.is_word.Reads as is-word-reads
-use Rattle.component_fast.proofs.table.length_at.Reads as length-at-reads
-use Rattle.component_fast.proofs.table.two_dots.Reads as two-dots-reads
-use Rattle.token_tree.proofs.byte_at.Reads as byte-at-reads
-use Rattle.token_tree.proofs.u32_at.Reads as u32-at-reads
 
--- src/range.rt:44:28
-add-two-dots : tie.Need-add-two-dots
-add-two-dots c = search needs
-
--- src/range.rt:44:9
-two-dots-requires : tie.Need-two-dots-requires
-two-dots-requires c κs = search needs
-
--- src/range.rt:45:9
-returns : tie.Need-returns
-returns c = search needs
-
--- src/range.rt:48:9
 returns-2 : tie.Need-returns-2
-returns-2 c = ?
+returns-2 c =
+    let a = c .before .before .before .before .args in
+    let d = c .before .before .two-dots in
+    λ r s. end-none (a .image .now) (a .text) (a .e) (a .at) (a .n) (d .result) (d .ensures) (not-false (d .result) (c .before .if1 .left)) r s
+    (c .if2 .taken)
 
--- src/range.rt:50:32
-add-length-at : tie.Need-add-length-at
-add-length-at c = search needs
-
--- src/range.rt:50:9
-length-at-requires : tie.Need-length-at-requires
-length-at-requires c κs = search needs
-
--- src/range.rt:51:43
-add-u32-at : tie.Need-add-u32-at
-add-u32-at c = search needs
-
--- src/range.rt:51:17
-u32-at-requires : tie.Need-u32-at-requires
-u32-at-requires c κs = search needs
-
--- src/range.rt:51:84
-add-byte-at : tie.Need-add-byte-at
-add-byte-at c = search needs
-
--- src/range.rt:51:84
-add-byte-at-2 : tie.Need-add-byte-at-2
-add-byte-at-2 c = search needs
-
--- src/range.rt:51:57
-byte-at-requires : tie.Need-byte-at-requires
-byte-at-requires c κs = search needs
-
--- src/range.rt:51:9
-is-word-requires : tie.Need-is-word-requires
-is-word-requires c κs = search needs
-
--- src/range.rt:52:9
-returns-3 : tie.Need-returns-3
-returns-3 c = search needs
-
--- src/range.rt:55:9
-returns-4 : tie.Need-returns-4
-returns-4 c = search needs
-
--- src/range.rt:57:40
-add-text-bound : tie.Need-add-text-bound
-add-text-bound c = search needs
-
--- src/range.rt:57:29
-text-bound-requires : tie.Need-text-bound-requires
-text-bound-requires c κs = search needs
-
--- src/range.rt:40:1
 returns-5 : tie.Need-returns-5
-returns-5 c = ?
+returns-5 c =
+    let b = c .before .before .before .before .before .before .before .before in
+    let a = b .before .before .before .args in
+    let d = b .before .two-dots in
+    let w = c .before .before .before .is-word in
+    let y = c .before .before .before .before .byte-at in
+    let k = c .before .before .before .before .before .u32-at in
+    let l = c .before .before .before .before .before .before .length-at in
+    λ r s. end-text (a .image .now) (a .text) (a .e) (a .at) (a .n) (d .result) (d .ensures) (not-false (d .result) (b .if1 .left)) r s
+    (k .result) (l .result) (y .result) (w .result) (c .text-bound .result) (c .before .if4 .left) (w .ensures)
+    (not-false (w .result) (c .before .before .if3 .left)) (k .ensures) (l .ensures .0) (y .ensures) (c .text-bound .ensures (a .image .now) (a .text))
 
 pub end-in-spec : {M : Type 1} → statement M
-end-in-spec =
-    tie.close
-    (tie.spec
-    add-two-dots
-    two-dots-requires
-    returns
-    returns-2
-    add-length-at
-    length-at-requires
-    add-u32-at
-    u32-at-requires
-    add-byte-at
-    add-byte-at-2
-    byte-at-requires
-    is-word-requires
-    returns-3
-    returns-4
-    add-text-bound
-    text-bound-requires
-    returns-5)
+end-in-spec = tie.close (tie.spec (λ c. search needs) (λ c κs. search needs) (λ c. search needs) returns-2 (λ c. search needs) (λ c κs. search needs) (λ c. search needs) (λ c κs. search needs) (λ c. search needs) (λ c. search needs) (λ c κs. search needs) (λ c κs. search needs) (λ c. search needs) (λ c. search needs) (λ c. search needs) (λ c κs. search needs) returns-5)

@@ -1,21 +1,13 @@
+use Rattle.component_fast.proofs.Ranges.{bit-made}
 use borrow.Author.Needs.{needs}
 use Rattle.component_fast.proofs.range.single_bit.Statement.{statement}
 use Rattle.component_fast.proofs.range.single_bit.Tie as tie
-use Rattle.component_fast.proofs.range.single_bit.Reads as reads
-use Rattle.component_fast.proofs.range.single_bit.Lts as lts
-use Rattle.component_fast.proofs.range.text_bound.Reads as text-bound-reads
 
--- src/range.rt:81:9
-text-bound-requires : tie.Need-text-bound-requires
-text-bound-requires c κs = search needs
-
--- src/range.rt:83:16
-text-bound-requires-2 : tie.Need-text-bound-requires-2
-text-bound-requires-2 c κs = search needs
-
--- src/range.rt:78:1
 returns : tie.Need-returns
-returns c = ?
+returns c =
+    let a = c .before .before .args in
+    bit-made (record { at = a .at; len = a .len }) (c .text-bound2 .result) (c .before .text-bound .result) (c .text-bound2 .ensures)
+    (c .before .text-bound .ensures)
 
 pub single-bit-spec : {M : Type 1} → statement M
-single-bit-spec = tie.close (tie.spec text-bound-requires text-bound-requires-2 returns)
+single-bit-spec = tie.close (tie.spec (λ c κs. search needs) (λ c κs. search needs) returns)
