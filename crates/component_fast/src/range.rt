@@ -1,6 +1,7 @@
 // What stands in a component's bracket: `a`, `..`, `a..`, `..b` or `a..b`.
 use super::table::is_word;
 use super::table::length_at;
+use super::table::number_at;
 use super::table::two_dots;
 use usb::OptionUsb;
 use usb::Part;
@@ -8,7 +9,8 @@ use usb::Usb;
 use usb::Usbr;
 ghost use mathlib.Core.Path.{_≡_};
 ghost use mathlib.Core.List.{List};
-ghost use Prim.Native.Nat.{ℕ, _+_, _-_, _^_, _≤_, _<_};
+ghost use Prim.Native.Nat.{ℕ, _+_, _*_, _-_, _^_, _≤_, _<_};
+ghost use lib.ListN.{length};
 ghost use lib.IntN.{pos};
 ghost use Rattle.def_stages.specs.Ranges as Ranges;
 ghost use Rattle.usb.specs.Usb.{partOf, usbOf, usbrOf};
@@ -45,9 +47,12 @@ pub(crate) fn zero_bound() -> Usb
 
 // `..` or `..b`: n records from the one at e, their text at an offset.
 fn end_in(image: &[u8], text: usize, e: usize, at: usize, n: u32) -> End
-    requires { ⌜ (text < 2 ^ 62) × (e < 2 ^ 40) × (at < 2 ^ 36) ⌝ }
+    requires { ⌜ (text < 2 ^ 62) × (e < 2 ^ 40) × (at < 2 ^ 36) × (e + 12 * (n + 1) ≤ length (now image)) ⌝ }
     ensures { λ r. ⌜ EndIs (now (image .entry)) text e at n r ⌝ }
 {
+    if n < 2 {
+        return End::Other;
+    }
     if !two_dots(image, e, text + at) {
         return End::Other;
     }
@@ -56,7 +61,7 @@ fn end_in(image: &[u8], text: usize, e: usize, at: usize, n: u32) -> End
     }
     let len = length_at(image, e + 24);
     if !is_word(
-        token_tree::u32_at(image, e + 24),
+        number_at(image, e + 24),
         len,
         token_tree::byte_at(image, text + at + 2),
     ) {
@@ -91,12 +96,12 @@ fn single_bit(at: usize, len: usize) -> Usbr
 
 // A bracket's range: n records from the one at e, their text at an offset.
 pub(crate) fn range_in(image: &[u8], text: usize, e: usize, at: usize, n: u32) -> Range
-    requires { ⌜ (text < 2 ^ 62) × (e < 2 ^ 40 - 12) × (at < 2 ^ 35) × (1 ≤ n) ⌝ }
+    requires { ⌜ (text < 2 ^ 62) × (e < 2 ^ 40 - 12) × (at < 2 ^ 35) × (1 ≤ n) × (e + 12 * (n + 1) ≤ length (now image)) ⌝ }
     ensures { λ r. ⌜ RangeIs (now (image .entry)) text e at n r ⌝ }
 {
     let len = length_at(image, e);
     if !is_word(
-        token_tree::u32_at(image, e),
+        number_at(image, e),
         len,
         token_tree::byte_at(image, text + at),
     ) {

@@ -16,7 +16,7 @@ returns-2 c =
     let a = c .before .before .before .before .before .before .before .before .args in
     let w = c .before .before .before .is-word in
     let y = c .before .before .before .before .byte-at in
-    let k = c .before .before .before .before .before .u32-at in
+    let k = c .before .before .before .before .before .number-at in
     let l = c .before .before .before .before .before .before .length-at in
     range-bit (a .image .now) (a .text) (a .e) (a .at) (a .n) (k .result) (l .result) (y .result) (w .result) (w .ensures)
     (not-false (w .result) (c .before .before .if1 .left)) (k .ensures) (l .ensures .0) (y .ensures) (c .single-bit .result) (c .before .if2 .taken)
@@ -28,7 +28,7 @@ returns-3 c =
     let a = b .args in
     let w = c .before .before .before .before .before .is-word in
     let y = c .before .before .before .before .before .before .byte-at in
-    let k = c .before .before .before .before .before .before .before .u32-at in
+    let k = c .before .before .before .before .before .before .before .number-at in
     let l = c .before .before .before .before .before .before .before .before .length-at in
     let t = c .before .before .text-bound in
     range-text (a .image .now) (a .text) (a .e) (a .at) (a .n) (k .result) (l .result) (y .result) (w .result) (w .ensures)
