@@ -9,9 +9,5 @@ ghost use Rattle.layout_run.specs.Ran.{outcomeOf, ranOn};
 pub fn run(image: &[u8], mode: u32, area: &mut [u8]) -> Outcome
     ensures { λ o. ⌜ (outcomeOf o, now (area .exit)) ≡ ranOn (now (image .entry)) mode (now (area .entry)) ⌝ }
 {
-    Outcome::Refused(Refusal {
-        number: 1,
-        concatenation: 0,
-        component: 0,
-    })
+    Outcome::Refused(Refusal { number: 1, concatenation: 0, component: 0 })
 }
