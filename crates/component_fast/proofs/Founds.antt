@@ -5,8 +5,8 @@ use Prim.Native.Nat.{_≤_, _<_}
 use native.Mathlib.Nat.{add-zero, zero-add}
 use native.Mathlib.Omega.{arith}
 use borrow.Author.Tests.{eq-eqb, ltb-true}
-use Rattle.def_numbers.specs.Prelude.{ℕ, zero, suc, _+_, _*_, _-_, _^_, Bool, true, false, _&&_, List, [], _∷_, getD, ltb, eqb}
-use Rattle.def_numbers.specs.Basics.{Result, ok}
+use Rattle.def_numbers.specs.Prelude.{ℕ, suc, _+_, _*_, _-_, _^_, Bool, true, List, [], _∷_, getD, ltb, eqb}
+use Rattle.def_numbers.specs.Basics.{ok}
 use Rattle.def_image.specs.Image.{u32At, bytesAt, recsFrom, counts, tables, entryAt}
 use Rattle.def_stages.specs.Text.{Item, items, more}
 use Rattle.def_stages.specs.Ranges as Ranges
@@ -20,7 +20,7 @@ use Rattle.component.specs.Places.{unparsedIn, reachable, unparsed-in}
 use Rattle.component.specs.Values.{componentOf}
 use Rattle.component.specs.declared.places.Place.{Place}
 use Rattle.component.specs.declared.values.Component as code
-use Rattle.component_fast.specs.Shapes.{Plain, inBracket, word-is, bracket-is}
+use Rattle.component_fast.specs.Shapes.{Plain, word-is, bracket-is}
 use Rattle.component_fast.specs.Table.{lenAt, isWord, bracketAt, Stands, tokenAt}
 use Rattle.component_fast.specs.Range.{Bracket, RangeIs}
 use Rattle.component_fast.specs.Typed.{TypedIs, FoundIs}
@@ -177,9 +177,6 @@ left-is n h = omega arith
 
 pub skip-is : (n : ℕ) → 4 ≤ n → n - 1 ≡ suc (suc (n - 3))
 skip-is n h = omega arith
-
-pub stands-at : (image : List ℕ) (r n e count : ℕ) → count ≡ (counts image) .r → r + n ≤ count → 4 ≤ n → e ≡ (tables image) .records + 12 * r → Stands image r (n - 1) e
-stands-at image r n e count c h l p = record { place = p; behind = rw (← c) (omega arith) }
 
 pub found-is : (image : List ℕ) (place : Place) (f : Found) (c : code.Component) → FoundIs image place f → f ≡ F.Is c → (scanned : Bool)
     → ok (componentOf image place c) ≡ stage1Component scanned (unparsedIn image place)

@@ -1,19 +1,18 @@
 -- What stands in a bracket: one law for each way through the code.
 use mathlib.Core.Path.{_≡_, refl, sym, ap, _∙_}
 use mathlib.Core.List.{append-nil}
-use Prim.Native.Nat.{_≤_, _<_}
+use Prim.Native.Nat.{_≤_}
 use native.Mathlib.Nat.{add-assoc, add-zero}
 use native.Mathlib.Omega.{arith}
-use Rattle.def_numbers.specs.Prelude.{ℕ, zero, suc, _+_, _*_, _-_, Bool, true, false, _&&_, Option, none, some, List, [], _∷_, _++_, getD, ℤ, pos}
-use Rattle.def_numbers.specs.Basics.{Result, ok}
+use Rattle.def_numbers.specs.Prelude.{ℕ, suc, _+_, _*_, _-_, Bool, true, false, _&&_, Option, none, some, List, [], _∷_, getD, pos}
 use Rattle.def_numbers.specs.Numbers.{char}
-use Rattle.def_image.specs.Image.{u32At, padded, counts, tables, entryAt}
+use Rattle.def_image.specs.Image.{u32At, padded, tables, entryAt}
 use Rattle.def_stages.specs.Text as Text
 use Rattle.def_stages.specs.Ranges as Def
 use Rattle.laws.specs.Tests.{and-iff}
 use Rattle.misc.specs.Value.{valueOf}
 use Rattle.misc.specs.declared.I128.{I128}
-use Rattle.usb.specs.Usb.{partOf, usbOf, optionUsbOf, usbrOf}
+use Rattle.usb.specs.Usb.{partOf, usbOf, usbrOf}
 use Rattle.usb.specs.declared.Part.{Part}
 use Rattle.usb.specs.declared.Usb.{Usb}
 use Rattle.usb.specs.declared.Usbr.{Usbr}
@@ -21,7 +20,7 @@ use Rattle.usb.specs.declared.OptionUsb.{OptionUsb}
 use Rattle.usb.specs.declared.OptionUsb.the-variants as O
 use Rattle.items.specs.Run.{itemsAt}
 use Rattle.items.specs.First.{recs-none}
-use Rattle.component_fast.specs.Shapes.{Plain, PlainIn, listOf, endOf, rangeOf, inBracket, dotted-is, undotted-is}
+use Rattle.component_fast.specs.Shapes.{Plain, rangeOf, dotted-is, undotted-is}
 use Rattle.component_fast.specs.Table.{lenAt, isWord, dotAt, Stands, tokenAt}
 use Rattle.component_fast.specs.Range.{Dots, EndIs, HeadIs, Bracket, RangeIs, fromStart, bitOf}
 use Rattle.component_fast.specs.declared.range.End.{End}

@@ -1,5 +1,5 @@
 -- The tests of tokens: one law for each way through the code.
-use mathlib.Core.Path.{_≡_, refl, sym, _∙_}
+use mathlib.Core.Path.{_≡_, sym, _∙_}
 use Prim.Native.Nat.{_≤_, _<_}
 use borrow.Author.Tests.{eq-eqb, ne-eqb, le-leb, lt-leb}
 use Rattle.def_numbers.specs.Prelude.{ℕ, _+_, Bool, true, false, _&&_, not, List, getD, leb, eqb}

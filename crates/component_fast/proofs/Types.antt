@@ -4,15 +4,15 @@ use Prim.Native.Nat.{_≤_, _<_}
 use native.Mathlib.Nat.{add-zero}
 use native.Mathlib.Omega.{arith}
 use lib.Seq.{getD-drop, take-all}
-use Rattle.def_numbers.specs.Prelude.{ℕ, zero, suc, _+_, Bool, true, false, _&&_, not, none, some, List, [], _∷_, length, getD, take, drop, pos}
-use Rattle.def_numbers.specs.Basics.{Result, ok, _>>=_, isEmpty, tab}
+use Rattle.def_numbers.specs.Prelude.{ℕ, zero, suc, _+_, Bool, true, false, none, some, List, [], _∷_, length, getD, drop, pos}
+use Rattle.def_numbers.specs.Basics.{ok, isEmpty, tab}
 use Rattle.def_image.specs.Image.{bitsAt, padded}
 use Rattle.def_stages.specs.Text as Text
 use Rattle.def_stages.specs.Ranges as Ranges
-use Rattle.def_stages.specs.Component.{Component, literal, variable, isLiteral, typed}
+use Rattle.def_stages.specs.Component.{literal, variable, isLiteral, typed}
 use Rattle.laws.specs.Lists.{length-tab}
 use Rattle.laws.specs.Padded.{getD-padded}
-use Rattle.usb.specs.Usb.{partOf, usbOf, usbrOf}
+use Rattle.usb.specs.Usb.{usbOf, usbrOf}
 use Rattle.usb.specs.declared.Usb.{Usb}
 use Rattle.usb.specs.declared.Usbr.{Usbr}
 use Rattle.usb.specs.declared.OptionUsb.the-variants as O

@@ -1,10 +1,10 @@
 -- Closed components that meet the premises of the laws of the shapes: `ab[8..16]` and `ab`.
 use mathlib.Core.Path.{_≡_, refl}
-use Rattle.def_numbers.specs.Prelude.{ℕ, Bool, true, some, List, [], _∷_, _++_}
-use Rattle.def_numbers.specs.Basics.{ok, sameBytes}
+use Rattle.def_numbers.specs.Prelude.{ℕ, Bool, some, List, [], _∷_, _++_}
+use Rattle.def_numbers.specs.Basics.{sameBytes}
 use Rattle.def_image.specs.Image.{Rec, Unparsed}
 use Rattle.def_image.specs.Tree.{textOf}
-use Rattle.def_stages.specs.Text.{Item, items, itemsOf, chunks, isToken}
+use Rattle.def_stages.specs.Text.{Item, itemsOf, chunks}
 use Rattle.def_stages.specs.Ranges.{unbounded}
 use Rattle.def_stages.specs.Component.{typed, stage1Component}
 use Rattle.component_fast.specs.Shapes.{Plain, rangeOf, dotted-is, word-is, bracket-is}

@@ -23,9 +23,6 @@ unfoldable pub isDot : ℕ → ℕ → ℕ → Bool
 isDot kind len byte = eqb kind (kinds .chars) && (eqb len 1 && eqb byte (char .dot))
 
 -- the same of the record at e, its text at a byte of the image
-abbrev pub wordAt : List ℕ → ℕ → ℕ → Bool
-wordAt image e text = isWord (u32At image e) (lenAt image e) (getD image text 0)
-
 abbrev pub dotAt : List ℕ → ℕ → ℕ → Bool
 dotAt image e text = isDot (u32At image e) (lenAt image e) (getD image text 0)
 

@@ -104,9 +104,8 @@ fn found_in(image: &[u8], place: Place) -> Found
 pub fn stage1_component(image: &[u8], place: Place, scanned: bool) -> ComponentResult
     ensures { λ r. ⌜ resultIn (now (image .entry)) place r ≡ stage1Component scanned (unparsedIn (now (image .entry)) place) ⌝ }
 {
-    let found = found_in(image, place);
-    match found {
-        Found::Is(c) => ComponentResult::Ok(c),
-        Found::Other => component::stage1_component(image, place, scanned),
-    }
+    let Found::Is(c) = found_in(image, place) else {
+        return component::stage1_component(image, place, scanned);
+    };
+    ComponentResult::Ok(c)
 }
