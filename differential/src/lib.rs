@@ -32,6 +32,7 @@ pub mod image;
 pub mod leaves;
 pub mod listing;
 pub mod refusal;
+pub mod replay;
 pub mod run;
 pub mod stats;
 pub mod text;

@@ -7,10 +7,11 @@ use std::{
     process::ExitCode,
 };
 
-use layout_rust::{generate, leaves, listing::listing, run::run, stats, text};
+use layout_rust::{generate, leaves, listing::listing, replay, run::run, stats, text};
 
 const USAGE: &str = "usage: layout-rust run | batch | generate COUNT SEED | names COUNT SEED \
-                     | encode MODE | decode | stats | leaves COUNT SEED FOLDER";
+                     | encode MODE | decode | stats | leaves COUNT SEED FOLDER \
+                     | replay COUNT SEED FOLDER";
 
 fn main() -> ExitCode {
     let args: Vec<String> = env::args().skip(1).collect();
@@ -54,6 +55,10 @@ fn command(words: &[&str]) -> io::Result<()> {
         ["leaves", count, seed, folder] => {
             let count = number(count)?.try_into().map_err(io::Error::other)?;
             print(leaves::write(count, number(seed)?, Path::new(folder))?.as_bytes())
+        }
+        ["replay", count, seed, folder] => {
+            let count = number(count)?.try_into().map_err(io::Error::other)?;
+            print(replay::write(count, number(seed)?, Path::new(folder))?.as_bytes())
         }
         ["stats"] => {
             for (outcome, count) in stats::count(&mut io::stdin().lock())? {

@@ -4,6 +4,7 @@
 mod accepted;
 mod accepted_literals;
 mod accepted_texts;
+mod cut_pairs;
 mod damage;
 mod edit;
 mod line;
@@ -15,6 +16,7 @@ mod stage2_refusals;
 mod tree_refusals;
 mod words;
 
+pub use cut_pairs::{CutPair, cut_pair};
 pub use readings::{Reading, readings};
 pub use rng::Rng;
 

@@ -1,0 +1,2 @@
+-- What the program `layout` makes of its input.
+pub mod Shown

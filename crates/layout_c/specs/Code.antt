@@ -1,0 +1,12 @@
+-- The outcome of a run as one number: the answer's length, or number · 2^32 + concatenation · 2^16 + component.
+use Rattle.def_numbers.specs.Prelude.{ℕ, _+_, _*_, _^_, List}
+use Rattle.def_numbers.specs.Basics.{Result, ok, refused}
+use Rattle.layout_run.specs.Ran.{ranOn}
+
+abbrev pub codeOf : Result ℕ → ℕ
+codeOf (ok n) = n
+codeOf (refused number concatenation component) = number * 2 ^ 32 + concatenation * 2 ^ 16 + component
+
+-- what a run on a lent area comes to, as one number, and the area afterwards
+abbrev pub codedOn : List ℕ → ℕ → List ℕ → ℕ × List ℕ
+codedOn image mode area = (codeOf (ranOn image mode area .0), ranOn image mode area .1)

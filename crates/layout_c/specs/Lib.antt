@@ -1,0 +1,3 @@
+-- What a caller in C is told.
+pub mod Code
+pub mod Split

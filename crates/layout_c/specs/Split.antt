@@ -1,0 +1,86 @@
+-- The number that a caller in C gets says all of the outcome: below 2^32 it is the answer's length, and from 2^32 on it is a refusal,
+-- whose parts the header takes out again (include/layout.h).
+use mathlib.Core.Path.{_≡_, refl, ap}
+use Prim.Native.Nat.{_≤_, _<_}
+use native.Mathlib.Omega.{arith}
+use Rattle.def_numbers.specs.Prelude.{ℕ, _+_, _*_, _/_, _%_, _^_, List, [], _∷_, length, leb}
+use Rattle.def_numbers.specs.Basics.{Result, ok, refused, _>>=_}
+use Rattle.def_numbers.specs.Limits.{areaNeeded}
+use Rattle.def_numbers.specs.Refusals.{need, mode-above-2, short-area}
+use Rattle.def_image.specs.Image.{counts, treeOf}
+use Rattle.def_image.specs.Check.{checkImage}
+use Rattle.def_image.specs.Tree.{imageOf}
+use Rattle.def_run.specs.Answer.{Answer, answerBytes}
+use Rattle.def_run.specs.Listing.{programArea}
+use Rattle.def_run.specs.Run.{run, stages}
+use Rattle.def_examples.specs.Compute.{computed}
+use Rattle.laws.specs.Results.{bind-ok, ok-same}
+use Rattle.laws.specs.Tests.{tested}
+use Rattle.prepared_back.specs.Every.{all-tested}
+use Rattle.answer_fits.specs.Proved.{answer-fits}
+use Rattle.refusal_places.specs.Run.{refusal-places}
+use Rattle.refusal_places.specs.Witness.{variable, literal}
+use Rattle.layout_c.specs.Code.{codeOf}
+
+-- the header's macros
+abbrev pub numberIn : ℕ → ℕ
+numberIn code = code / 2 ^ 32
+
+abbrev pub concatenationIn : ℕ → ℕ
+concatenationIn code = code / 2 ^ 16 % 2 ^ 16
+
+abbrev pub componentIn : ℕ → ℕ
+componentIn code = code % 2 ^ 16
+
+-- what a run comes to, as one number
+abbrev pub codeOn : List ℕ → ℕ → ℕ → ℕ
+codeOn image mode area = codeOf (run image mode area >>= λ bytes. ok (length bytes))
+
+-- ---- accepted
+
+-- no answer is longer than the greatest area that number 8 asks for
+answer-short : (image : List ℕ) (mode : ℕ) (a : Answer) → checkImage image ≡ ok tt → stages mode (treeOf image) ≡ ok a
+    → length (answerBytes a) ≤ programArea
+answer-short image mode a h e =
+    let f = answer-fits image h mode a e in
+    let q = simp tested at ((all-tested image h) .counted) in
+    omega (arith, f .room, q .0 .0 .0 .0 .1, q .0 .0 .0 .1 .1, q .1)
+
+pub accepted-length : (image : List ℕ) (mode area : ℕ) (bytes : List ℕ) → run image mode area ≡ ok bytes → length bytes ≤ programArea
+unfolding run
+accepted-length image mode area bytes e =
+    let first = bind-ok (need (leb mode 2) mode-above-2) _ e in
+    let second = bind-ok (checkImage image) _ (first .2) in
+    let third = bind-ok (need (leb (areaNeeded ((counts image) .c) ((counts image) .n) ((counts image) .b)) area) short-area) _ (second .2) in
+    let fourth = bind-ok (stages mode (treeOf image)) (λ a. ok (answerBytes a)) (third .2) in
+    let same : answerBytes (fourth .0) ≡ bytes = ok-same refl (fourth .2) in
+    rw same at (answer-short image mode (fourth .0) (second .1) (fourth .1))
+
+pub accepted-split : (image : List ℕ) (mode area : ℕ) (bytes : List ℕ) → run image mode area ≡ ok bytes
+    → (codeOn image mode area ≡ length bytes) × (codeOn image mode area < 2 ^ 32)
+accepted-split image mode area bytes e =
+    let short = accepted-length image mode area bytes e in
+    let code : codeOn image mode area ≡ length bytes = ap (λ (r : Result (List ℕ)). codeOf (r >>= λ b. ok (length b))) e in
+    (code, omega (arith, short, code))
+
+-- ---- refused
+
+split : (n i k : ℕ) → i < 2 ^ 16 → k < 2 ^ 16 → (code : ℕ) → code ≡ n * 2 ^ 32 + i * 2 ^ 16 + k
+    → (numberIn code ≡ n) × (concatenationIn code ≡ i) × (componentIn code ≡ k)
+split n i k p q code e = (omega arith, omega arith, omega arith)
+
+pub refused-split : (image : List ℕ) (mode area n i k : ℕ) → run image mode area ≡ refused n i k
+    → (2 ^ 32 ≤ codeOn image mode area) × (numberIn (codeOn image mode area) ≡ n)
+    × (concatenationIn (codeOn image mode area) ≡ i) × (componentIn (codeOn image mode area) ≡ k)
+refused-split image mode area n i k e =
+    let (most, least, concatenation, component) = refusal-places image mode area n i k e in
+    let code : codeOn image mode area ≡ n * 2 ^ 32 + i * 2 ^ 16 + k = ap (λ (r : Result (List ℕ)). codeOf (r >>= λ b. ok (length b))) e in
+    let (a, b, c) = split n i k (omega arith) (omega arith) (codeOn image mode area) code in (omega (arith, code, least), a, b, c)
+
+-- ---- closed examples of both
+
+pub codes :
+    codeOn [] 0 0 ∷ codeOn (imageOf ((variable ∷ []) ∷ (variable ∷ literal ∷ []) ∷ [])) 0 1000 ∷ codeOn (imageOf ((variable ∷ []) ∷ [])) 0 1000 ∷ []
+    ≡ 8589934592 ∷ 128849084417 ∷ 124 ∷ []
+unfolding computed
+codes = refl
