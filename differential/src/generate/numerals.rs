@@ -6,7 +6,7 @@ use std::sync::OnceLock;
 use super::{Aim::Any, Recipe, rng::Rng};
 use crate::{
     image::{Comp, Item, Kind, Tree, image_of},
-    leaves::{drawn, texts},
+    leaves::{drawn, read, texts},
 };
 
 pub const RECIPES: [Recipe; 3] = [
@@ -15,13 +15,19 @@ pub const RECIPES: [Recipe; 3] = [
     Recipe { name: "numeral bounds of a literal", aim: Any, make: literal },
 ];
 
-/// A text that is a number or nearly one, never empty.
+/// A text that is a number or nearly one, never empty: a fixed one, one of
+/// those close to the ends of the range, a small one, a drawn one.
 fn numeral(rng: &Rng) -> Vec<u8> {
-    static FIXED: OnceLock<Vec<String>> = OnceLock::new();
-    let fixed = FIXED.get_or_init(|| texts(0, 0));
-    let text = match rng.below(5) {
+    static FIXED: OnceLock<[Vec<String>; 2]> = OnceLock::new();
+    let [fixed, far] = FIXED.get_or_init(|| {
+        let fixed: Vec<String> = texts(0, 0).into_iter().filter(|t| !t.is_empty()).collect();
+        let is_far = |text: &&String| read(text).is_some_and(|x| x.unsigned_abs() > 1 << 126);
+        [fixed.clone(), fixed.iter().filter(is_far).cloned().collect()]
+    });
+    let text = match rng.below(6) {
         0 | 1 => fixed[rng.below(fixed.len())].clone(),
-        2 => rng.below(40).to_string(),
+        2 => far[rng.below(far.len())].clone(),
+        3 => rng.below(40).to_string(),
         _ => drawn(rng),
     };
     if text.is_empty() { b"0".to_vec() } else { text.into_bytes() }
