@@ -64,7 +64,9 @@ fn component(ast: &Ast, comp: &Component) -> String {
 
 /// A bound's text and its signed number; none is `-`.
 fn bound(bound: Option<&Usb>) -> String {
-    bound.map_or("-".to_owned(), |b| format!("{}{:+}", escaped(chars_to_string(&b.s).as_bytes()), b.x))
+    bound.map_or("-".to_owned(), |b| {
+        format!("{}{:+}", escaped(chars_to_string(&b.s).as_bytes()), b.x)
+    })
 }
 
 /// The text below an entry of the arena.

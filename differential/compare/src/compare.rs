@@ -105,8 +105,7 @@ pub fn said(lender: &mut Lender, image: &[u8], call: Call) -> Said {
 
 /// What the program prints for an input.
 fn printed(program: &Path, input: &[u8]) -> io::Result<String> {
-    let mut child =
-        Command::new(program).stdin(Stdio::piped()).stdout(Stdio::piped()).spawn()?;
+    let mut child = Command::new(program).stdin(Stdio::piped()).stdout(Stdio::piped()).spawn()?;
     // a program that stops reading early is judged by what it prints
     let _ = child.stdin.take().expect("piped").write_all(input);
     let output = child.wait_with_output()?;

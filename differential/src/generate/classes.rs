@@ -137,5 +137,6 @@ fn cut_pairs(seed: u64) -> impl Iterator<Item = Pair> {
         let case = Case { name: "cut pair".to_owned(), input: pair.whole };
         Pair { case, cut: Some(pair.cut) }
     };
-    std::iter::repeat_with(pair).filter(|pair| matches!(run(&pair.case.input), Outcome::Accepted(_)))
+    std::iter::repeat_with(pair)
+        .filter(|pair| matches!(run(&pair.case.input), Outcome::Accepted(_)))
 }

@@ -11,7 +11,7 @@ use super::{
 };
 use crate::{check::check, image::RECORD_ENTRY, leaves::changed};
 
-pub const RECIPES: [Recipe; 9] = [
+pub const RECIPES: [Recipe; 10] = [
     Recipe { name: "bits flipped", aim: Any, make: flipped },
     Recipe { name: "cut off", aim: Any, make: cut_off },
     Recipe { name: "lengthened", aim: Any, make: lengthened },
@@ -20,6 +20,7 @@ pub const RECIPES: [Recipe; 9] = [
     Recipe { name: "record changed", aim: Any, make: record_changed },
     Recipe { name: "record put in, offsets right", aim: Any, make: record_added },
     Recipe { name: "bytes of the text or of any table changed", aim: Any, make: bytes_changed },
+    Recipe { name: "text of any bytes", aim: Any, make: any_text },
     Recipe { name: "anything", aim: Any, make: anything },
 ];
 
@@ -122,6 +123,16 @@ fn record_added(rng: &Rng) -> Vec<u8> {
 
 fn bytes_changed(rng: &Rng) -> Vec<u8> {
     if rng.chance(50) { changed_text(rng) } else { changed_bytes(rng) }
+}
+
+/// Bytes of the text become any, so that some texts are no UTF-8.
+fn any_text(rng: &Rng) -> Vec<u8> {
+    let mut edit = right(rng);
+    for _ in 0..rng.within(1, 3) {
+        let at = edit.table(3) + rng.below(edit.count(3));
+        edit.input[at] = rng.next() as u8;
+    }
+    edit.input
 }
 
 /// Bytes that come from nowhere, perhaps after a true header.
