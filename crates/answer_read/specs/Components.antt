@@ -25,7 +25,7 @@ use Rattle.answer_read.specs.Texts.{InUsb, InUsbr, InType, InComponent, 
 abbrev taken : Item → Bool → Split
 taken i b = if b then record { mid = []; range = some (items (i .inside-at) (i .inside)) } else record { mid = i ∷ []; range = none }
 
-before-range : (is : List Item) → (last : List Item) × (is ≡ (splitRange is) .mid ++ last)
+pub before-range : (is : List Item) → (last : List Item) × (is ≡ (splitRange is) .mid ++ last)
 unfolding splitRange
 before-range [] = ([], refl)
 before-range (i ∷ []) = go (eqb (i .kind) (kinds .bracket))
@@ -35,14 +35,14 @@ before-range (i ∷ []) = go (eqb (i .kind) (kinds .bracket))
     go false = ([], refl)
 before-range (i ∷ j ∷ is) = let (last, e) = before-range (j ∷ is) in (last, ap (λ (l : List Item). i ∷ l) e)
 
-abbrev ColonAt : List Item → Prefix → Type 0
+abbrev pub ColonAt : List Item → Prefix → Type 0
 ColonAt is p = (colon : Item) × (is ≡ p .before ++ colon ∷ p .after)
 
 colon-beyond : (i : Item) {is : List Item} {x : Option Prefix} → Found (ColonAt is) x → Found (ColonAt (i ∷ is)) (beyond i x)
 colon-beyond i (found (colon, e)) = found (colon, ap (λ (l : List Item). i ∷ l) e)
 colon-beyond i missing = missing
 
-colon-at : (is : List Item) → Found (ColonAt is) (splitColon is)
+pub colon-at : (is : List Item) → Found (ColonAt is) (splitColon is)
 unfolding splitColon
 colon-at [] = missing
 colon-at (i ∷ []) = go (isToken (char .colon) i)

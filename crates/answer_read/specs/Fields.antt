@@ -26,12 +26,12 @@ use Rattle.answer_read.specs.Blocks.{holds-next, four-parts, length-text
 -- ---- the parts of a component's bytes
 
 -- the text of a type, as a part: none of a literal or filler
-abbrev textPart : ComponentType → Part
+abbrev pub textPart : ComponentType → Part
 textPart (literal bits) = noText
 textPart (variable p) = p
 textPart filler = noText
 
-abbrev bitsIn : ComponentType → List ℕ
+abbrev pub bitsIn : ComponentType → List ℕ
 bitsIn ct = elim ct [ literal b ↦ b | variable p ↦ [] | filler ↦ [] ]
 
 type-parts : (base off : ℕ) (ct : ComponentType)
@@ -40,21 +40,21 @@ type-parts base off (literal bits) = refl
 type-parts base off (variable p) = refl
 type-parts base off filler = refl
 
-abbrev presentBytes : Option Usb → List ℕ
+abbrev pub presentBytes : Option Usb → List ℕ
 presentBytes x = elim x [ none ↦ u32 0 | some e ↦ u32 1 ]
 
-abbrev endBytes : ℕ → Option Usb → List ℕ
+abbrev pub endBytes : ℕ → Option Usb → List ℕ
 endBytes base x = elim x [ none ↦ tab (λ i. 0) 0 24 | some e ↦ usbBytes base e ]
 
 -- a component's bytes at a place, part by part
-record Parts (s : List ℕ) (i off : ℕ) (c : Placed Component) : Type 0 where
-  kind : Holds s i (u32 (kindOf (c .value .c-type)))
-  text : Holds s (i + 4) (textBytes (c .base) (textPart (c .value .c-type)))
-  width : Holds s (i + 12) (u32 (length (bitsIn (c .value .c-type))))
-  offset : Holds s (i + 16) (u32 (offsetOf off (c .value .c-type)))
-  present : Holds s (i + 20) (presentBytes (c .value .range .«end»))
-  start : Holds s (i + 24) (usbBytes (c .base) (c .value .range .start))
-  ending : Holds s (i + 48) (endBytes (c .base) (c .value .range .«end»))
+pub record Parts (s : List ℕ) (i off : ℕ) (c : Placed Component) : Type 0 where
+  pub kind : Holds s i (u32 (kindOf (c .value .c-type)))
+  pub text : Holds s (i + 4) (textBytes (c .base) (textPart (c .value .c-type)))
+  pub width : Holds s (i + 12) (u32 (length (bitsIn (c .value .c-type))))
+  pub offset : Holds s (i + 16) (u32 (offsetOf off (c .value .c-type)))
+  pub present : Holds s (i + 20) (presentBytes (c .value .range .«end»))
+  pub start : Holds s (i + 24) (usbBytes (c .base) (c .value .range .start))
+  pub ending : Holds s (i + 48) (endBytes (c .base) (c .value .range .«end»))
 
 length-usb : (base : ℕ) (u : Usb) → length (usbBytes base u) ≡ 24
 length-usb base u =
@@ -78,7 +78,7 @@ length-type : (base off : ℕ) (ct : ComponentType) → length (typeBytes base o
 length-type base off ct =
     rw (type-parts base off ct, length-four (u32 (kindOf ct)) (textBytes base (textPart ct)) (u32 (length (bitsIn ct))) (u32 (offsetOf off ct)), length-text base (textPart ct))
 
-length-component : (off : ℕ) (c : Placed Component) → length (componentBytes off c) ≡ sizes .component
+pub length-component : (off : ℕ) (c : Placed Component) → length (componentBytes off c) ≡ sizes .component
 length-component off c =
     let ct = c .value .c-type in
     let r = c .value .range in
@@ -99,7 +99,7 @@ length-components off (c ∷ cs) =
     let e = length-append (componentBytes off c) (componentsBytes (off + length (literalBytes c)) cs) in
     omega arith
 
-parts-at : (s : List ℕ) (i off : ℕ) (c : Placed Component) → Holds s i (componentBytes off c) → Parts s i off c
+pub parts-at : (s : List ℕ) (i off : ℕ) (c : Placed Component) → Holds s i (componentBytes off c) → Parts s i off c
 parts-at s i off c h =
     let ct = c .value .c-type in
     let r = c .value .range in

@@ -29,7 +29,7 @@ use Rattle.answer_read.specs.Placement.{answer-fits}
 use Rattle.answer_read.specs.Blocks.{u32At-in, holds-next, four-parts, length-text, text-read}
 use Rattle.answer_read.specs.Fields.{length-components, fields-read}
 
-shown-small : (n : ℕ) → n < 2 ^ 32 → shownNumber n ≡ n
+pub shown-small : (n : ℕ) → n < 2 ^ 32 → shownNumber n ≡ n
 shown-small n h = u32At-holds (u32 n) 0 n (holds-whole (u32 n)) h
 
 -- ---- concatenations
@@ -74,7 +74,7 @@ length-total (c ∷ cs) = let l = length-total cs in omega arith
 -- ---- the head
 
 -- whether there is a starting value, as its flag, and its text
-abbrev startFlag : Option (Placed Part) → ℕ
+abbrev pub startFlag : Option (Placed Part) → ℕ
 startFlag x = elim x [ none ↦ 0 | some p ↦ 4 ]
 
 abbrev initText : Option (Placed Part) → List ℕ
@@ -88,14 +88,14 @@ erased-text : (x : Option (Placed Part)) → initText (eraseInit x) ≡ initText
 erased-text none = refl
 erased-text (some p) = refl
 
-abbrev initBytes : Option (Placed Part) → List ℕ
+abbrev pub initBytes : Option (Placed Part) → List ℕ
 initBytes x = elim x [ none ↦ u32 0 ++ u32 0 | some p ↦ textBytes (p .base) (p .value) ]
 
 length-init : (x : Option (Placed Part)) → length (initBytes x) ≡ 8
 length-init none = refl
 length-init (some p) = length-text (p .base) (p .value)
 
-abbrev frontBytes : Answer → List ℕ
+abbrev pub frontBytes : Answer → List ℕ
 frontBytes a =
     let o = a .overall in
     u32 (length (a .cc)) ++ u32 (length (components a)) ++ widthBytes (o .width)
@@ -108,17 +108,11 @@ length-head a =
     let l = length-init (a .init) in
     omega arith
 
--- ---- an answer of a text, followed by anything
+-- ---- an answer at the front of bytes: where its parts stand, and the numbers of its head
 
-module _ (image txt : List ℕ) (read : bytesAt image ((tables image) .text) (length txt) ≡ txt) (small : length txt < 2 ^ 32)
-    (a : Answer) (n size : ℕ) (f : Fitting txt n size (a .init) (map (λ c. c .comps) (a .cc))) (few : n < 2 ^ 32) (light : size < 2 ^ 32) (s : List ℕ)
-    (whole : Holds s 0 (answerBytes a)) where
-  init-read : (x : Option (Placed Part)) → Found (PartWithin txt) x → Holds s 24 (initBytes x) → textAt image s 24 ≡ initText x
-  init-read none st h = text-read image txt read small s 24 0 noText (txt, refl) h
-  init-read (some p) (found st) h = text-read image txt read small s 24 (p .base) (p .value) st h
-
+module _ (a : Answer) (s : List ℕ) (whole : Holds s 0 (answerBytes a)) where
   -- the answer's four parts
-  placed-parts : Holds s 0 (headBytes a) × Holds s (sizes .head) (joined (map concatenationBytes (a .cc)))
+  pub placed-parts : Holds s 0 (headBytes a) × Holds s (sizes .head) (joined (map concatenationBytes (a .cc)))
       × Holds s (sizes .head + sizes .concatenation * length (a .cc)) (componentsBytes 0 (components a))
       × Holds s (sizes .head + sizes .concatenation * length (a .cc) + sizes .component * length (components a)) (joined (map literalBytes (components a)))
   unfolding answerBytes
@@ -131,8 +125,17 @@ module _ (image txt : List ℕ) (read : bytesAt image ((tables image) .text) (le
       (componentsBytes 0 (components a)) (joined (map literalBytes (components a))) (omega arith) (omega arith) (omega arith) whole
 
   -- a number of the head
-  word : (j : ℕ) → j + 4 ≤ sizes .head → u32At s j ≡ u32At (headBytes a) j
+  pub word : (j : ℕ) → j + 4 ≤ sizes .head → u32At s j ≡ u32At (headBytes a) j
   word j l = let h = length-head a in u32At-in s 0 (headBytes a) j j (placed-parts .0) (omega arith) (omega arith)
+
+-- ---- an answer of a text, followed by anything
+
+module _ (image txt : List ℕ) (read : bytesAt image ((tables image) .text) (length txt) ≡ txt) (small : length txt < 2 ^ 32)
+    (a : Answer) (n size : ℕ) (f : Fitting txt n size (a .init) (map (λ c. c .comps) (a .cc))) (few : n < 2 ^ 32) (light : size < 2 ^ 32) (s : List ℕ)
+    (whole : Holds s 0 (answerBytes a)) where
+  init-read : (x : Option (Placed Part)) → Found (PartWithin txt) x → Holds s 24 (initBytes x) → textAt image s 24 ≡ initText x
+  init-read none st h = text-read image txt read small s 24 0 noText (txt, refl) h
+  init-read (some p) (found st) h = text-read image txt read small s 24 (p .base) (p .value) st h
 
   count : length (a .cc) < 2 ^ 32
   count =
@@ -144,10 +147,10 @@ module _ (image txt : List ℕ) (read : bytesAt image ((tables image) .text) (le
   sized = le-trans (length-total (components a)) (f .small)
 
   c-is : u32At s 0 ≡ length (a .cc)
-  c-is = word 0 (omega arith) ∙ shown-small (length (a .cc)) count
+  c-is = word a s whole 0 (omega arith) ∙ shown-small (length (a .cc)) count
 
   m-is : u32At s 4 ≡ length (components a)
-  m-is = let l = sized in word 4 (omega arith) ∙ shown-small (length (components a)) (omega arith)
+  m-is = let l = sized in word a s whole 4 (omega arith) ∙ shown-small (length (components a)) (omega arith)
 
   fields-are : tab (fieldAt image s) 0 (u32At s 4) ≡ shownFields 0 (map erase (components a))
   fields-are =
@@ -155,23 +158,23 @@ module _ (image txt : List ℕ) (read : bytesAt image ((tables image) .text) (le
       ap (tab (fieldAt image s) 0) m-is
       ∙ fields-read image txt read small s (sizes .head + sizes .concatenation * u32At s 0)
       (sizes .head + sizes .concatenation * u32At s 0 + sizes .component * u32At s 4) 0 0 (f .texts) (omega arith)
-      (rw (c-is, add-zero) (placed-parts .2)) (rw (c-is, m-is, add-zero) (placed-parts .3))
+      (rw (c-is, add-zero) (placed-parts a s whole .2)) (rw (c-is, m-is, add-zero) (placed-parts a s whole .3))
 
   pub answer-read : readAnswer image s ≡ shown (eraseAnswer a)
   unfolding readAnswer shown
   answer-read =
       let e : components (eraseAnswer a) ≡ map erase (components a) = erased-components (a .cc) in
       let sizeof : u32At s 4 ≡ length (components (eraseAnswer a)) = m-is ∙ sym (length-map (components a) erase) ∙ ap length (sym e) in
-      let low : u32At s 8 ≡ u32At (headBytes a) 8 = word 8 (omega arith) in
-      let high : u32At s 12 ≡ u32At (headBytes a) 12 = word 12 (omega arith) in
+      let low : u32At s 8 ≡ u32At (headBytes a) 8 = word a s whole 8 (omega arith) in
+      let high : u32At s 12 ≡ u32At (headBytes a) 12 = word a s whole 12 (omega arith) in
       let told = flag (a .overall .deterministic) 1 + flag (a .overall .nonzero) 2 in
       let flags : u32At s 16 ≡ shownNumber (told + startFlag (eraseInit (a .init))) =
-      word 16 (omega arith) ∙ ap (λ (n : ℕ). shownNumber (told + n)) (sym (erased-flag (a .init))) in
-      let align : u32At s 20 ≡ shownNumber (alignNumber (a .overall .align)) = word 20 (omega arith) in
+      word a s whole 16 (omega arith) ∙ ap (λ (n : ℕ). shownNumber (told + n)) (sym (erased-flag (a .init))) in
+      let align : u32At s 20 ≡ shownNumber (alignNumber (a .overall .align)) = word a s whole 20 (omega arith) in
       let init : textAt image s 24 ≡ initText (eraseInit (a .init)) =
-      init-read (a .init) (f .init-stands) (holds-next s 0 (frontBytes a) (initBytes (a .init)) 24 (placed-parts .0) refl) ∙ sym (erased-text (a .init)) in
+      init-read (a .init) (f .init-stands) (holds-next s 0 (frontBytes a) (initBytes (a .init)) 24 (placed-parts a s whole .0) refl) ∙ sym (erased-text (a .init)) in
       let groups : tab (groupAt s) 0 (u32At s 0) ≡ map shownGroup (map eraseConcatenation (a .cc)) =
-      ap (tab (groupAt s) 0) c-is ∙ groups-read s size (a .cc) sized light (placed-parts .1) in
+      ap (tab (groupAt s) 0) c-is ∙ groups-read s size (a .cc) sized light (placed-parts a s whole .1) in
       let fields : tab (fieldAt image s) 0 (u32At s 4) ≡ shownFields 0 (components (eraseAnswer a)) = fields-are ∙ ap (shownFields 0) (sym e) in
       λ k. record { size = sizeof k; width = low k + 2 ^ 32 * high k; flags = flags k; align = align k; init = init k; groups = groups k; fields = fields k }
 

@@ -14,7 +14,7 @@ use Rattle.answer_read.specs.Items.{Stands, Run, run-split, run-take, ru
 
 -- ---- items cut at a sign, before a range's bracket, and at a colon
 
-abbrev CutOf : List Item → Cut → Type 0
+abbrev pub CutOf : List Item → Cut → Type 0
 CutOf is c = is ≡ c .before ++ c .sign ∷ c .after
 
 cut-behind : (i : Item) {is : List Item} {x : Option Cut} → Found (CutOf is) x → Found (CutOf (i ∷ is)) (behind i x)
@@ -48,7 +48,7 @@ or-else : {A : Type 0} {P : A → Type 0} {x y : Option A} → Found P x → Fou
 or-else (found p) q = found p
 or-else missing q = q
 
-cut-bound : (is : List Item) → Found (CutOf is) (cutBound is)
+pub cut-bound : (is : List Item) → Found (CutOf is) (cutBound is)
 cut-bound is = or-else (cut-last (isToken (char .plus)) is) (or-else (cut-pair is) (cut-last (isToken (char .minus)) is))
 
 -- ---- in one component's text

@@ -1,2 +1,6 @@
 -- The whole run: what it answers, and what the lent area holds afterwards.
+pub mod Found
+pub mod Judged
+pub mod Order
 pub mod Ran
+pub mod Written

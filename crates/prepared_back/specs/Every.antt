@@ -27,7 +27,7 @@ module _ (image : List ℕ) where
       let (p, rest) = (and-iff (if eqb (w % 8) 0 then true else ltb last (2 ^ (w % 8))) (sparesZero image (l + bytesFor w) ws)) .0 h in
       (λ some. (leb-iff (suc last) (2 ^ (w % 8))) .0 (rw (ne-eqb (w % 8) 0 (λ e. omega arith)) at p), rest)
 
-  component-step : (r n : ℕ) (ns : List ℕ) → checkComponents image r (n ∷ ns) ≡ ok tt
+  pub component-step : (r n : ℕ) (ns : List ℕ) → checkComponents image r (n ∷ ns) ≡ ok tt
       → (checkIn ((counts image) .t) n (tab (entryAt image) r n) 0 ≡ ok tt) × (checkComponents image (r + n) ns ≡ ok tt)
   unfolding checkComponents
   component-step r n ns h = let (_, p, q) = bind-ok (checkIn ((counts image) .t) n (tab (entryAt image) r n) 0) _ h in (p, q)

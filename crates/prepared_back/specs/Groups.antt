@@ -36,14 +36,14 @@ pub record Built (text : List ℕ) (above : ℕ) (es : List Entry) : Type 0 wher
   pub texts : all (textRight (length text)) es ≡ true
 
 -- what the check says of an opener and of what follows it
-record Opened (t fuel : ℕ) (e : Entry) (rest : List Entry) (above : ℕ) : Type 0 where
-  opener : openRight t e rest ≡ true
-  room : above < limits .depth
-  inside : checkIn t fuel (insideOf e rest) (suc above) ≡ ok tt
-  closer : closeRight t e (closerOf e rest) ≡ true
-  after : checkIn t fuel (afterOf e rest) above ≡ ok tt
+pub record Opened (t fuel : ℕ) (e : Entry) (rest : List Entry) (above : ℕ) : Type 0 where
+  pub opener : openRight t e rest ≡ true
+  pub room : above < limits .depth
+  pub inside : checkIn t fuel (insideOf e rest) (suc above) ≡ ok tt
+  pub closer : closeRight t e (closerOf e rest) ≡ true
+  pub after : checkIn t fuel (afterOf e rest) above ≡ ok tt
 
-opened : (t fuel : ℕ) (e : Entry) (rest : List Entry) (above : ℕ) → opens (e .kind) ≡ true
+pub opened : (t fuel : ℕ) (e : Entry) (rest : List Entry) (above : ℕ) → opens (e .kind) ≡ true
     → checkIn t (suc fuel) (e ∷ rest) above ≡ ok tt → Opened t fuel e rest above
 unfolding checkIn
 opened t fuel e rest above o h =
@@ -54,7 +54,7 @@ opened t fuel e rest above o h =
     record { opener = p; room = (leb-iff (suc above) (limits .depth)) .0 q; inside = i; closer = c; after = a }
 
 -- and of a word
-word-kept : (t fuel : ℕ) (e : Entry) (rest : List Entry) (above : ℕ) → opens (e .kind) ≡ false
+pub word-kept : (t fuel : ℕ) (e : Entry) (rest : List Entry) (above : ℕ) → opens (e .kind) ≡ false
     → checkIn t (suc fuel) (e ∷ rest) above ≡ ok tt → (wordRight t e ≡ true) × (checkIn t fuel rest above ≡ ok tt)
 unfolding checkIn
 word-kept t fuel e rest above o h = need-then (wordRight t e) bad-record _ (rw (o, checkIn) at h)
@@ -85,7 +85,7 @@ some-text text e (q, r) =
 
 -- the list behind an opener: what stands inside, the closer, and what stands after it
 module _ (e : Entry) (rest : List Entry) (low : 2 ≤ e .skip) (high : e .skip ≤ 1 + length rest) where
-  in-parts : rest ≡ insideOf e rest ++ closerOf e rest ∷ afterOf e rest
+  pub in-parts : rest ≡ insideOf e rest ++ closerOf e rest ∷ afterOf e rest
   in-parts =
       let next : e .skip - 1 ≡ suc (e .skip - 2) = omega arith in
       rw next (split-at rest (e .skip - 2) noEntry (omega arith))

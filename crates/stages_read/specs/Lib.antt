@@ -1,2 +1,3 @@
 -- The stages in turn, with stages 1 and 2 of each component in one go.
+pub mod Proved
 pub mod Statement

@@ -1,0 +1,45 @@
+-- What a run asks before the stages: each way out of the three tests.
+use mathlib.Core.Path.{_≡_, refl, sym, ap, _∙_}
+use Prim.Native.Nat.{_≤_, _<_}
+use borrow.Author.Tests.{lt-leb, le-leb}
+use Rattle.def_numbers.specs.Prelude.{ℕ, _+_, _*_, Bool, true, false, List, leb}
+use Rattle.def_numbers.specs.Basics.{Result, ok, refused, _>>=_}
+use Rattle.def_numbers.specs.Limits.{areaNeeded}
+use Rattle.def_numbers.specs.Refusals.{need, short-area}
+use Rattle.def_image.specs.Image.{counts}
+use Rattle.def_image.specs.Check.{checkImage}
+use Rattle.errors.specs.Refused.{refusedAs, resultOf}
+use Rattle.errors.specs.declared.Checked.{Checked}
+use Rattle.errors.specs.declared.Checked.the-variants as C
+use Rattle.errors.specs.declared.Refusal.{Refusal}
+use Rattle.token_tree.specs.Tables.{countsOf}
+use Rattle.token_tree.specs.declared.Counts.{Counts}
+use Rattle.layout_run.specs.Order.{admittedOf}
+
+module _ (image : List ℕ) (area : ℕ) where
+  abbrev pub roomy : Bool
+  roomy = leb (areaNeeded ((counts image) .c) ((counts image) .n) ((counts image) .b)) area
+
+  pub enough-is : (h : Counts) → countsOf h ≡ counts image → leb (32 + 20 * h .c + 72 * h .n + h .b) area ≡ roomy
+  enough-is h e = ap (λ x. leb (areaNeeded (x .c) (x .n) (x .b)) area) e
+
+  module _ (mode : ℕ) where
+    pub mode-above : (q : Refusal) → refusedAs {A = Unit} q ≡ refused 1 0 0 → 2 < mode → refusedAs q ≡ admittedOf image mode area
+    unfolding admittedOf
+    mode-above q e h = rw (lt-leb mode 2 h) e
+
+    module _ (few : mode ≤ 2) (s : Checked) (said : resultOf s ≡ checkImage image) where
+      pub image-refused : (q : Refusal) → s ≡ C.Refused q → resultOf s ≡ admittedOf image mode area
+      unfolding admittedOf
+      image-refused q e = rw (le-leb mode 2 few, ← said, e)
+
+      after-image : s ≡ C.Passed → admittedOf image mode area ≡ need roomy short-area
+      unfolding admittedOf
+      after-image p = rw (le-leb mode 2 few, ← said, p)
+
+      pub all-passed : s ≡ C.Passed → (b : Bool) → b ≡ roomy → b ≡ true → ok tt ≡ admittedOf image mode area
+      all-passed p b e t = sym (after-image p ∙ rw (← e, t))
+
+      pub area-short : s ≡ C.Passed → (b : Bool) → b ≡ roomy → b ≡ false → (q : Refusal) → refusedAs {A = Unit} q ≡ refused 8 0 0
+          → refusedAs q ≡ admittedOf image mode area
+      area-short p b e t q r = r ∙ sym (after-image p ∙ rw (← e, t))

@@ -1,0 +1,65 @@
+-- From what each part says to what the whole says: the checks before the stages, the starting value, and stage 3.
+use mathlib.Core.Path.{_≡_, refl, sym, ap, _∙_}
+use Prim.Native.Nat.{_≤_, _<_}
+use Rattle.def_numbers.specs.Prelude.{ℕ, none, List, getD, length}
+use Rattle.def_numbers.specs.Basics.{Result, ok, _>>=_}
+use Rattle.def_image.specs.Image.{Placed, counts, treeOf}
+use Rattle.def_stages.specs.Component.{Component}
+use Rattle.def_stages.specs.Concatenation.{stage3}
+use Rattle.def_run.specs.Run.{stages, run}
+use Rattle.errors.specs.Refused.{refusedAs, resultOf}
+use Rattle.errors.specs.declared.Checked.{Checked}
+use Rattle.errors.specs.declared.Checked.the-variants as C
+use Rattle.errors.specs.declared.Refusal.{Refusal}
+use Rattle.answer.specs.Heads.{initOf}
+use Rattle.answer.specs.declared.Init.the-variants as I
+use Rattle.token_tree.specs.Tables.{countsOf}
+use Rattle.token_tree.specs.declared.Counts.{Counts}
+use Rattle.tree.specs.Cursor.{firstIn}
+use Rattle.tree.specs.Read.{readFrom, readAll, startAll}
+use Rattle.tree.specs.Start.{startOf, sourceText}
+use Rattle.tree.specs.declared.start.Start.{Start}
+use Rattle.tree.specs.declared.start.Start.the-variants as S
+use Rattle.usb.specs.declared.Part.{Part}
+use Rattle.layout_run.specs.Found.{Found, StageIs}
+use Rattle.layout_run.specs.Order.{admittedOf, stagesIn, bytesOf, cameTo, Admitted, run-after, admitted, stages-in}
+use Rattle.layout_run.specs.declared.concatenations.Stage3.{Stage3}
+
+-- ---- the checks before the stages
+
+module _ (image : List ℕ) (mode : ℕ) (area : List ℕ) (s : Checked) (said : resultOf s ≡ admittedOf image mode (length area)) where
+  pub entered : s ≡ C.Passed → Admitted image (length area)
+  entered p = admitted image mode (length area) (sym said ∙ ap resultOf p)
+
+  pub whole-entered : (bytes : (i : ℕ) → getD image i 0 < 256) → s ≡ C.Passed → (r : Result ℕ × List ℕ) → r ≡ cameTo area (bytesOf (stagesIn image mode))
+      → r ≡ cameTo area (run image mode (length area))
+  whole-entered bytes p r e =
+      let ran : run image mode (length area) ≡ bytesOf (stages mode (treeOf image)) = run-after image mode (length area) ∙ rw (← said, p) in
+      e ∙ ap (cameTo area) (sym (ran ∙ ap bytesOf (stages-in image bytes ((entered p) .checked) mode)))
+
+  pub whole-refused : (q : Refusal) → s ≡ C.Refused q → (refusedAs q, area) ≡ cameTo area (run image mode (length area))
+  whole-refused q e =
+      let ran : run image mode (length area) ≡ refusedAs q = run-after image mode (length area) ∙ rw (← said, e) in
+      ap (cameTo area) (sym ran)
+
+-- ---- the starting value
+
+module _ (image : List ℕ) (s : Start) (said : startOf image s ≡ startAll image) where
+  pub no-start : s ≡ S.None → startAll image ≡ ok (initOf image 0 I.Missing)
+  no-start e = sym said ∙ ap (startOf image) e
+
+  pub a-start : (base : ℕ) (p : Part) → s ≡ S.Given base p → startAll image ≡ ok (initOf image (sourceText image) (I.Given base p))
+  a-start base p e = sym said ∙ ap (startOf image) e
+
+  pub bad-start : (q : Refusal) → s ≡ S.Refused q → refusedAs q ≡ startAll image
+  bad-start q e = sym (ap (startOf image) e) ∙ said
+
+-- ---- stage 3
+
+module _ (image : List ℕ) (h : Counts) (e : countsOf h ≡ counts image) (t : Stage3) (said : StageIs image (h .c) (h .n) t) where
+  pub stage-found : t .checked ≡ C.Passed → Found image (h .c) (h .n) (t .cs) (t .sizes) (t .merged)
+  stage-found p = rw p at said
+
+  pub stage-refused : (q : Refusal) → t .checked ≡ C.Refused q → (u : List (List (Placed Component))) → readAll image ≡ ok u → stage3 0 u ≡ refusedAs q
+  unfolding readAll
+  stage-refused q p u r = let f = rw p at said in f u (ap (λ x. readFrom image 0 firstIn (x .n) (x .c)) e ∙ r)

@@ -1,0 +1,77 @@
+-- `layout_run::concatenations::check_all` meets its contract. The invariant: what the concatenations before i gave. The measure is what is left.
+use borrow.Author.Needs.{needs}
+use mathlib.Core.Path.{_≡_, refl, sym, ap, _∙_}
+use Prim.Native.Nat.{_≤_, _<_, _-_, _+_, _^_}
+use native.Mathlib.Omega.{arith}
+use lib.ListN.{length, length-set, length-replicate}
+use Rattle.tree.specs.Chain.{atMost}
+use Rattle.layout_run.proofs.Turns.{Walked, walk-start, walk-refused, walk-next, walk-end}
+use Rattle.layout_run.proofs.concatenations.check_all.Statement.{statement}
+use Rattle.layout_run.proofs.concatenations.check_all.Tie as tie
+
+abbrev Inv-loop : tie.InvT-loop
+Inv-loop image count n cs₀ sizes₀ merged₀ c₀ left₀ i₀ cs sizes merged c left i =
+    (length cs ≡ 16) × (length sizes ≡ 16) × Walked image count n i c left cs sizes merged
+
+abbrev μ-loop : tie.MeasureT-loop
+μ-loop image count n cs₀ sizes₀ merged₀ c₀ left₀ i₀ cs sizes merged c left i = count - i
+
+loop-holds : tie.Need-loop-holds Inv-loop μ-loop
+loop-holds c = let a = c .before .before .before .args in rw (c .first .ensures) (refl, refl, walk-start (a .image .now) (a .count) (a .n) _ _)
+
+array-set-from-cs : tie.Need-array-set-from-cs Inv-loop μ-loop
+array-set-from-cs c = omega (arith, c .before .before .before .before .before .before .before .loop-test .taken, c .before .before .before .before .before .before .before .before .before .before .before .before .pre)
+
+array-write-sizes : tie.Need-array-write-sizes Inv-loop μ-loop
+array-write-sizes c = omega (arith, c .before .before .before .before .before .before .before .loop-test .taken, c .before .before .before .before .before .before .before .before .before .before .before .before .pre)
+
+add-merged : tie.Need-add-merged Inv-loop μ-loop
+add-merged c =
+    let l = c .before .before .before .before .before .before .before .before .before .loop in
+    record { fits = omega (arith, c .before .before .before .before .before .before .before .before .loop-test .taken, c .before .before .before .before .before .before .before .before .before .before .before .before .before .pre, l .inv .2 .small, c .struct-known) }
+
+returns : tie.Need-returns Inv-loop μ-loop
+returns c =
+    let a = c .before .before .before .before .before .before .before .before .before .before .before .args in
+    let l = c .before .before .before .before .before .before .before .loop in
+    let m = c .before .before .before .before .at-most in
+    let r = c .before .before .before .check in
+    walk-refused (a .image .now) (a .count) (a .n) (l .i) (l .c) (l .left) (l .cs) (l .sizes) (l .merged) (m .result) (c .before .before .before .before .before .before .loop-test .taken)
+    (m .ensures .0 ∙ ap (λ x. atMost x (l .left)) (c .before .before .before .before .before .component-count .ensures)) (l .inv .2) (r .result) (r .ensures) _ (c .before .q .given .1)
+
+sub-left : tie.Need-sub-left Inv-loop μ-loop
+sub-left c = c .before .before .before .before .before .before .before .at-most .ensures .1
+
+loop-again : tie.Need-loop-again Inv-loop μ-loop
+loop-again c =
+    let a = c .before .before .before .before .before .before .before .before .before .before .before .before .before .before .args in
+    let l = c .before .before .before .before .before .before .before .before .before .before .loop in
+    let m = c .before .before .before .before .before .before .before .at-most in
+    let r = c .before .before .before .before .before .before .check in
+    let f = c .before .before .before .before .f .given .0 .0 in
+    let k : l .i < 16 = omega (arith, c .before .before .before .before .before .before .before .before .before .loop-test .taken, c .before .before .before .before .before .before .before .before .before .before .before .before .before .before .pre) in
+    let p : l .i < length (l .cs) = omega (arith, l .inv .0) in
+    let q : l .i < length (l .sizes) = omega (arith, l .inv .1) in
+    let b : f .merged < 2 ^ 32 = omega (arith, c .before .struct-known) in (
+      simp length-set (l .inv .0),
+      simp length-set (l .inv .1),
+      rw (c .advanced .ensures) (walk-next (a .image .now) (a .count) (a .n) (l .i) (l .c) (l .left) (l .cs) (l .sizes) (l .merged) (m .result) (c .before .before .before .before .before .before .before .before .before .loop-test .taken)
+          (m .ensures .0 ∙ ap (λ x. atMost x (l .left)) (c .before .before .before .before .before .before .before .before .component-count .ensures)) (l .inv .2) (r .result) (r .ensures) f (c .before .before .before .before .f .given .1) b p q),
+    )
+
+cast-t30 : tie.Need-cast-t30 Inv-loop μ-loop
+cast-t30 c = search needs
+
+returns-2 : tie.Need-returns-2 Inv-loop μ-loop
+returns-2 c =
+    let a = c .before .before .before .before .before .args in
+    let l = c .before .loop in
+    walk-end (a .image .now) (a .count) (a .n) (l .i) (l .c) (l .left) (l .cs) (l .sizes) (l .merged) (omega arith) (l .inv .2)
+
+pub check-all-spec : {M : Type 1} → statement M
+check-all-spec =
+    tie.close
+    (tie.spec Inv-loop μ-loop (λ c κs. search needs) (λ c κs. search needs) loop-holds (λ c κs. search needs) (λ c κs. search needs)
+    (λ c κs. search needs) (λ c. search needs) (λ c. search needs) (λ c. search needs) array-set-from-cs (λ c. search needs) (λ c. search needs)
+    array-write-sizes (λ c. search needs) add-merged (λ c. search needs) returns (λ c κs. search needs) sub-left (λ c. search needs)
+    (λ c. search needs) loop-again cast-t30 returns-2)

@@ -1,0 +1,33 @@
+// What a run asks before the stages.
+use errors::Checked;
+ghost use mathlib.Core.Path.{_≡_};
+ghost use lib.Dec.{leb};
+ghost use Rattle.def_numbers.specs.Limits.{areaNeeded};
+ghost use Rattle.def_image.specs.Image.{counts};
+ghost use Rattle.errors.specs.Refused.{resultOf};
+ghost use Rattle.layout_run.specs.Order.{admittedOf};
+
+// Whether an area of this length has room for the answer of any image with these counts: 32 + 20·C + 72·N + B.
+fn enough(image: &[u8], area: usize) -> bool
+    ensures { λ r. ⌜ r ≡ leb (areaNeeded ((counts (now (image .entry))) .c) ((counts (now (image .entry))) .n) ((counts (now (image .entry))) .b)) area ⌝ }
+{
+    let h = token_tree::counts_of(image);
+    32 + 20 * (h.c as usize) + 72 * (h.n as usize) + (h.b as usize) <= area
+}
+
+// 1, the image check, 8.
+pub(crate) fn admitted(image: &[u8], mode: u32, area: usize) -> Checked
+    ensures { λ r. ⌜ resultOf r ≡ admittedOf (now (image .entry)) mode area ⌝ }
+{
+    if 2 < mode {
+        return Checked::Refused(errors::refuse(1));
+    }
+    let image_right = image_check::check_image(image);
+    let Checked::Passed = image_right else {
+        return image_right;
+    };
+    if enough(image, area) {
+        return Checked::Passed;
+    }
+    Checked::Refused(errors::refuse(8))
+}

@@ -1,0 +1,122 @@
+-- Bits behind others: zeros for the new bytes, and then the bits.
+use mathlib.Core.Path.{_≡_, refl, sym, ap, _∙_}
+use mathlib.Core.Bool.{true≢false}
+use Prim.Native.Nat.{_≤_, _<_}
+use native.Mathlib.Omega.{arith}
+use lib.ListN.{replicate, length-append}
+use lib.Seq.{sets, length-sets}
+use borrow.Author.Tests.{lt-ltb, le-ltb, ltb-true}
+use Rattle.def_numbers.specs.Prelude.{ℕ, zero, suc, _+_, _*_, _-_, _^_, Bool, true, false, _&&_, not, List, [], _∷_, _++_, length, ltb}
+use Rattle.def_image.specs.Image.{padded, bytesAt, bytesFor}
+use Rattle.def_image.specs.Tree.{packed}
+use Rattle.laws.specs.Tests.{and-iff}
+use Rattle.laws.specs.Lists.{length-tab}
+use Rattle.laws.specs.Padded.{length-padded}
+use Rattle.laws.specs.Sets.{sets-append}
+use Rattle.prepared.specs.Bits.{Bits, length-packed}
+use Rattle.literal_bits.specs.Put.{bitOf, bitsFrom, withBits, putBits}
+use Rattle.literal_bits.specs.Places.{Small, put-fits}
+use Rattle.literal_bits.specs.Packing.{held-more, region-full}
+use Rattle.literal_bits.specs.Runs.{bytesAt-sets}
+use Rattle.stage5.specs.Blocks.{sets-over}
+use Rattle.stage5.specs.Literals.{AppendIs}
+
+-- ---- the test of the numbers
+
+abbrev pub isNear : ℕ → ℕ → ℕ → Bool
+isNear at k n = ltb at (2 ^ 32) && (ltb k (2 ^ 32) && ltb n (2 ^ 32))
+
+pub far-first : (at k n : ℕ) → 2 ^ 32 ≤ at → false ≡ isNear at k n
+far-first at k n h = rw (le-ltb at (2 ^ 32) h)
+
+pub far-second : (at k n : ℕ) → at < 2 ^ 32 → 2 ^ 32 ≤ k → false ≡ isNear at k n
+far-second at k n g h = rw (lt-ltb at (2 ^ 32) g, le-ltb k (2 ^ 32) h)
+
+pub near-third : (at k n : ℕ) → at < 2 ^ 32 → k < 2 ^ 32 → ltb n (2 ^ 32) ≡ isNear at k n
+near-third at k n g h = rw (lt-ltb at (2 ^ 32) g, lt-ltb k (2 ^ 32) h)
+
+pub record Near (at k n : ℕ) : Type 0 where
+  pub place : at < 2 ^ 32
+  pub had : k < 2 ^ 32
+  pub new : n < 2 ^ 32
+
+pub near-is : (at k n : ℕ) (b : Bool) → b ≡ isNear at k n → not b ≡ false → Near at k n
+near-is at k n true e t =
+    let p = (and-iff (ltb at (2 ^ 32)) (ltb k (2 ^ 32) && ltb n (2 ^ 32))) .0 (sym e) in
+    let q = (and-iff (ltb k (2 ^ 32)) (ltb n (2 ^ 32))) .0 (p .1) in
+    record { place = ltb-true at (2 ^ 32) (p .0); had = ltb-true k (2 ^ 32) (q .0); new = ltb-true n (2 ^ 32) (q .1) }
+near-is at k n false e t = absurd (true≢false t)
+
+-- where there is room the numbers are near
+pub far-off : (at k : ℕ) (s : List ℕ) (from n : ℕ) (b : Bool) (area : List ℕ) → b ≡ isNear at k n → not b ≡ true → AppendIs at k s from n area area
+far-off at k s from n b area e t base bits _ _ _ _ reach _ =
+    let p : at < 2 ^ 32 = omega arith in
+    let q : k < 2 ^ 32 = omega arith in
+    let r : n < 2 ^ 32 = omega arith in
+    let f : b ≡ true = e ∙ sym (near-third at k n p q) ∙ lt-ltb n (2 ^ 32) r in
+    let z : _≡_ {A = Bool} false true = ap not (sym f) ∙ t in
+    cc
+
+-- ---- zeros, and bits
+
+padded-zeros : (m : ℕ) (s : List ℕ) → length s ≤ m → s ++ replicate (m - length s) 0 ≡ padded m s
+unfolding padded
+padded-zeros zero [] h = refl
+padded-zeros zero (b ∷ s) h = absurd (omega arith)
+padded-zeros (suc m) [] h =
+    let e : suc m - 0 ≡ suc (m - 0) = omega arith in
+    rw e (ap (λ (x : List ℕ). 0 ∷ x) (padded-zeros m [] (omega arith)))
+padded-zeros (suc m) (b ∷ s) h =
+    let e : suc m - suc (length s) ≡ m - length s = omega arith in
+    rw e (ap (λ (x : List ℕ). b ∷ x) (padded-zeros m s (omega arith)))
+
+zeros-behind : (base : List ℕ) (at m : ℕ) (bits : List ℕ) → bytesFor (length bits) ≤ m
+    → sets (sets base at (packed bits)) (at + bytesFor (length bits)) (replicate (m - bytesFor (length bits)) 0) ≡ sets base at (padded m (packed bits))
+zeros-behind base at m bits h =
+    let l = length-packed bits in
+    ap (λ (k : ℕ). sets (sets base at (packed bits)) (at + k) (replicate (m - k) 0)) (sym l)
+    ∙ sets-append base at (packed bits) (replicate (m - length (packed bits)) 0)
+    ∙ ap (sets base at) (padded-zeros m (packed bits) (omega arith))
+
+module _ (entry mid after : List ℕ) (at k : ℕ) (s : List ℕ) (from n had has : ℕ) (had-is : had ≡ bytesFor k) (has-is : has ≡ bytesFor (k + n))
+    (zeroed : mid ≡ sets entry (at + had) (replicate (has - had) 0)) (put : after ≡ putBits mid (8 * at + k) s from n) (small : Small mid)
+  where
+    module _ (base bits : List ℕ) (len : length bits ≡ k) (e : entry ≡ sets base at (packed bits)) where
+      mid-is : mid ≡ sets base at (padded has (packed bits))
+      mid-is =
+          let h : had ≡ bytesFor (length bits) = omega arith in
+          zeroed ∙ rw (e, h) (zeros-behind base at has bits (omega arith))
+
+      mid-long : length mid ≡ length base
+      mid-long = ap length mid-is ∙ length-sets base at (padded has (packed bits))
+
+      held : at + has ≤ length base → bytesAt mid at has ≡ padded has (packed bits)
+      held fits =
+          let l = length-padded has (packed bits) in
+          ap (λ (m : List ℕ). bytesAt m at has) mid-is
+          ∙ ap (bytesAt (sets base at (padded has (packed bits))) at) (sym l)
+          ∙ bytesAt-sets base at (padded has (packed bits)) (omega arith)
+
+      all-long : length (bits ++ bitsFrom s from n) ≡ k + n
+      all-long = let l = length-tab (bitOf s) from n in length-append bits (bitsFrom s from n) ∙ (omega arith)
+
+      over : sets mid at (padded has (packed (bits ++ bitsFrom s from n))) ≡ sets base at (packed (bits ++ bitsFrom s from n))
+      over =
+          let all = bits ++ bitsFrom s from n in
+          let l : length (padded has (packed bits)) ≡ has = length-padded has (packed bits) in
+          let m : length (padded has (packed all)) ≡ has = length-padded has (packed all) in
+          let a = all-long in
+          let h : has ≡ bytesFor (length all) = omega arith in
+          ap (λ (x : List ℕ). sets x at (padded has (packed all))) mid-is
+          ∙ sets-over base at (padded has (packed bits)) (padded has (packed all)) (omega arith)
+          ∙ ap (λ (x : ℕ). sets base at (padded x (packed all))) h
+          ∙ ap (sets base at) (region-full all)
+
+    pub appended : AppendIs at k s from n entry after
+    appended base bits b len e fits reach within =
+        let ml = mid-long base bits len e in
+        put
+        ∙ put-fits mid (8 * at + k) s from n (omega arith) within
+        ∙ ap (λ (x : ℕ). withBits mid (8 * at + x) s from n) (sym len)
+        ∙ held-more mid at has bits s from n small b (omega arith) (omega arith) (held base bits len e (omega arith))
+        ∙ over base bits len e
