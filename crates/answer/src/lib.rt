@@ -14,7 +14,7 @@ use values::text_start;
 use values::width_number;
 ghost use mathlib.Core.Path.{_≡_};
 ghost use mathlib.Core.List.{List, [], _∷_, _++_};
-ghost use Prim.Native.Nat.{ℕ, _/_, _%_, _^_};
+ghost use Prim.Native.Nat.{ℕ, _+_, _/_, _%_, _^_, _≤_, _<_};
 ghost use lib.ListN.{length};
 ghost use lib.Seq.{sets};
 ghost use Rattle.def_image.specs.Tree.{u32};
@@ -35,17 +35,45 @@ fn put_byte(area: &mut [u8], at: usize, b: u8)
     }
 }
 
-// Little-endian. Past the area's end there is nothing to write, and before it no sum below wraps.
+// Four bytes that all lie inside the area.
+fn put_four(area: &mut [u8], at: usize, a: u8, b: u8, c: u8, d: u8)
+    requires { ⌜ at + 4 ≤ length (now area) ⌝ }
+    ensures { λ _. ⌜ now (area .exit) ≡ sets (now (area .entry)) at (a ∷ b ∷ c ∷ d ∷ []) ⌝ }
+{
+    area[at] = a;
+    area[at + 1] = b;
+    area[at + 2] = c;
+    area[at + 3] = d;
+}
+
+// Those of four bytes that lie inside the area.
+fn put_inside(area: &mut [u8], at: usize, a: u8, b: u8, c: u8, d: u8)
+    requires { ⌜ at < length (now area) ⌝ }
+    ensures { λ _. ⌜ now (area .exit) ≡ sets (now (area .entry)) at (a ∷ b ∷ c ∷ d ∷ []) ⌝ }
+{
+    put_byte(area, at, a);
+    put_byte(area, at + 1, b);
+    put_byte(area, at + 2, c);
+    put_byte(area, at + 3, d);
+}
+
+// Little-endian. Past the area's end there is nothing to write, and before it no sum below wraps. With room for all four bytes they
+// are one store.
 pub fn put_u32(area: &mut [u8], at: usize, n: u32)
     ensures { λ _. ⌜ now (area .exit) ≡ sets (now (area .entry)) at (u32 n) ⌝ }
 {
+    let a = (n % 256) as u8;
+    let b = (n / 256 % 256) as u8;
+    let c = (n / 65536 % 256) as u8;
+    let d = (n / 16777216 % 256) as u8;
     if area.len() <= at {
         return;
     }
-    put_byte(area, at, (n % 256) as u8);
-    put_byte(area, at + 1, (n / 256 % 256) as u8);
-    put_byte(area, at + 2, (n / 65536 % 256) as u8);
-    put_byte(area, at + 3, (n / 16777216 % 256) as u8);
+    if 4 <= area.len() - at {
+        put_four(area, at, a, b, c, d);
+    } else {
+        put_inside(area, at, a, b, c, d);
+    }
 }
 
 // Two numbers of 32 bits, the low half first.

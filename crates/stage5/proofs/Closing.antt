@@ -3,17 +3,17 @@ use mathlib.Core.Path.{_≡_, refl, sym, ap, subst, _∙_}
 use mathlib.Core.Bool.{true≢false}
 use Prim.Native.Nat.{_≤_, _<_, min}
 use native.Mathlib.Omega.{arith}
-use lib.ListN.{length-append, length-drop, drop-of-length-le}
-use lib.Seq.{sets, take-all}
+use lib.ListN.{replicate, length-replicate, length-append, length-drop, drop-of-length-le}
+use lib.Seq.{sets, length-sets, take-all}
 use borrow.Author.Tests.{leb-true, leb-false}
-use Rattle.def_numbers.specs.Prelude.{ℕ, _+_, _*_, _-_, _%_, _^_, Bool, true, false, not, none, some, List, [], _∷_, _++_, length, take, drop, leb, pos}
-use Rattle.def_numbers.specs.Basics.{all, tab, joined}
+use Rattle.def_numbers.specs.Prelude.{ℕ, _+_, _*_, _-_, _%_, _^_, true, false, not, none, some, List, [], _∷_, _++_, length, take, drop, leb, pos}
+use Rattle.def_numbers.specs.Basics.{all, tab}
 use Rattle.def_image.specs.Image.{Placed, padded, bytesFor}
-use Rattle.def_image.specs.Tree.{packed}
+use Rattle.def_image.specs.Tree.{u32, packed}
+use Rattle.def_stages.specs.Ranges.{val}
 use Rattle.def_stages.specs.Component.{Component, literal}
 use Rattle.def_stages.specs.Concatenation.{bitsOf, fixedLiteral}
-use Rattle.def_run.specs.Answer.{componentBytes, literalBytes}
-use Rattle.answer_fits.specs.Statement.{literalsOf}
+use Rattle.def_run.specs.Answer.{componentBytes, usbBytes}
 use Rattle.laws.specs.Tests.{by-test}
 use Rattle.laws.specs.Lists.{length-tab}
 use Rattle.prepared.specs.Bits as Prepared
@@ -28,10 +28,10 @@ use Rattle.literal_bits.specs.Packing.{bits-append}
 use Rattle.answer.specs.declared.Kind.{Kind}
 use Rattle.answer.specs.declared.Kind.the-variants as K
 use Rattle.answer.specs.Kinds.{HasKind}
+use Rattle.answer.proofs.Blocks.{u32-mod}
 use Rattle.stage5.specs.declared.Writing.{Writing}
 use Rattle.stage5.specs.declared.merging.Merging.{Merging}
-use Rattle.stage5.specs.Put.{Room}
-use Rattle.stage5.specs.Runs.{Run, runBits, literalOf, longer, closed}
+use Rattle.stage5.specs.Runs.{runBits, literalOf, longer}
 use Rattle.stage5.specs.Blocks.{putOne, writtenOne, Same, same-one, length-literals}
 use Rattle.stage5.specs.Literals.{AppendIs, fixedRange}
 use Rattle.stage5.specs.State.{Holds, LongerIs, FinishIs, CloseIs, Closes}
@@ -77,11 +77,11 @@ written-none base area s h = h .written ∙ ap (sets base (s .w .literals + s .w
 
 -- ---- bits more
 
-pub lengthened : (image entry after : List ℕ) (place : ℕ) (b : Bits) (s : Merging) (k at count : ℕ) → b .from ≤ b .to → k ≡ min place (length image)
+pub lengthened : (image entry after : List ℕ) (place : ℕ) (b : Bits) (s : Merging) (k at count : ℕ) → length entry < 2 ^ 64 → b .from ≤ b .to → k ≡ min place (length image)
     → at ≡ (s .w .literals + s .w .offset) % 2 ^ 64 → AppendIs at (s .bits) (take (length image - k) (drop k image)) (b .from) (b .to - b .from) entry after
     → count ≡ (s .bits + (b .to - b .from)) % 2 ^ 64
     → LongerIs image place b s (record { w = s .w; running = true; bits = count }) entry after
-lengthened image entry after place b s k at count order k-is at-is app count-is base o d h bits last same fits reach =
+lengthened image entry after place b s k at count long order k-is at-is app count-is base o d h bits last same fits reach =
     let n : ℕ = b .to - b .from in
     let part = take (length image - k) (drop k image) in
     let part-is : part ≡ drop place image = take-all (length image - k) (drop k image) (rw length-drop (omega arith)) ∙ drop-least image place k k-is in
@@ -91,11 +91,11 @@ lengthened image entry after place b s k at count order k-is at-is app count-is 
     let l₂ = length-append (runBits o) (bitsOf (d .value)) in
     let l₃ = length-packed (longer o d .value) in
     let c = h .count in
+    let whole : length entry ≡ length base = ap length (h .written) ∙ length-sets base (s .w .literals + s .w .offset) (packed (runBits o)) in
     let at₁ : at ≡ s .w .literals + s .w .offset = omega arith in
     let e : entry ≡ sets base at (packed (runBits o)) = rw at₁ (h .written) in
     let f : after ≡ sets base at (packed (runBits o ++ new)) =
-    app base (runBits o) (h .are-bits) (sym c) e (omega arith) (omega arith) (omega arith) in
-    (
+    app base (runBits o) (h .are-bits) (sym c) e (omega arith) (omega arith) (omega arith) in (
       record {
         is-open = refl;
         count = omega arith;
@@ -108,28 +108,40 @@ lengthened image entry after place b s k at count order k-is at-is app count-is 
 
 -- ---- a block
 
-pub finished : (entry after : List ℕ) (base : ℕ) (kind : Kind) (range : Usbr) (count : ℕ) (w : Writing) (next bytes offset : ℕ)
+pub finished : (entry after : List ℕ) (base : ℕ) (kind : Kind) (range : Usbr) (count : ℕ) (w : Writing) (next bytes offset : ℕ) → length entry < 2 ^ 64
     → ((image : List ℕ) (text : ℕ) (c : Component) → HasKind image text kind (c .c-type) → c .range ≡ usbrOf image text range
     → after ≡ sets entry (w .at) (componentBytes (w .offset % 2 ^ 32) (record { base = base; value = c })))
     → next ≡ (w .at + 72) % 2 ^ 64 → bytes ≡ bytesFor count → offset ≡ (w .offset + bytes) % 2 ^ 64
     → FinishIs base kind range count w (record { at = next; literals = w .literals; offset = offset }) entry after
-finished entry after base kind range count w next bytes offset put next-is bytes-is offset-is image text c hk hr len area ms e room =
+finished entry after base kind range count w next bytes offset long put next-is bytes-is offset-is image text k c hk hr same len area ms e room =
     let m : Placed Component = record { base = base; value = c } in
     let r₁ = room .blocks in
     let r₂ = room .offsets in
+    let r₃ = room .literal-block in
+    let whole : length entry ≡ length area = ap length e ∙ length-sets area (w .literals + w .offset) (packed (bitsOf c)) in
     let l = length-literals m ms in
     let p = length-packed (bitsOf c) in
     let o : w .offset % 2 ^ 32 ≡ w .offset = omega arith in
     let a : next ≡ w .at + 72 = omega arith in
-    let b : offset ≡ w .offset + length (packed (bitsOf c)) = omega arith in
-    (
-      put image text c hk hr
-          ∙ ap (λ (x : ℕ). sets entry (w .at) (componentBytes x m)) o
+    let b : offset ≡ w .offset + length (packed (bitsOf c)) = omega arith in (
+      put image text k hk hr
+          ∙ ap (λ (x : ℕ). sets entry (w .at) (componentBytes x (record { base = base; value = k }))) o
+          ∙ ap (sets entry (w .at)) same
           ∙ ap (λ (x : List ℕ). sets x (w .at) (componentBytes (w .offset) m)) e,
       cc (a, b),
     )
 
 -- ---- the end of a run
+
+-- a literal's block shows its width's lowest 32 bits
+abbrev shown : ℕ → Component
+shown n = record { c-type = literal (replicate (n % 2 ^ 32) 0); range = fixedRange n }
+
+shown-as : (at : ℕ) (bits : List ℕ) → componentBytes at (record { base = 0; value = shown (length bits) }) ≡ componentBytes at (record { base = 0; value = fixedLiteral bits })
+shown-as at bits =
+    let n : ℕ = length bits in
+    ap (λ (x : List ℕ). u32 1 ++ u32 0 ++ u32 0 ++ x ++ u32 at ++ u32 1 ++ usbBytes 0 (val (pos 0)) ++ usbBytes 0 (val (pos n)))
+    (ap u32 (length-replicate (n % 2 ^ 32) 0) ∙ u32-mod n)
 
 pub close-none : (s : Merging) (area : List ℕ) → not (s .running) ≡ true → CloseIs s s area area
 close-none s area t base none ms h room = record { area = base; holds = h; same = record { bytes = refl; place = refl; room = room } }
@@ -142,11 +154,8 @@ pub close-some : (s : Merging) (entry after : List ℕ) (range : Usbr) (w : Writ
 close-some s entry after range w t fixed fin base none ms h room = absurd (true≢false (ap not (sym (h .is-open)) ∙ t))
 close-some s entry after range w t fixed fin base (some b) ms h room =
     let c = h .count in
-    let r = room .offsets in
-    let l = length-literals (literalOf b) ms in
-    let p = length-packed (b .value) in
-    let n : length (b .value) ≡ s .bits % 2 ^ 32 = omega arith in
-    let (f, g) = fin [] 0 (fixedLiteral (b .value)) (b .value, refl, n) (ap fixedRange (sym c) ∙ fixed [] 0) (sym c) base ms (h .written)
+    let (f, g) = fin [] 0 (shown (s .bits)) (fixedLiteral (b .value)) (replicate (s .bits % 2 ^ 32) 0, refl, length-replicate (s .bits % 2 ^ 32) 0) (fixed [] 0)
+    (ap (λ (n : ℕ). componentBytes (s .w .offset) (record { base = 0; value = shown n })) c ∙ shown-as (s .w .offset) (b .value)) (sym c) base ms (h .written)
     (record { blocks = room .blocks; literal-block = room .literal-block; offsets = room .offsets }) in
     go f g
   where

@@ -1,9 +1,7 @@
 -- A component's bits and kind, by its type.
-use mathlib.Core.Path.{_≡_, refl, sym, ap, _∙_}
-use Prim.Native.Nat.{_<_}
+use mathlib.Core.Path.{_≡_, refl, ap, _∙_}
 use native.Mathlib.Omega.{arith}
-use Rattle.def_numbers.specs.Prelude.{ℕ, _-_, false, _&&_, List, [], length, drop, eqb}
-use Rattle.laws.specs.Tests.{eqb-false}
+use Rattle.def_numbers.specs.Prelude.{ℕ, _-_, List, [], length, drop}
 use Rattle.def_numbers.specs.Basics.{tab}
 use Rattle.laws.specs.Lists.{length-tab}
 use Rattle.literal_bits.specs.Put.{bitOf}
@@ -42,11 +40,3 @@ module _ (place : Place) (t : ComponentType) where
 
   pub filler-kind : t ≡ T.Filler → (image : List ℕ) → HasKind image (place .text) K.Filler (typeOf image place t)
   filler-kind e image = rw e
-
--- ---- the last component of concatenation 0
-
-pub last-zero : (i m : ℕ) → i ≡ 0 → eqb m 0 ≡ (eqb i 0 && eqb m 0)
-last-zero i m h = rw h
-
-pub last-other : (i m : ℕ) → (i ≡ 0 → ⊥) → false ≡ (eqb i 0 && eqb m 0)
-last-other i m h = rw (eqb-false i 0 h)

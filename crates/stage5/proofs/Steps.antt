@@ -1,11 +1,10 @@
 -- A component that is no static literal, a component of either kind, and the component at a cursor.
 use mathlib.Core.Path.{_≡_, refl, sym, ap, subst, _∙_}
-use Prim.Native.Nat.{_≤_, _<_}
+use Prim.Native.Nat.{_≤_}
 use native.Mathlib.Omega.{arith}
 use lib.ListN.{length-append}
-use lib.Seq.{sets}
-use Rattle.def_numbers.specs.Prelude.{ℕ, _+_, _*_, _-_, _^_, Bool, true, false, not, none, some, List, [], _∷_, _++_, length, drop}
-use Rattle.def_numbers.specs.Basics.{Result, ok, refused, _>>=_}
+use Rattle.def_numbers.specs.Prelude.{ℕ, _+_, _-_, Bool, true, false, not, none, some, List, [], _∷_, _++_, length}
+use Rattle.def_numbers.specs.Basics.{ok, _>>=_}
 use Rattle.def_image.specs.Image.{Placed, bytesFor}
 use Rattle.def_image.specs.Tree.{packed}
 use Rattle.def_stages.specs.Component.{Component}
@@ -13,7 +12,6 @@ use Rattle.def_stages.specs.Concatenation.{bitsOf, isStaticLiteral}
 use Rattle.answer_fits.specs.Statement.{literalsOf}
 use Rattle.laws.specs.Tests.{by-test}
 use Rattle.laws.specs.Results.{ok-same}
-use Rattle.prepared.specs.Bits as Prepared
 use Rattle.prepared.specs.Bits.{length-packed}
 use Rattle.errors.specs.Refused.{refusedAs}
 use Rattle.errors.specs.declared.Refusal.{Refusal}
@@ -34,7 +32,7 @@ use Rattle.stage5.specs.declared.Writing.{Writing}
 use Rattle.stage5.specs.declared.merging.Merging.{Merging}
 use Rattle.stage5.specs.Put.{Room}
 use Rattle.stage5.specs.Runs.{Run, runBits, literalOf, longer, closed, mergeFrom, from-end, from-static, from-other}
-use Rattle.stage5.specs.Blocks.{putOne, writtenOne, Same, same-one, same-then, length-literals}
+use Rattle.stage5.specs.Blocks.{putOne, Same, same-one, same-then, length-literals}
 use Rattle.stage5.specs.Literals.{Span, typeBits}
 use Rattle.stage5.specs.State.{Holds, LongerIs, FinishIs, CloseIs, Closes, OtherIs, Goes, StepIs, TurnIs}
 use Rattle.stage5.proofs.Closing.{holds-none}
@@ -92,7 +90,7 @@ module _ (image entry : List ℕ) (spot : Spot) (x : code.Component) (s : Mergin
       go area v e same held v-is =
           let same₁ : Same base (s .w) (closed o (d ∷ ms)) area (r .w) (d ∷ ms) =
           subst (λ (u : Writing). Same base (s .w) (closed o (d ∷ ms)) area u (d ∷ ms)) (sym (sym v-is ∙ e)) same in
-          let (p, q) = finish image (spot .place .text) (d .value) (kind image) refl (sym (held .count)) area ms (held .written) (same₁ .room) in
+          let (p, q) = finish image (spot .place .text) (d .value) (d .value) (kind image) refl refl (sym (held .count)) area ms (held .written) (same₁ .room) in
           let last : Same area (r .w) (d ∷ ms) after w ms =
           subst (λ (y : List ℕ). Same area (r .w) (d ∷ ms) y w ms) (sym p)
           (subst (λ (u : Writing). Same area (r .w) (d ∷ ms) (putOne area (r .w) d) u ms) (sym q) (same-one area (r .w) d ms (same₁ .room))) in

@@ -1,29 +1,26 @@
 -- The walk over a concatenation: as it begins, component after component, and as it ends.
 use mathlib.Core.Path.{_≡_, refl, sym, ap, subst, _∙_}
 use Prim.Native.Nat.{_≤_, _<_}
-use native.Mathlib.Nat.{add-zero}
 use native.Mathlib.Numerals.{add-one}
 use native.Mathlib.Omega.{arith}
-use lib.Seq.{sets}
-use Rattle.def_numbers.specs.Prelude.{ℕ, suc, _+_, _*_, _-_, Bool, _&&_, false, none, some, List, [], _∷_, length, eqb}
-use Rattle.def_numbers.specs.Basics.{Result, ok, _>>=_, placed, joined}
+use Rattle.def_numbers.specs.Prelude.{ℕ, suc, _+_, _*_, _-_, Bool, _&&_, false, none, List, [], _∷_, eqb}
+use Rattle.def_numbers.specs.Basics.{ok, _>>=_, placed, joined}
 use Rattle.def_numbers.specs.Limits.{sizes}
 use Rattle.def_image.specs.Image.{Placed}
 use Rattle.def_stages.specs.Component.{Component}
 use Rattle.def_stages.specs.Concatenation.{merge}
 use Rattle.def_run.specs.Answer.{componentsBytes}
-use Rattle.answer_fits.specs.Fixed.{Fixed, AllFixed, none-left, one-more}
+use Rattle.answer_fits.specs.Fixed.{Fixed, AllFixed, one-more}
 use Rattle.laws.specs.Results.{bind-ok, placed-ok, ok-same}
-use Rattle.tree.specs.Walk.{oneThen}
 use Rattle.tree.specs.Read.{readAt, readIn}
 use Rattle.tree.specs.Cursor.{nextIn}
 use Rattle.tree.specs.declared.cursor.Cursor.{Cursor}
 use Rattle.stage5.specs.declared.Writing.{Writing}
 use Rattle.stage5.specs.declared.merging.Merging.{Merging}
 use Rattle.stage5.specs.Put.{putAll, writtenTo, Room}
-use Rattle.stage5.specs.Runs.{Run, closed, mergeFrom, merge-from, from-end}
+use Rattle.stage5.specs.Runs.{closed, mergeFrom, merge-from, from-end}
 use Rattle.stage5.specs.Blocks.{Same, same-then}
-use Rattle.stage5.specs.State.{Holds, CloseIs, Closes, Goes, StepIs, TurnIs, Midway}
+use Rattle.stage5.specs.State.{CloseIs, Goes, StepIs, TurnIs, Midway}
 use Rattle.stage5.proofs.Closing.{holds-none, written-none}
 
 module _ (image : List ℕ) (i : ℕ) where
@@ -80,10 +77,7 @@ module _ (image : List ℕ) (i : ℕ) where
       → Midway image i j c (n - j) base w ms area s → Midway image i (j + 1) next (n - (j + 1)) base w ms after r
   walk-goes j n c next base w ms area after s r last h last-is next-is turn mid =
       let e : n - j ≡ suc (n - j - 1) = omega arith in
-      let p = parted j c (n - j - 1) (mid .left) (ap (λ (x : ℕ). readIn image i j c x) (sym e) ∙ mid .read) in
-      let one : readAt image last c ≡ ok (p .first) = ap (λ (t : Bool). readAt image t c) last-is ∙ p .one in
-      go (p .first) (p .rest) (p .others) (turn (p .first) one) (fixed-first (p .first) (p .rest) (subst AllFixed (p .all) (mid .fixed)))
-      (subst (λ (l : List (Placed Component)). Goes base w ms l area s) (p .all) (mid .goes))
+      from-here (mid .left) (mid .fixed) (mid .goes) (parted j c (n - j - 1) (mid .left) (ap (λ (x : ℕ). readIn image i j c x) (sym e) ∙ mid .read))
     where
       go : (d : Placed Component) (ds : List (Placed Component)) → readIn image i (suc j) (nextIn image c) (n - j - 1) ≡ ok ds → StepIs d s r area after
           → Fixed d × AllFixed ds → Goes base w ms (d ∷ ds) area s → Midway image i (j + 1) next (n - (j + 1)) base w ms after r
@@ -102,6 +96,12 @@ module _ (image : List ℕ) (i : ℕ) where
             };
           }
 
+      from-here : (left : List (Placed Component)) → AllFixed left → Goes base w ms left area s → Parted j c (n - j - 1) left
+          → Midway image i (j + 1) next (n - (j + 1)) base w ms after r
+      from-here left f goes p =
+          go (p .first) (p .rest) (p .others) (turn (p .first) (ap (λ (t : Bool). readAt image t c) last-is ∙ p .one))
+          (fixed-first (p .first) (p .rest) (subst AllFixed (p .all) f)) (subst (λ (l : List (Placed Component)). Goes base w ms l area s) (p .all) goes)
+
   none-of : (j : ℕ) (c : Cursor) (left : List (Placed Component)) → readIn image i j c 0 ≡ ok left → left ≡ []
   unfolding readIn
   none-of j c left h = ok-same (sym h ∙ h) (sym h)
@@ -110,8 +110,7 @@ module _ (image : List ℕ) (i : ℕ) where
   unfolding componentsBytes joined
   nothing-put area w =
       let a : w .at + sizes .component * 0 ≡ w .at = omega arith in
-      let b : w .offset + 0 ≡ w .offset = omega arith in
-      (
+      let b : w .offset + 0 ≡ w .offset = omega arith in (
         refl,
         ap (λ (x : ℕ). record { at = x; literals = w .literals; offset = w .offset + 0 }) a
             ∙ ap (λ (x : ℕ). record { at = w .at; literals = w .literals; offset = x }) b,

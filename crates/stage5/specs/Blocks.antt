@@ -1,11 +1,11 @@
 -- Blocks written at two places of a list, and one merged component written before the others.
 use mathlib.Core.Path.{_≡_, refl, sym, ap, _∙_}
 use Prim.Native.Nat.{_≤_, _<_}
-use native.Mathlib.Nat.{add-assoc}
+use native.Mathlib.Nat.{add-assoc, add-suc}
 use native.Mathlib.Omega.{arith}
 use lib.ListN.{set, length-append}
-use lib.Seq.{sets, length-sets, set-comm, set-set}
-use Rattle.def_numbers.specs.Prelude.{ℕ, suc, _+_, _*_, List, [], _∷_, _++_, length}
+use lib.Seq.{sets, length-sets, set-comm, set-set, take-set-le, drop-set-add}
+use Rattle.def_numbers.specs.Prelude.{ℕ, suc, _+_, _*_, List, [], _∷_, _++_, length, take, drop}
 use Rattle.def_numbers.specs.Basics.{joined}
 use Rattle.def_numbers.specs.Limits.{sizes}
 use Rattle.def_image.specs.Image.{Placed}
@@ -28,6 +28,18 @@ module _ {A : Type 0} where
   sets-apart l i [] j b h = refl
   sets-apart l i (x ∷ a) j b h =
       sets-apart (set l i x) (suc i) a j b (omega arith) ∙ ap (λ (m : List A). sets m (suc i) a) (set-apart l i x j b (omega arith))
+
+  -- what stands before a place, and from there on
+  pub take-sets : (l : List A) (i : ℕ) (vs : List A) (n : ℕ) → n ≤ i → take n (sets l i vs) ≡ take n l
+  take-sets l i [] n h = refl
+  take-sets l i (x ∷ vs) n h = take-sets (set l i x) (suc i) vs n (omega arith) ∙ take-set-le n l i x h
+
+  pub drop-sets : (l : List A) (i j : ℕ) (vs : List A) → drop i (sets l (i + j) vs) ≡ sets (drop i l) j vs
+  drop-sets l i j [] = refl
+  drop-sets l i j (x ∷ vs) =
+      ap (λ (k : ℕ). drop i (sets (set l (i + j) x) k vs)) (sym (add-suc i j))
+      ∙ drop-sets (set l (i + j) x) i (suc j) vs
+      ∙ ap (λ (m : List A). sets m (suc j) vs) (drop-set-add i l j x)
 
   -- a block over one that is no longer
   pub sets-over : (l : List A) (i : ℕ) (a b : List A) → length a ≤ length b → sets (sets l i a) i b ≡ sets l i b

@@ -4,3 +4,4 @@ pub mod Runs
 pub mod Blocks
 pub mod Literals
 pub mod State
+pub mod Witness

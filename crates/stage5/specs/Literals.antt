@@ -1,16 +1,16 @@
 -- A literal's bits as a part of the image's bits, and bits written behind others.
-use mathlib.Core.Path.{_≡_, refl, sym, ap, _∙_}
+use mathlib.Core.Path.{_≡_, sym, ap, _∙_}
 use Prim.Native.Nat.{_≤_, _<_, min}
 use native.Mathlib.Nat.{zero-add, add-zero, add-suc, suc-add}
 use native.Mathlib.Omega.{arith}
 use lib.Seq.{sets}
 use borrow.Author.Tests.{leb-true, leb-false}
-use Rattle.def_numbers.specs.Prelude.{ℕ, zero, suc, _+_, _*_, _-_, _^_, some, List, [], _∷_, _++_, length, take, drop, leb, pos}
+use Rattle.def_numbers.specs.Prelude.{ℕ, zero, suc, _+_, _-_, _^_, some, List, [], _∷_, _++_, length, take, drop, leb, pos}
 use Rattle.def_numbers.specs.Basics.{tab}
-use Rattle.def_image.specs.Image.{bytesFor, bitsAt}
+use Rattle.def_image.specs.Image.{bytesFor}
 use Rattle.def_image.specs.Tree.{packed}
 use Rattle.def_stages.specs.Ranges.{Usbr, val}
-use Rattle.def_stages.specs.Component.{Component, ComponentType, literal, variable, filler}
+use Rattle.def_stages.specs.Component.{ComponentType, literal, variable, filler}
 use Rattle.laws.specs.Tests.{by-test}
 use Rattle.prepared.specs.Bits as Prepared
 use Rattle.component.specs.declared.places.Place.{Place}
@@ -72,4 +72,4 @@ span-of place b from to p q l = record { order = omega arith; last = omega arith
 abbrev pub AppendIs : ℕ → ℕ → List ℕ → ℕ → ℕ → List ℕ → List ℕ → Type 0
 AppendIs at k s from n before after =
     (base bits : List ℕ) → Prepared.Bits bits → length bits ≡ k → before ≡ sets base at (packed bits) → at + bytesFor (k + n) ≤ length base
-    → 8 * (at + bytesFor (k + n)) < 2 ^ 32 → from + n < 2 ^ 64 → after ≡ sets base at (packed (bits ++ bitsFrom s from n))
+    → bytesFor (k + n) < 2 ^ 32 → from + n < 2 ^ 64 → after ≡ sets base at (packed (bits ++ bitsFrom s from n))

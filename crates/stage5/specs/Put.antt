@@ -23,11 +23,11 @@ putAll area w ms = sets (sets area (w .at) (componentsBytes (w .offset) ms)) (w 
 abbrev pub writtenTo : Writing → List (Placed Component) → Writing
 writtenTo w ms = record { at = w .at + sizes .component * length ms; literals = w .literals; offset = w .offset + length (literalsOf ms) }
 
--- the blocks end before the literal block, the literal block before the area, and bits have places of 32 bits
+-- the blocks end before the literal block, and the literal block before the area
 pub record Room (area : List ℕ) (w : Writing) (ms : List (Placed Component)) : Type 0 where
   pub blocks : w .at + sizes .component * length ms ≤ w .literals
   pub literal-block : w .literals + w .offset + length (literalsOf ms) ≤ length area
-  pub offsets : 8 * (w .literals + w .offset + length (literalsOf ms)) < 2 ^ 32
+  pub offsets : w .offset + length (literalsOf ms) < 2 ^ 32
 
 -- Concatenation i, of n components from a cursor that stages 1 and 2 read as cs: where there is room for the merged components, they
 -- stand in the area afterwards, and r is the place after them.

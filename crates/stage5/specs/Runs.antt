@@ -1,7 +1,7 @@
 -- Merging from left to right, as the code walks: with a run of static literals that is open, or without one.
 use mathlib.Core.Path.{_≡_, refl, sym, ap, _∙_}
 use mathlib.Core.List.{append-assoc}
-use Rattle.def_numbers.specs.Prelude.{ℕ, Bool, true, false, Option, none, some, List, [], _∷_, _++_}
+use Rattle.def_numbers.specs.Prelude.{ℕ, true, false, Option, none, some, List, [], _∷_, _++_}
 use Rattle.def_image.specs.Image.{Placed}
 use Rattle.def_stages.specs.Component.{Component}
 use Rattle.def_stages.specs.Concatenation.{isStaticLiteral, bitsOf, fixedLiteral, mergeOnto, merge}

@@ -2,12 +2,13 @@
 use mathlib.Core.Path.{_≡_}
 use Prim.Native.Nat.{_≤_, _<_}
 use lib.Seq.{sets}
-use Rattle.def_numbers.specs.Prelude.{ℕ, _+_, _-_, _*_, _^_, Bool, true, false, none, some, List, [], _∷_, length, drop}
+use Rattle.def_numbers.specs.Prelude.{ℕ, _+_, _-_, _^_, Bool, true, false, none, some, List, _∷_, length, drop}
 use Rattle.def_numbers.specs.Basics.{ok}
-use Rattle.def_image.specs.Image.{Placed, bytesFor}
+use Rattle.def_image.specs.Image.{Placed}
 use Rattle.def_image.specs.Tree.{packed}
 use Rattle.def_stages.specs.Component.{Component}
-use Rattle.def_stages.specs.Concatenation.{bitsOf, merge}
+use Rattle.def_stages.specs.Concatenation.{bitsOf}
+use Rattle.def_run.specs.Answer.{componentBytes}
 use Rattle.prepared.specs.Bits as Prepared
 use Rattle.answer_fits.specs.Fixed.{AllFixed}
 use Rattle.usb.specs.declared.Usbr.{Usbr}
@@ -40,13 +41,14 @@ LongerIs image at b s r before after =
     (base : List ℕ) (o : Run) (d : Placed Component) → Holds base before s o → Prepared.Bits (bitsOf (d .value)) → b .to < 2 ^ 32
     → bitsOf (d .value) ≡ bitsFrom (drop at image) (b .from) (b .to - b .from)
     → s .w .literals + s .w .offset + length (packed (longer o d .value)) ≤ length base
-    → 8 * (s .w .literals + s .w .offset + length (packed (longer o d .value))) < 2 ^ 32
+    → length (packed (longer o d .value)) < 2 ^ 32
     → Holds base after r (some (longer o d)) × (r .w ≡ s .w)
 
--- a component whose bits stand in the literal block gets its own block
+-- a component whose bits stand in the literal block gets its own block, that of a component of this kind and this range
 abbrev pub FinishIs : ℕ → Kind → Usbr → ℕ → Writing → Writing → List ℕ → List ℕ → Type 0
 FinishIs at kind range count w r before after =
-    (image : List ℕ) (text : ℕ) (c : Component) → HasKind image text kind (c .c-type) → c .range ≡ usbrOf image text range → length (bitsOf c) ≡ count
+    (image : List ℕ) (text : ℕ) (k c : Component) → HasKind image text kind (k .c-type) → k .range ≡ usbrOf image text range
+    → componentBytes (w .offset) (record { base = at; value = k }) ≡ componentBytes (w .offset) (record { base = at; value = c }) → length (bitsOf c) ≡ count
     → (base : List ℕ) (ms : List (Placed Component)) → before ≡ sets base (w .literals + w .offset) (packed (bitsOf c))
     → Room base w (record { base = at; value = c } ∷ ms)
     → (after ≡ putOne base w (record { base = at; value = c })) × (r ≡ writtenOne w (record { base = at; value = c }))
@@ -68,7 +70,7 @@ OtherIs d s r before after =
     (base : List ℕ) (o : Run) (ms : List (Placed Component)) → Holds base before s o → Prepared.Bits (bitsOf (d .value))
     → Room base (s .w) (closed o (d ∷ ms)) → Closes base (s .w) (closed o (d ∷ ms)) ms after r
 
--- what is to come of components ms from there is what is to come of cs from here
+-- what is to be written of ms from one place is what is to be written of cs, behind a run, from the place that is reached
 pub record Goes (base : List ℕ) (w : Writing) (ms cs : List (Placed Component)) (after : List ℕ) (r : Merging) : Type 0 where
   pub area : List ℕ
   pub run : Run
@@ -84,7 +86,7 @@ StepIs d s r before after =
 abbrev pub TurnIs : List ℕ → Bool → Cursor → Merging → Merging → List ℕ → List ℕ → Type 0
 TurnIs image scanned c s r before after = (d : Placed Component) → readAt image scanned c ≡ ok d → StepIs d s r before after
 
--- component j of concatenation i is next, m components are left
+-- component j of concatenation i is next, at a cursor, and m components are left: what is to be written of them gives the whole
 pub record Midway (image : List ℕ) (i j : ℕ) (c : Cursor) (m : ℕ) (base : List ℕ) (w : Writing) (ms : List (Placed Component)) (after : List ℕ) (r : Merging) : Type 0 where
   pub left : List (Placed Component)
   pub read : readIn image i j c m ≡ ok left

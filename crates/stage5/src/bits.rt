@@ -13,27 +13,34 @@ pub fn bytes_for(bits: usize) -> usize
 }
 
 // Whether sums of these stay far within 64 bits.
-fn near(at: usize, k: usize, n: usize) -> bool
-    ensures { λ b. ⌜ b ≡ (ltb at (2 ^ 32) && (ltb k (2 ^ 32) && ltb n (2 ^ 32))) ⌝ }
+fn near(k: usize, n: usize) -> bool
+    ensures { λ b. ⌜ b ≡ (ltb k (2 ^ 36) && ltb n (2 ^ 36)) ⌝ }
 {
-    if 4294967296 <= at {
+    if 0x10_0000_0000 <= k {
         return false;
     }
-    if 4294967296 <= k {
-        return false;
-    }
-    n < 4294967296
+    n < 0x10_0000_0000
 }
 
-// n bits of s behind the k bits that stand packed at byte `at`. The bytes that come new are zeros first.
-pub fn append_bits(area: &mut [u8], at: usize, k: usize, s: &[u8], from: usize, n: usize)
-    ensures { λ _. ⌜ AppendIs at k (now (s .entry)) from n (now (area .entry)) (now (area .exit)) ⌝ }
+// n bits of s behind the k bits that stand packed at the area's front. The bytes that come new are zeros first.
+fn append_front(area: &mut [u8], k: usize, s: &[u8], from: usize, n: usize)
+    ensures { λ _. ⌜ AppendIs 0 k (now (s .entry)) from n (now (area .entry)) (now (area .exit)) ⌝ }
 {
-    if !near(at, k, n) {
+    if !near(k, n) {
         return;
     }
     let had = bytes_for(k);
     let has = bytes_for(k + n);
-    literal_bits::zero_bytes(area, at + had, has - had);
-    literal_bits::put_bits(area, 8 * at + k, s, from, n);
+    literal_bits::zero_bytes(area, had, has - had);
+    literal_bits::put_bits(area, k, s, from, n);
+}
+
+// The same at byte `at`: places of bits are counted from there, so that none can pass 64 bits.
+pub fn append_bits(area: &mut [u8], at: usize, k: usize, s: &[u8], from: usize, n: usize)
+    ensures { λ _. ⌜ AppendIs at k (now (s .entry)) from n (now (area .entry)) (now (area .exit)) ⌝ }
+{
+    if area.len() < at {
+        return;
+    }
+    append_front(&mut area[at..], k, s, from, n);
 }

@@ -8,9 +8,7 @@ use merging::Merging;
 use merging::close;
 use merging::turn;
 use tree::Cursor;
-ghost use mathlib.Core.Path.{_≡_};
-ghost use mathlib.Core.Bool.{_&&_};
-ghost use lib.Dec.{eqb};
+use tree::is_last;
 ghost use Rattle.stage5.specs.Put.{PutIs};
 
 // Where the next component's block stands, where the literal block begins, and how many of its bytes are written.
@@ -18,16 +16,6 @@ pub struct Writing {
     pub at: usize,
     pub literals: usize,
     pub offset: usize,
-}
-
-// The most significant of concatenation 0 is scanned for a starting value.
-fn is_last(i: u32, m: u32) -> bool
-    ensures { λ b. ⌜ b ≡ (eqb i 0 && eqb m 0) ⌝ }
-{
-    if i == 0 {
-        return m == 0;
-    }
-    false
 }
 
 // Concatenation i, of n components from a cursor.

@@ -1,4 +1,5 @@
-// One component after the other: the bits of a run of static literals are written as they come, its block when it ends.
+// One component after the other: the bits of a run of static literals are written as they come, its block when it ends. Nothing is
+// asked of a caller: sums of places wrap, and where there is room for the answer none does.
 use super::Writing;
 use super::bits::append_bits;
 use super::bits::bytes_for;
@@ -41,7 +42,10 @@ fn fixed_range(bits: usize) -> Usbr
     };
     let stop = Usb {
         s: Part { at: 0, len: 0 },
-        x: I128 { high: 0, low: bits as u64 },
+        x: I128 {
+            high: 0,
+            low: bits as u64,
+        },
     };
     Usbr {
         start,
@@ -71,7 +75,14 @@ fn lengthen(area: &mut [u8], image: &[u8], literal: usize, b: Bits, s: Merging) 
 fn finish(area: &mut [u8], base: u32, kind: Kind, range: Usbr, bits: usize, w: Writing) -> Writing
     ensures { λ r. ⌜ FinishIs base kind range bits w r (now (area .entry)) (now (area .exit)) ⌝ }
 {
-    answer::put_component(area, w.at, base, (w.offset % 4294967296) as u32, kind, range);
+    answer::put_component(
+        area,
+        w.at,
+        base,
+        (w.offset % 4294967296) as u32,
+        kind,
+        range,
+    );
     Writing {
         at: std::num::wrapping_add_usize(w.at, 72),
         literals: w.literals,
@@ -79,7 +90,7 @@ fn finish(area: &mut [u8], base: u32, kind: Kind, range: Usbr, bits: usize, w: W
     }
 }
 
-// An open run becomes a literal.
+// An open run becomes a literal. Its block shows the lowest 32 bits of the width.
 pub fn close(area: &mut [u8], s: Merging) -> Merging
     ensures { λ r. ⌜ CloseIs s r (now (area .entry)) (now (area .exit)) ⌝ }
 {
@@ -114,6 +125,8 @@ fn put_other(area: &mut [u8], image: &[u8], spot: Spot, x: Component, s: Merging
     }
 }
 
+// "Every maximal run of literals with static ranges becomes one literal from 0 to its width, the sum of the run's widths, the lowest
+// component's bits lowest."
 fn step(area: &mut [u8], image: &[u8], spot: Spot, x: Component, s: Merging) -> Merging
     ensures { λ r. ⌜ StepIs (record { base = spot .base; value = componentOf (now (image .entry)) (spot .place) x }) s r (now (area .entry)) (now (area .exit)) ⌝ }
 {

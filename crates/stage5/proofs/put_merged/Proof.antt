@@ -1,6 +1,6 @@
 -- The loop's invariant: what is still to be written, from the present state, gives the whole.
 use mathlib.Core.Path.{_≡_, refl, _∙_}
-use Prim.Native.Nat.{_≤_, _<_, _-_, _+_}
+use Prim.Native.Nat.{_≤_, _<_, _-_}
 use native.Mathlib.Omega.{arith}
 use borrow.Author.Needs.{needs}
 use Rattle.def_numbers.specs.Prelude.{List, length}

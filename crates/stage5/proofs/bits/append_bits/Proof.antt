@@ -1,69 +1,21 @@
-use Prim.Native.Nat.{_+_, _*_, _<_, _^_}
 use native.Mathlib.Omega.{arith}
 use borrow.Author.Needs.{needs}
-use Rattle.stage5.proofs.Appended.{near-is, far-off, appended}
+use Rattle.stage5.proofs.Appended.{out-of-area, from-place}
 use Rattle.stage5.proofs.bits.append_bits.Statement.{statement}
 use Rattle.stage5.proofs.bits.append_bits.Tie as tie
 
 returns : tie.Need-returns
 returns c =
-    let a = c .before .before .before .before .args in
-    far-off (a .at) (a .k) (a .s .now) (a .from) (a .n) (c .before .near .result) (a .area .now) (c .before .near .ensures) (c .if1 .taken)
-
-add-bytes-for : tie.Need-add-bytes-for
-add-bytes-for c =
-    let a = c .before .before .before .before .before .args in
-    let n = near-is (a .at) (a .k) (a .n) (c .before .before .near .result) (c .before .before .near .ensures) (c .before .if1 .left) in
-    omega (arith, n .had, n .new)
-
-add-zero-bytes : tie.Need-add-zero-bytes
-add-zero-bytes c =
-    let b = c .before .before .before .before in
-    let a = b .before .before .before .args in
-    let n = near-is (a .at) (a .k) (a .n) (b .near .result) (b .near .ensures) (c .before .before .before .if1 .left) in
-    omega (arith, n .place, n .had, c .before .before .bytes-for .ensures .1)
-
-sub-zero-bytes : tie.Need-sub-zero-bytes
-sub-zero-bytes c = omega (arith, c .before .before .bytes-for .ensures .0, c .before .bytes-for2 .ensures .0)
-
-mul-put-bits : tie.Need-mul-put-bits
-mul-put-bits c =
-    let b = c .before .before .before .before .before .before .before .before in
-    let a = b .before .before .before .args in
-    let n = near-is (a .at) (a .k) (a .n) (b .near .result) (b .near .ensures) (c .before .before .before .before .before .before .before .if1 .left) in
-    omega (arith, n .place)
-
-add-put-bits : tie.Need-add-put-bits
-add-put-bits c =
-    let b = c .before .before .before .before .before .before .before .before in
-    let a = b .before .before .before .args in
-    let n = near-is (a .at) (a .k) (a .n) (b .near .result) (b .near .ensures) (c .before .before .before .before .before .before .before .if1 .left) in
-    omega (arith, n .place, n .had)
+    let a = c .before .before .before .args in
+    out-of-area (a .area .now) (a .at) (a .k) (a .s .now) (a .from) (a .n) (omega arith)
 
 returns-2 : tie.Need-returns-2
 returns-2 c =
-    let p = c .before .before in
-    let z = p .before .before .before .before in
-    let f = z .before .before in
-    let a = f .before .before .before .before .before .before .args in
-    appended (a .area .now) _ _ (a .at) (a .k) (a .s .now) (a .from) (a .n) (f .before .bytes-for .result) (f .bytes-for2 .result)
-    (f .before .bytes-for .ensures .0) (f .bytes-for2 .ensures .0) (z .zero-bytes .ensures) (p .put-bits .ensures)
-    (λ q. p .before .before .slice-known2 .given q .fits)
+    let f = c .before .before in
+    let a = f .before .before .before .before .before .args in
+    from-place (a .area .now) _ (a .at) (a .k) (a .s .now) (a .from) (a .n) (omega arith) (f .append-front .ensures)
 
 pub append-bits-spec : {M : Type 1} → statement M
 append-bits-spec =
     tie.close
-    (tie.spec
-    (λ c κs. search needs)
-    returns
-    (λ c κs. search needs)
-    add-bytes-for
-    (λ c κs. search needs)
-    add-zero-bytes
-    sub-zero-bytes
-    (λ c κs. search needs)
-    mul-put-bits
-    add-put-bits
-    (λ c κs. search needs)
-    (λ c. search needs)
-    returns-2)
+    (tie.spec returns (λ c. search needs) (λ c. search needs) (λ c. search needs) (λ c κs. search needs) (λ c. search needs) returns-2)

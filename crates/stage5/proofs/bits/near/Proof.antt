@@ -1,16 +1,13 @@
 use native.Mathlib.Omega.{arith}
-use Rattle.stage5.proofs.Appended.{far-first, far-second, near-third}
+use Rattle.stage5.proofs.Appended.{far-first, near-second}
 use Rattle.stage5.proofs.bits.near.Statement.{statement}
 use Rattle.stage5.proofs.bits.near.Tie as tie
 
 returns : tie.Need-returns
-returns c = let a = c .before .args in far-first (a .at) (a .k) (a .n) (omega arith)
+returns c = let a = c .before .args in far-first (a .k) (a .n) (omega arith)
 
 returns-2 : tie.Need-returns-2
-returns-2 c = let a = c .before .before .args in far-second (a .at) (a .k) (a .n) (omega arith) (omega arith)
-
-returns-3 : tie.Need-returns-3
-returns-3 c = let a = c .before .before .args in near-third (a .at) (a .k) (a .n) (omega arith) (omega arith)
+returns-2 c = let a = c .before .args in near-second (a .k) (a .n) (omega arith)
 
 pub near-spec : {M : Type 1} → statement M
-near-spec = tie.close (tie.spec returns returns-2 returns-3)
+near-spec = tie.close (tie.spec returns returns-2)

@@ -1,4 +1,3 @@
-use native.Mathlib.Omega.{arith}
 use borrow.Author.Needs.{needs}
 use Rattle.stage5.proofs.Closing.{lengthened}
 use Rattle.stage5.proofs.merging.lengthen.Statement.{statement}
@@ -14,7 +13,7 @@ returns c =
     let l = w .before .before .before .before in
     let a = l .before .before .before .args in
     lengthened (a .image .now) (a .area .now) _ (a .literal) (a .b) (a .s) (l .least .result) (w .wrapping-add-usize .result)
-    (c .wrapping-add-usize2 .result) (l .before .before .before .pre) (l .least .ensures) (w .wrapping-add-usize .ensures) (p .append-bits .ensures) (c .wrapping-add-usize2 .ensures)
+    (c .wrapping-add-usize2 .result) (l .before .before .before .good .0 .0) (l .before .before .before .pre) (l .least .ensures) (w .wrapping-add-usize .ensures) (p .append-bits .ensures) (c .wrapping-add-usize2 .ensures)
 
 pub lengthen-spec : {M : Type 1} → statement M
 lengthen-spec =
