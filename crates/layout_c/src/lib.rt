@@ -1,10 +1,11 @@
 // The run for C and Rust (include/layout.h, bindings/).
 use errors::Refusal;
 use listing::Outcome;
+use listing::Written;
 ghost use mathlib.Core.Path.{_≡_};
 ghost use Prim.Native.Nat.{_<_, _^_};
 ghost use Rattle.def_numbers.specs.Basics.{refused};
-ghost use Rattle.layout_c.specs.Code.{codeOf, codedOn};
+ghost use Rattle.layout_c.specs.Code.{codeOf, codedOn, listedIn};
 
 // A refusal as one number.
 fn code(r: Refusal) -> u64
@@ -22,5 +23,17 @@ pub extern "C" fn layout_run(image: &[u8], mode: u32, area: &mut [u8]) -> u64
     match layout_run::run(image, mode, area) {
         Outcome::Accepted(n) => n as u64,
         Outcome::Refused(r) => code(r),
+    }
+}
+
+// The text that the program `layout` prints for an input, one mode byte and an image: its length, or 0 where it is longer than the
+// buffer, which then has the first part of it.
+#[no_mangle]
+pub extern "C" fn layout_listing(input: &[u8], out: &mut [u8]) -> usize
+    ensures { λ n. ⌜ (n, now (out .exit)) ≡ listedIn (now (input .entry)) (now (out .entry)) ⌝ }
+{
+    match layout_answer::answer(input, out) {
+        Written::Whole(n) => n,
+        Written::Cut => 0,
     }
 }

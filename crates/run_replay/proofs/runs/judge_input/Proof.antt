@@ -1,8 +1,8 @@
--- `run_replay::judge_input` is safe: an input that is not empty has a mode byte. Assumes nothing.
+-- `run_replay::runs::judge_input` is safe: an input that is not empty has a mode byte. Assumes nothing.
 use borrow.Author.Needs.{needs}
 use native.Mathlib.Omega.{arith}
-use Rattle.run_replay.proofs.judge_input.Statement.{statement}
-use Rattle.run_replay.proofs.judge_input.Tie as tie
+use Rattle.run_replay.proofs.runs.judge_input.Statement.{statement}
+use Rattle.run_replay.proofs.runs.judge_input.Tie as tie
 
 returns : tie.Need-returns
 returns c = search needs

@@ -1,8 +1,8 @@
--- `run_replay::print_counts` is safe and ends: each number has its count. Assumes nothing.
+-- `run_replay::counts::print_counts` is safe and ends: each number has its count. Assumes nothing.
 use borrow.Author.Needs.{needs}
 use Prim.Native.Nat.{_-_}
-use Rattle.run_replay.proofs.print_counts.Statement.{statement}
-use Rattle.run_replay.proofs.print_counts.Tie as tie
+use Rattle.run_replay.proofs.counts.print_counts.Statement.{statement}
+use Rattle.run_replay.proofs.counts.print_counts.Tie as tie
 
 abbrev Inv-loop : tie.InvT-loop
 Inv-loop counts number₀ t4 t5 number = Unit

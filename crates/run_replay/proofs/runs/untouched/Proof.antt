@@ -1,9 +1,9 @@
--- `run_replay::untouched` is safe and ends: the measure is what is left of the area. Assumes nothing.
+-- `run_replay::runs::untouched` is safe and ends: the measure is what is left of the area. Assumes nothing.
 use borrow.Author.Needs.{needs}
 use lib.ListN.{length}
 use Prim.Native.Nat.{_-_}
-use Rattle.run_replay.proofs.untouched.Statement.{statement}
-use Rattle.run_replay.proofs.untouched.Tie as tie
+use Rattle.run_replay.proofs.runs.untouched.Statement.{statement}
+use Rattle.run_replay.proofs.runs.untouched.Tie as tie
 
 abbrev Inv-loop : tie.InvT-loop
 Inv-loop area from i₀ i = Unit
