@@ -1,0 +1,6 @@
+-- Laws that the functions' proofs cite.
+pub mod Founds
+pub mod Ranges
+pub mod Tests
+pub mod Tokens
+pub mod Types

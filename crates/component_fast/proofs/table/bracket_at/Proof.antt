@@ -1,0 +1,19 @@
+use Rattle.component_fast.proofs.Tests.{bracket-kind, bracket-skip}
+use borrow.Author.Needs.{needs}
+use Rattle.component_fast.proofs.table.bracket_at.Statement.{statement}
+use Rattle.component_fast.proofs.table.bracket_at.Tie as tie
+
+returns : tie.Need-returns
+returns c =
+    let a = c .before .before .before .args in
+    let k = c .before .u32-at in
+    bracket-kind (a .image .now) (a .e) (a .skip) (k .result) (k .ensures) (c .if1 .taken)
+
+returns-2 : tie.Need-returns-2
+returns-2 c =
+    let a = c .before .before .before .before .args in
+    let k = c .before .before .u32-at in
+    bracket-skip (a .image .now) (a .e) (a .skip) (k .result) (k .ensures) (c .u32-at2 .result) (c .before .if1 .left) (c .u32-at2 .ensures)
+
+pub bracket-at-spec : {M : Type 1} → statement M
+bracket-at-spec = tie.close (tie.spec (λ c κs. search needs) returns (λ c. search needs) (λ c κs. search needs) returns-2)

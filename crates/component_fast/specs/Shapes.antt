@@ -1,0 +1,159 @@
+-- Stage 1 of the common shapes of a component: what the definition gives, in terms of their items.
+use mathlib.Core.Path.{_≡_, refl, ap, _∙_}
+use Rattle.def_numbers.specs.Prelude.{ℕ, _+_, Bool, true, false, Option, none, some, List, [], _∷_, _++_, take, drop, eqb, pos}
+use Rattle.def_numbers.specs.Basics.{Result, ok, isEmpty}
+use Rattle.def_numbers.specs.Numbers.{char}
+use Rattle.def_image.specs.Image.{Unparsed, kinds}
+use Rattle.def_stages.specs.Text.{Item, items, isGroup, isToken, partOf}
+use Rattle.def_stages.specs.Ranges.{Usb, Usbr, val, text, unbounded, Scan, scan, scanFrom, parseStart, parseEnd, parseRange, parseUsb, readBound, cutBound, cutLast, cutPair, singleBit}
+use Rattle.def_stages.specs.Component.{Component, Split, splitRange, splitColon, parseComponent, typed, stage1Component}
+use Rattle.component.specs.Places.{middleOf}
+
+-- a token that is none of the single characters which a component is cut at
+pub record Plain (i : Item) : Type 0 where
+  pub group : isGroup i ≡ false
+  pub colon : isToken (char .colon) i ≡ false
+  pub dot : isToken (char .dot) i ≡ false
+  pub plus : isToken (char .plus) i ≡ false
+  pub minus : isToken (char .minus) i ≡ false
+  pub equals : isToken (char .equals) i ≡ false
+
+-- a bound that is one plain token, or is not there
+abbrev pub PlainIn : Option Item → Type 0
+PlainIn none = Unit
+PlainIn (some i) = Plain i
+
+abbrev pub listOf : Option Item → List Item
+listOf none = []
+listOf (some i) = i ∷ []
+
+-- "An empty start is 0, an empty end is none."
+abbrev pub startOf : Option Item → Usb
+startOf none = val (pos 0)
+startOf (some i) = text (partOf (i ∷ [])) (pos 0)
+
+abbrev pub endOf : Option Item → Option Usb
+endOf none = none
+endOf (some i) = some (text (partOf (i ∷ [])) (pos 0))
+
+abbrev pub rangeOf : Option Item → Option Item → Usbr
+rangeOf s e = record { start = startOf s; «end» = endOf e }
+
+-- ---- what stands in the bracket
+
+-- "No cut: kept as written."
+cut-is : (i : Item) → Plain i → cutBound (i ∷ []) ≡ none
+unfolding cutLast cutPair
+cut-is i p = rw (p .plus, p .minus)
+
+bound-is : (i : Item) → Plain i → readBound (i ∷ []) ≡ ok (text (partOf (i ∷ [])) (pos 0))
+unfolding readBound
+bound-is i p = rw (cut-is i p, readBound)
+
+usb-is : (i : Item) → Plain i → parseUsb (i ∷ []) ≡ ok (text (partOf (i ∷ [])) (pos 0))
+unfolding parseUsb
+usb-is i p = rw (p .group, parseUsb) (bound-is i p)
+
+-- what is found by the scan: the dots from lo up to hi
+abbrev foundAt : ℕ → ℕ → Scan
+foundAt lo hi = record { dots = 0; found = some (lo, hi); inclusive = false }
+
+abbrev lo : Option Item → ℕ
+lo none = 0
+lo (some a) = 1
+
+scan-is : (s e : Option Item) (d f : Item) → PlainIn s → PlainIn e → isToken (char .dot) d ≡ true → isToken (char .dot) f ≡ true
+    → scan (listOf s ++ (d ∷ f ∷ listOf e)) ≡ ok (foundAt (lo s) (lo s + 2))
+unfolding scanFrom
+scan-is none none d f p q x y = rw (x, y)
+scan-is (some a) none d f p q x y = rw (p .dot, x, y)
+scan-is none (some b) d f p q x y = rw (x, y, q .dot, q .equals)
+scan-is (some a) (some b) d f p q x y = rw (p .dot, x, y, q .dot, q .equals)
+
+start-is : (s : Option Item) → PlainIn s → parseStart (listOf s) ≡ ok (startOf s)
+start-is none p = refl
+start-is (some a) p = usb-is a p
+
+end-is : (e : Option Item) → PlainIn e → parseEnd false (listOf e) ≡ ok (endOf e)
+end-is none p = refl
+end-is (some b) p = rw (usb-is b p)
+
+-- the range of dots that were found
+parsed-is : (is : List Item) (m n : ℕ) (s : Usb) (e : Option Usb) → isEmpty is ≡ false → scan is ≡ ok (foundAt m n) → parseStart (take m is) ≡ ok s
+    → parseEnd false (drop n is) ≡ ok e → parseRange is ≡ ok (some (record { start = s; «end» = e }))
+unfolding parseRange
+parsed-is is m n s e h p q r = rw (h, p, q, r)
+
+-- `..`, `a ..`, `.. b`, `a .. b`
+pub dotted-is : (s e : Option Item) (d f : Item) → PlainIn s → PlainIn e → isToken (char .dot) d ≡ true → isToken (char .dot) f ≡ true
+    → parseRange (listOf s ++ (d ∷ f ∷ listOf e)) ≡ ok (some (rangeOf s e))
+dotted-is none e d f p q x y = parsed-is _ 0 2 (startOf none) (endOf e) refl (scan-is none e d f p q x y) refl (end-is e q)
+dotted-is (some a) e d f p q x y =
+    parsed-is _ 1 3 (startOf (some a)) (endOf e) refl (scan-is (some a) e d f p q x y) (start-is (some a) p) (end-is e q)
+
+-- `a`
+pub undotted-is : (a : Item) → Plain a → parseRange (a ∷ []) ≡ ok none
+unfolding parseRange scanFrom
+undotted-is a p = rw (p .dot)
+
+-- ---- the component
+
+abbrev stageOf : Bool → List Item → List ℕ → Result Component
+stageOf scanned is bits = parseComponent (middleOf scanned ((splitRange is) .mid)) ((splitRange is) .range) bits
+
+stage-of : (scanned : Bool) (u : Unparsed) → stage1Component scanned u ≡ stageOf scanned (items 0 (u .recs)) (u .bits)
+stage-of true u = refl
+stage-of false u = refl
+
+-- what a range in the bracket gives
+abbrev pub inBracket : List Item → Option Usbr → Usbr
+inBracket is none = singleBit is
+inBracket is (some r) = r
+
+-- what a split says of the component
+split-stage : (scanned : Bool) (is : List Item) (bits : List ℕ) (s : Split) (mid : List Item) → splitRange is ≡ s → middleOf scanned (s .mid) ≡ mid
+    → stageOf scanned is bits ≡ parseComponent mid (s .range) bits
+split-stage scanned is bits s mid h m =
+    ap (λ (x : Split). parseComponent (middleOf scanned (x .mid)) (x .range) bits) h ∙ ap (λ l. parseComponent l (s .range) bits) m
+
+middle-is : (scanned : Bool) (w : Item) → Plain w → middleOf scanned (w ∷ []) ≡ w ∷ []
+unfolding splitColon
+middle-is true w p = rw (p .colon, middleOf)
+middle-is false w p = refl
+
+split-word : (w : Item) → eqb (w .kind) (kinds .bracket) ≡ false → splitRange (w ∷ []) ≡ record { mid = w ∷ []; range = none }
+unfolding splitRange
+split-word w k = rw k
+
+split-bracket : (w g : Item) → eqb (g .kind) (kinds .bracket) ≡ true
+    → splitRange (w ∷ g ∷ []) ≡ record { mid = w ∷ []; range = some (items (g .inside-at) (g .inside)) }
+unfolding splitRange
+split-bracket w g k = rw k
+
+parsed-word : (w : Item) (bits : List ℕ) → Plain w → parseComponent (w ∷ []) none bits ≡ typed (w ∷ []) bits unbounded
+unfolding parseComponent
+parsed-word w bits p = rw (undotted-is w p)
+
+parsed-bracket : (w : Item) (is : List Item) (bits : List ℕ) (o : Option Usbr) → parseRange is ≡ ok o
+    → parseComponent (w ∷ []) (some is) bits ≡ typed (w ∷ []) bits (inBracket is o)
+unfolding parseComponent
+parsed-bracket w is bits none q = rw q
+parsed-bracket w is bits (some r) q = rw q
+
+-- `w`
+pub word-is : (scanned : Bool) (u : Unparsed) (w : Item) → items 0 (u .recs) ≡ w ∷ [] → Plain w → eqb (w .kind) (kinds .bracket) ≡ false
+    → stage1Component scanned u ≡ typed (w ∷ []) (u .bits) unbounded
+word-is scanned u w h p k = stage-of scanned u ∙ ap (λ is. stageOf scanned is (u .bits)) h
+    ∙ split-stage scanned (w ∷ []) (u .bits) _ (w ∷ []) (split-word w k) (middle-is scanned w p)
+    ∙ parsed-word w (u .bits) p
+
+-- `w [ .. ]`
+pub bracket-is : (scanned : Bool) (u : Unparsed) (w g : Item) (is : List Item) (o : Option Usbr) → items 0 (u .recs) ≡ w ∷ g ∷ [] → Plain w
+    → eqb (g .kind) (kinds .bracket) ≡ true → items (g .inside-at) (g .inside) ≡ is → parseRange is ≡ ok o
+    → stage1Component scanned u ≡ typed (w ∷ []) (u .bits) (inBracket is o)
+bracket-is scanned u w g is o h p k i q =
+    stage-of scanned u
+    ∙ ap (λ l. stageOf scanned l (u .bits)) h
+    ∙ split-stage scanned (w ∷ g ∷ []) (u .bits) _ (w ∷ []) (split-bracket w g k) (middle-is scanned w p)
+    ∙ ap (λ l. parseComponent (w ∷ []) (some l) (u .bits)) i
+    ∙ parsed-bracket w is (u .bits) o q

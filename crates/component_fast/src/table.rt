@@ -1,0 +1,116 @@
+// Records and tokens of the record table. A record is named by the byte of the image where its entry begins.
+ghost use mathlib.Core.Path.{_≡_};
+ghost use mathlib.Core.Bool.{_&&_};
+ghost use Prim.Native.Nat.{_+_, _*_, _-_, _^_, _<_};
+ghost use Rattle.def_image.specs.Image.{tables};
+ghost use Rattle.items.specs.Run.{lengthAt};
+ghost use Rattle.component_fast.specs.Table.{lenAt, plainByte, isWord, isDot, dotAt, bracketAt};
+
+// Where the entry of record r stands.
+pub(crate) fn record_place(image: &[u8], r: u32) -> usize
+    ensures { λ p. ⌜ (p ≡ (tables (now (image .entry))) .records + 12 * r) × (p < 2 ^ 38) ⌝ }
+{
+    40
+        + 4 * (token_tree::u32_at(image, 0) as usize)
+        + 8 * (token_tree::u32_at(image, 4) as usize)
+        + 12 * (r as usize)
+}
+
+// The length of the text from start to stop, none where they stand the other way round.
+fn between(start: u32, stop: u32) -> usize
+    ensures { λ r. ⌜ (r ≡ stop - start) × (r < 2 ^ 32) ⌝ }
+{
+    if start <= stop {
+        (stop - start) as usize
+    } else {
+        0
+    }
+}
+
+// The length of a record's text, of a record that is not the last.
+pub(crate) fn length_at(image: &[u8], e: usize) -> usize
+    requires { ⌜ e < 2 ^ 41 ⌝ }
+    ensures { λ n. ⌜ (n ≡ lenAt (now (image .entry)) e) × (n < 2 ^ 32) ⌝ }
+{
+    between(
+        token_tree::u32_at(image, e + 4),
+        token_tree::u32_at(image, e + 16),
+    )
+}
+
+// The length of the text of record r, of any record.
+pub(crate) fn whole_length(image: &[u8], r: u32, e: usize) -> usize
+    requires { ⌜ (e ≡ (tables (now image)) .records + 12 * r) × (e < 2 ^ 38) ⌝ }
+    ensures { λ n. ⌜ n ≡ lengthAt (now (image .entry)) r ⌝ }
+{
+    let start = token_tree::u32_at(image, e + 4);
+    if (r as usize) + 1 == (token_tree::u32_at(image, 8) as usize) {
+        return between(start, token_tree::u32_at(image, 12));
+    }
+    between(start, token_tree::u32_at(image, e + 16))
+}
+
+// A digit, or a byte above every character that a component is cut at.
+fn plain_byte(b: u8) -> bool
+    ensures { λ r. ⌜ r ≡ plainByte b ⌝ }
+{
+    if b'>' <= b {
+        return true;
+    }
+    b'0' <= b && b <= b'9'
+}
+
+// A token of two bytes or more, or of a plain one.
+pub(crate) fn is_word(kind: u32, len: usize, byte: u8) -> bool
+    ensures { λ r. ⌜ r ≡ isWord kind len byte ⌝ }
+{
+    if kind != 0 {
+        return false;
+    }
+    if len == 1 {
+        return plain_byte(byte);
+    }
+    len != 0
+}
+
+fn is_dot(kind: u32, len: usize, byte: u8) -> bool
+    ensures { λ r. ⌜ r ≡ isDot kind len byte ⌝ }
+{
+    if kind != 0 {
+        return false;
+    }
+    len == 1 && byte == b'.'
+}
+
+// Whether the record at e is a dot, its text at a byte of the image.
+pub(crate) fn dot_at(image: &[u8], e: usize, text: usize) -> bool
+    requires { ⌜ e < 2 ^ 41 ⌝ }
+    ensures { λ r. ⌜ r ≡ dotAt (now (image .entry)) e text ⌝ }
+{
+    is_dot(
+        token_tree::u32_at(image, e),
+        length_at(image, e),
+        token_tree::byte_at(image, text),
+    )
+}
+
+pub(crate) fn two_dots(image: &[u8], e: usize, text: usize) -> bool
+    requires { ⌜ (e < 2 ^ 40) × (text < 2 ^ 63) ⌝ }
+    ensures { λ r. ⌜ r ≡ (dotAt (now (image .entry)) e text && dotAt (now (image .entry)) (e + 12) (text + 1)) ⌝ }
+{
+    if !dot_at(image, e, text) {
+        return false;
+    }
+    dot_at(image, e + 12, text + 1)
+}
+
+// Whether the record at e opens a `[` group of that skip.
+pub(crate) fn bracket_at(image: &[u8], e: usize, skip: u32) -> bool
+    requires { ⌜ e < 2 ^ 41 ⌝ }
+    ensures { λ r. ⌜ r ≡ bracketAt (now (image .entry)) e skip ⌝ }
+{
+    if token_tree::u32_at(image, e) != 3 {
+        return false;
+    }
+    token_tree::u32_at(image, e + 8) == skip
+}
