@@ -142,6 +142,33 @@ pub fn literals(count: usize, width: usize) -> Image {
     Image::new(format!("{width:>4} bits"), Tree { concatenations })
 }
 
+/// One variable whose end is a group of so many records.
+pub fn one_bound(records: usize) -> Image {
+    let part = |i: usize| chars(if i.is_multiple_of(2) { "n" } else { "-" });
+    let end = Item::Group(Kind::Parenthesis, (0..records).map(part).collect());
+    let range = vec![chars("."), chars("."), end];
+    let items = vec![chars("a"), Item::Group(Kind::Bracket, range)];
+    let concatenations = vec![vec![Comp {
+        items,
+        ..Comp::default()
+    }]];
+    Image::new(format!("{records:>4} records"), Tree { concatenations })
+}
+
+/// One variable of a text of so many bytes.
+pub fn one_text(bytes: usize) -> Image {
+    let comp = Comp {
+        items: vec![chars(&"a".repeat(bytes))],
+        ..Comp::default()
+    };
+    Image::new(
+        format!("{bytes:>5} bytes"),
+        Tree {
+            concatenations: vec![vec![comp]],
+        },
+    )
+}
+
 /// Groups within groups, as deep as they may be.
 pub fn deepest() -> Image {
     let nest = |depth: usize| format!("{}z{}", "(".repeat(depth), ")".repeat(depth));

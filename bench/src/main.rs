@@ -39,6 +39,14 @@ fn main() {
             grow(&images::literals(16, bits - odd), 2 * bits, "literal byte");
         }
     }
+    println!("\ngrowth over the records of one bound, ours");
+    for records in [8, 64, 512, 2_000] {
+        grow(&images::one_bound(records), records, "record");
+    }
+    println!("\ngrowth over the bytes of one text, ours");
+    for bytes in [16, 256, 4_096, 16_384] {
+        grow(&images::one_text(bytes), bytes, "byte");
+    }
     println!("\nstack of our run, bytes below its caller's frame");
     for image in compared.iter().chain([&images::deepest()]) {
         println!("{}: {}", image.name, stack::used(&[image.call()]));
