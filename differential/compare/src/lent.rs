@@ -73,7 +73,7 @@ pub struct Done<'a> {
 impl Default for Lender {
     fn default() -> Self {
         // of no period that a table of the image or of the answer has
-        let byte = |i: usize| (i * i * 31 + i * 167 + 89 >> 3) as u8;
+        let byte = |i: usize| ((i * i * 31 + i * 167 + 89) >> 3) as u8;
         let pattern: Vec<u8> = (0..LONGEST).map(byte).collect();
         let guarded = || Guarded { bytes: pattern.clone(), middle: 0 };
         Self { image: guarded(), area: guarded(), pattern }
