@@ -2,7 +2,7 @@
 use mathlib.Core.Path.{_≡_, refl, sym, ap, _∙_}
 use mathlib.Core.List.{append-nil}
 use Prim.Native.Nat.{_≤_, _<_}
-use native.Mathlib.Nat.{add-assoc}
+use native.Mathlib.Nat.{add-assoc, add-zero}
 use native.Mathlib.Omega.{arith}
 use Rattle.def_numbers.specs.Prelude.{ℕ, zero, suc, _+_, _*_, _-_, Bool, true, false, _&&_, Option, none, some, List, [], _∷_, _++_, getD, ℤ, pos}
 use Rattle.def_numbers.specs.Basics.{Result, ok}
@@ -23,9 +23,10 @@ use Rattle.items.specs.Run.{itemsAt}
 use Rattle.items.specs.First.{recs-none}
 use Rattle.component_fast.specs.Shapes.{Plain, PlainIn, listOf, endOf, rangeOf, inBracket, dotted-is, undotted-is}
 use Rattle.component_fast.specs.Table.{lenAt, isWord, dotAt, Stands, tokenAt}
-use Rattle.component_fast.specs.Range.{Dots, EndIs, Bracket, RangeIs, fromStart, bitOf}
+use Rattle.component_fast.specs.Range.{Dots, EndIs, HeadIs, Bracket, RangeIs, fromStart, bitOf}
 use Rattle.component_fast.specs.declared.range.End.{End}
 use Rattle.component_fast.specs.declared.range.End.the-variants as E
+use Rattle.component_fast.specs.declared.range.Head.{Head}
 use Rattle.component_fast.specs.declared.range.Range.{Range}
 use Rattle.component_fast.specs.declared.range.Range.the-variants as R
 use Rattle.component_fast.proofs.Tokens.{Word, word-facts, word-plain, Dot, dot-facts, dot-token, token-item, length-is}
@@ -161,7 +162,7 @@ module _ (image : List ℕ) (text : ℕ) where
 
   -- ---- the range
 
-  pub range-zero : (e at n : ℕ) (z : Usb) (end : End) (res : Range) → usbOf image text z ≡ Def.val (pos 0) → EndIs image text e at n end → res ≡ fromStart z end
+  range-zero : (e at n : ℕ) (z : Usb) (end : End) (res : Range) → usbOf image text z ≡ Def.val (pos 0) → EndIs image text e at n end → res ≡ fromStart z end
       → RangeIs image text e at n res
   range-zero e at n z (E.Is o) res zh h q = rw q (λ r s. made (itemsAt image text at r n) (h r s))
     where
@@ -197,7 +198,7 @@ module _ (image : List ℕ) (text : ℕ) where
               }
 
       -- `a..`, `a..b`
-      pub range-text : (k : ℕ) (a : Usb) (end : End) (res : Range) → n ≡ suc k
+      range-text : (k : ℕ) (a : Usb) (end : End) (res : Range) → n ≡ suc k
           → usbOf image text a ≡ Def.text (partOf image text (record { at = at; len = len })) (pos 0) → EndIs image text (e + 12) (at + len) k end
           → res ≡ fromStart a end → RangeIs image text e at n res
       range-text k a (E.Is o) res m ah h q =
@@ -214,5 +215,33 @@ module _ (image : List ℕ) (text : ℕ) where
               }
       range-text k a E.Other res m ah h q = rw q tt
 
-pub less-one : (n : ℕ) → 1 ≤ n → n ≡ suc (n - 1)
+less-one : (n : ℕ) → 1 ≤ n → n ≡ suc (n - 1)
 less-one n h = omega arith
+
+end-at : (image : List ℕ) (text e z at y n m : ℕ) (end : End) → e ≡ z → at ≡ y → n ≡ m → EndIs image text e at n end → EndIs image text z y m end
+end-at image text e z at y n m end p q r h = rw (← p, ← q, ← r) h
+
+-- a head, and the end behind it
+pub range-any : (image : List ℕ) (text e at n kind len byte : ℕ) (w : Bool) (h : Head) (end : End) (res : Range) → w ≡ isWord kind len byte → kind ≡ u32At image e
+    → len ≡ lenAt image e → byte ≡ getD image (text + at) 0 → 1 ≤ n → HeadIs w at len h → EndIs image text (e + 12 * h .records) (at + h .len) (n - h .records) end
+    → res ≡ fromStart (h .start) end → RangeIs image text e at n res
+range-any image text e at n kind len byte true h end res wh kq lq bq l d g q =
+    let (a, b, s) = d in
+    range-text image text e at n kind len byte true wh refl kq lq bq (n - 1) (h .start) end res (less-one n l) (s image text)
+    (end-at image text _ (e + 12) _ (at + len) _ (n - 1) end (ap (λ r. e + 12 * r) a) (ap (λ z. at + z) b) (ap (λ r. n - r) a) g) q
+range-any image text e at n kind len byte false h end res wh kq lq bq l d g q =
+    let (a, b, s) = d in
+    range-zero image text e at n (h .start) end res (s image text)
+    (end-at image text _ e _ at _ n end (ap (λ r. e + 12 * r) a ∙ add-zero e) (ap (λ z. at + z) b ∙ add-zero at) (ap (λ r. n - r) a ∙ less-none n) g) q
+  where
+    less-none : (n : ℕ) → n - 0 ≡ n
+    less-none n = omega arith
+
+pub head-word : (w : Bool) (at len : ℕ) (u : Usb) → w ≡ true
+    → ((image : List ℕ) (text : ℕ) → usbOf image text u ≡ Def.text (partOf image text (record { at = at; len = len })) (pos 0))
+    → HeadIs w at len (record { start = u; records = 1; len = len })
+head-word w at len u q h = rw q (refl, refl, h)
+
+pub head-none : (w : Bool) (at len : ℕ) (u : Usb) → w ≡ false → ((image : List ℕ) (text : ℕ) → usbOf image text u ≡ Def.val (pos 0))
+    → HeadIs w at len (record { start = u; records = 0; len = 0 })
+head-none w at len u q h = rw q (refl, refl, h)

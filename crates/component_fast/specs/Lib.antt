@@ -1,4 +1,5 @@
 -- The common shapes of a component, and what the functions that read them give.
+pub mod Examples
 pub mod Range
 pub mod Shapes
 pub mod Table

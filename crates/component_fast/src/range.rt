@@ -1,6 +1,7 @@
 // What stands in a component's bracket: `a`, `..`, `a..`, `..b` or `a..b`.
 use super::table::is_word;
 use super::table::length_at;
+use super::table::number_at;
 use super::table::two_dots;
 use usb::OptionUsb;
 use usb::Part;
@@ -8,11 +9,12 @@ use usb::Usb;
 use usb::Usbr;
 ghost use mathlib.Core.Path.{_≡_};
 ghost use mathlib.Core.List.{List};
-ghost use Prim.Native.Nat.{ℕ, _+_, _-_, _^_, _≤_, _<_};
+ghost use Prim.Native.Nat.{ℕ, _+_, _*_, _-_, _^_, _≤_, _<_};
+ghost use lib.ListN.{length};
 ghost use lib.IntN.{pos};
 ghost use Rattle.def_stages.specs.Ranges as Ranges;
 ghost use Rattle.usb.specs.Usb.{partOf, usbOf, usbrOf};
-ghost use Rattle.component_fast.specs.Range.{EndIs, RangeIs, fromStart, bitOf};
+ghost use Rattle.component_fast.specs.Range.{EndIs, HeadIs, RangeIs, fromStart, bitOf};
 
 // The end of a range, or a shape of another kind.
 pub enum End {
@@ -24,6 +26,13 @@ pub enum End {
 pub enum Range {
     Is(Usbr),
     Other,
+}
+
+// What a range begins with: its start, and how many records and bytes that is.
+pub struct Head {
+    pub start: Usb,
+    pub records: u32,
+    pub len: usize,
 }
 
 // A part of the text plus x.
@@ -45,9 +54,12 @@ pub(crate) fn zero_bound() -> Usb
 
 // `..` or `..b`: n records from the one at e, their text at an offset.
 fn end_in(image: &[u8], text: usize, e: usize, at: usize, n: u32) -> End
-    requires { ⌜ (text < 2 ^ 62) × (e < 2 ^ 40) × (at < 2 ^ 36) ⌝ }
+    requires { ⌜ (text < 2 ^ 62) × (e < 2 ^ 40) × (at < 2 ^ 36) × (e + 12 * (n + 1) ≤ length (now image)) ⌝ }
     ensures { λ r. ⌜ EndIs (now (image .entry)) text e at n r ⌝ }
 {
+    if n < 2 {
+        return End::Other;
+    }
     if !two_dots(image, e, text + at) {
         return End::Other;
     }
@@ -56,7 +68,7 @@ fn end_in(image: &[u8], text: usize, e: usize, at: usize, n: u32) -> End
     }
     let len = length_at(image, e + 24);
     if !is_word(
-        token_tree::u32_at(image, e + 24),
+        number_at(image, e + 24),
         len,
         token_tree::byte_at(image, text + at + 2),
     ) {
@@ -89,24 +101,50 @@ fn single_bit(at: usize, len: usize) -> Usbr
     }
 }
 
+// The start of a range: a word of so many bytes, or none.
+fn head_of(word: bool, at: usize, len: usize) -> Head
+    ensures { λ h. ⌜ (h .records ≤ 1) × (h .len ≤ len) × HeadIs word at len h ⌝ }
+{
+    if word {
+        return Head {
+            start: text_bound(at, len, 0),
+            records: 1,
+            len,
+        };
+    }
+    Head {
+        start: zero_bound(),
+        records: 0,
+        len: 0,
+    }
+}
+
 // A bracket's range: n records from the one at e, their text at an offset.
 pub(crate) fn range_in(image: &[u8], text: usize, e: usize, at: usize, n: u32) -> Range
-    requires { ⌜ (text < 2 ^ 62) × (e < 2 ^ 40 - 12) × (at < 2 ^ 35) × (1 ≤ n) ⌝ }
+    requires { ⌜ (text < 2 ^ 62) × (e < 2 ^ 40 - 12) × (at < 2 ^ 35) × (1 ≤ n) × (e + 12 * (n + 1) ≤ length (now image)) ⌝ }
     ensures { λ r. ⌜ RangeIs (now (image .entry)) text e at n r ⌝ }
 {
     let len = length_at(image, e);
-    if !is_word(
-        token_tree::u32_at(image, e),
+    let word = is_word(
+        number_at(image, e),
         len,
         token_tree::byte_at(image, text + at),
-    ) {
-        return from_start(zero_bound(), end_in(image, text, e, at, n));
-    }
+    );
     if n == 1 {
+        if !word {
+            return Range::Other;
+        }
         return Range::Is(single_bit(at, len));
     }
+    let h = head_of(word, at, len);
     from_start(
-        text_bound(at, len, 0),
-        end_in(image, text, e + 12, at + len, n - 1),
+        h.start,
+        end_in(
+            image,
+            text,
+            e + 12 * (h.records as usize),
+            at + h.len,
+            n - h.records,
+        ),
     )
 }

@@ -4,6 +4,7 @@ use super::range::range_in;
 use super::table::bracket_at;
 use super::table::is_word;
 use super::table::length_at;
+use super::table::number_at;
 use super::table::record_place;
 use super::table::whole_length;
 use super::typed::Found;
@@ -14,22 +15,26 @@ use component::Place;
 use items::Run;
 ghost use mathlib.Core.Path.{_≡_};
 ghost use mathlib.Core.Bool.{true};
-ghost use Prim.Native.Nat.{_+_, _-_, _≤_, _<_, _^_};
+ghost use Prim.Native.Nat.{_+_, _*_, _-_, _^_, _≤_, _<_};
+ghost use lib.ListN.{length};
+ghost use Rattle.def_image.specs.Image.{tables};
 ghost use Rattle.def_stages.specs.Component.{stage1Component};
 ghost use Rattle.component.specs.Places.{unparsedIn, reachable};
 ghost use Rattle.component.specs.Values.{resultIn};
 ghost use Rattle.component_fast.specs.Table.{Stands};
 ghost use Rattle.component_fast.specs.Typed.{FoundIs};
 
-// `w`
-fn alone(image: &[u8], place: Place) -> Found
-    requires { ⌜ (reachable place ≡ true) × (place .run .left ≡ 1) ⌝ }
+// `w`: the record at e.
+fn alone(image: &[u8], place: Place, e: usize) -> Found
+    requires { ⌜ (reachable place ≡ true) × (place .run .left ≡ 1) × (e ≡ (tables (now image)) .records + 12 * place .run .r) × (e < 2 ^ 38) × (40 ≤ length (now image)) ⌝ }
     ensures { λ r. ⌜ FoundIs (now (image .entry)) place r ⌝ }
 {
-    let e = record_place(image, place.run.r);
+    if image.len() < e + 12 {
+        return Found::Other;
+    }
     let len = whole_length(image, place.run.r, e);
     let byte = token_tree::byte_at(image, place.text);
-    if !is_word(token_tree::u32_at(image, e), len, byte) {
+    if !is_word(number_at(image, e), len, byte) {
         return Found::Other;
     }
     typed(place, len, byte, unbounded())
@@ -37,12 +42,12 @@ fn alone(image: &[u8], place: Place) -> Found
 
 // `w[..]`: the record at e is the first of the component.
 fn bracketed(image: &[u8], place: Place, e: usize) -> Found
-    requires { ⌜ (reachable place ≡ true) × (place .text < 2 ^ 62) × (4 ≤ place .run .left) × (e < 2 ^ 38) × Stands (now image) (place .run .r) (place .run .left - 1) e ⌝ }
+    requires { ⌜ (reachable place ≡ true) × (place .text < 2 ^ 62) × (4 ≤ place .run .left) × (e < 2 ^ 38) × (e + 12 * place .run .left ≤ length (now image)) × Stands (now image) (place .run .r) (place .run .left - 1) e ⌝ }
     ensures { λ r. ⌜ FoundIs (now (image .entry)) place r ⌝ }
 {
     let len = length_at(image, e);
     let byte = token_tree::byte_at(image, place.text);
-    if !is_word(token_tree::u32_at(image, e), len, byte) {
+    if !is_word(number_at(image, e), len, byte) {
         return Found::Other;
     }
     if !bracket_at(image, e + 12, place.run.left - 1) {
@@ -56,6 +61,24 @@ fn bracketed(image: &[u8], place: Place, e: usize) -> Found
     }
 }
 
+// More records than one, which the image holds and of which none but the last is the last of all.
+fn several(image: &[u8], place: Place, e: usize) -> Found
+    requires { ⌜ (reachable place ≡ true) × (place .text < 2 ^ 62) × (e ≡ (tables (now image)) .records + 12 * place .run .r) × (e < 2 ^ 38) × (40 ≤ length (now image)) ⌝ }
+    ensures { λ r. ⌜ FoundIs (now (image .entry)) place r ⌝ }
+{
+    let left = place.run.left;
+    if left < 4 {
+        return Found::Other;
+    }
+    if image.len() < e + 12 * (left as usize) {
+        return Found::Other;
+    }
+    if (number_at(image, 8) as usize) < (place.run.r as usize) + (left as usize) {
+        return Found::Other;
+    }
+    bracketed(image, place, e)
+}
+
 fn found_in(image: &[u8], place: Place) -> Found
     ensures { λ r. ⌜ FoundIs (now (image .entry)) place r ⌝ }
 {
@@ -64,21 +87,17 @@ fn found_in(image: &[u8], place: Place) -> Found
         left: place.run.left,
         at: 0,
     };
+    if image.len() < 40 {
+        return Found::Other;
+    }
     if !items::in_reach(place.text, run) {
         return Found::Other;
     }
+    let e = record_place(image, place.run.r);
     if place.run.left == 1 {
-        return alone(image, place);
+        return alone(image, place, e);
     }
-    if place.run.left < 4 {
-        return Found::Other;
-    }
-    if (token_tree::u32_at(image, 8) as usize)
-        < (place.run.r as usize) + (place.run.left as usize)
-    {
-        return Found::Other;
-    }
-    bracketed(image, place, record_place(image, place.run.r))
+    several(image, place, e)
 }
 
 // A component that may be scanned for a starting value. Of these shapes none has one.

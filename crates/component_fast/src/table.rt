@@ -1,19 +1,32 @@
 // Records and tokens of the record table. A record is named by the byte of the image where its entry begins.
 ghost use mathlib.Core.Path.{_≡_};
 ghost use mathlib.Core.Bool.{_&&_};
-ghost use Prim.Native.Nat.{_+_, _*_, _-_, _^_, _<_};
-ghost use Rattle.def_image.specs.Image.{tables};
+ghost use Prim.Native.Nat.{_+_, _*_, _-_, _^_, _≤_, _<_};
+ghost use lib.ListN.{length};
+ghost use Rattle.def_image.specs.Image.{u32At, tables};
 ghost use Rattle.items.specs.Run.{lengthAt};
 ghost use Rattle.component_fast.specs.Table.{lenAt, plainByte, isWord, isDot, dotAt, bracketAt};
 
+fn join4(a: u8, b: u8, c: u8, d: u8) -> u32
+    ensures { λ r. ⌜ r ≡ a + 256 * b + 65536 * c + 16777216 * d ⌝ }
+{
+    (a as u32) + 256 * (b as u32) + 65536 * (c as u32) + 16777216 * (d as u32)
+}
+
+// Four bytes of which none is missing: one load.
+pub(crate) fn number_at(s: &[u8], at: usize) -> u32
+    requires { ⌜ at + 4 ≤ length (now s) ⌝ }
+    ensures { λ r. ⌜ r ≡ u32At (now (s .entry)) at ⌝ }
+{
+    join4(s[at], s[at + 1], s[at + 2], s[at + 3])
+}
+
 // Where the entry of record r stands.
 pub(crate) fn record_place(image: &[u8], r: u32) -> usize
+    requires { ⌜ 40 ≤ length (now image) ⌝ }
     ensures { λ p. ⌜ (p ≡ (tables (now (image .entry))) .records + 12 * r) × (p < 2 ^ 38) ⌝ }
 {
-    40
-        + 4 * (token_tree::u32_at(image, 0) as usize)
-        + 8 * (token_tree::u32_at(image, 4) as usize)
-        + 12 * (r as usize)
+    40 + 4 * (number_at(image, 0) as usize) + 8 * (number_at(image, 4) as usize) + 12 * (r as usize)
 }
 
 // The length of the text from start to stop, none where they stand the other way round.
@@ -29,7 +42,7 @@ fn between(start: u32, stop: u32) -> usize
 
 // The length of a record's text, of a record that is not the last.
 pub(crate) fn length_at(image: &[u8], e: usize) -> usize
-    requires { ⌜ e < 2 ^ 41 ⌝ }
+    requires { ⌜ (e < 2 ^ 41) × (e + 20 ≤ length (now image)) ⌝ }
     ensures { λ n. ⌜ (n ≡ lenAt (now (image .entry)) e) × (n < 2 ^ 32) ⌝ }
 {
     between(
@@ -40,12 +53,12 @@ pub(crate) fn length_at(image: &[u8], e: usize) -> usize
 
 // The length of the text of record r, of any record.
 pub(crate) fn whole_length(image: &[u8], r: u32, e: usize) -> usize
-    requires { ⌜ (e ≡ (tables (now image)) .records + 12 * r) × (e < 2 ^ 38) ⌝ }
+    requires { ⌜ (e ≡ (tables (now image)) .records + 12 * r) × (e < 2 ^ 38) × (40 ≤ length (now image)) × (e + 12 ≤ length (now image)) ⌝ }
     ensures { λ n. ⌜ n ≡ lengthAt (now (image .entry)) r ⌝ }
 {
-    let start = token_tree::u32_at(image, e + 4);
-    if (r as usize) + 1 == (token_tree::u32_at(image, 8) as usize) {
-        return between(start, token_tree::u32_at(image, 12));
+    let start = number_at(image, e + 4);
+    if (r as usize) + 1 == (number_at(image, 8) as usize) {
+        return between(start, number_at(image, 12));
     }
     between(start, token_tree::u32_at(image, e + 16))
 }
@@ -84,18 +97,18 @@ fn is_dot(kind: u32, len: usize, byte: u8) -> bool
 
 // Whether the record at e is a dot, its text at a byte of the image.
 pub(crate) fn dot_at(image: &[u8], e: usize, text: usize) -> bool
-    requires { ⌜ e < 2 ^ 41 ⌝ }
+    requires { ⌜ (e < 2 ^ 41) × (e + 20 ≤ length (now image)) ⌝ }
     ensures { λ r. ⌜ r ≡ dotAt (now (image .entry)) e text ⌝ }
 {
     is_dot(
-        token_tree::u32_at(image, e),
+        number_at(image, e),
         length_at(image, e),
         token_tree::byte_at(image, text),
     )
 }
 
 pub(crate) fn two_dots(image: &[u8], e: usize, text: usize) -> bool
-    requires { ⌜ (e < 2 ^ 40) × (text < 2 ^ 63) ⌝ }
+    requires { ⌜ (e < 2 ^ 40) × (text < 2 ^ 63) × (e + 32 ≤ length (now image)) ⌝ }
     ensures { λ r. ⌜ r ≡ (dotAt (now (image .entry)) e text && dotAt (now (image .entry)) (e + 12) (text + 1)) ⌝ }
 {
     if !dot_at(image, e, text) {
@@ -106,11 +119,11 @@ pub(crate) fn two_dots(image: &[u8], e: usize, text: usize) -> bool
 
 // Whether the record at e opens a `[` group of that skip.
 pub(crate) fn bracket_at(image: &[u8], e: usize, skip: u32) -> bool
-    requires { ⌜ e < 2 ^ 41 ⌝ }
+    requires { ⌜ (e < 2 ^ 41) × (e + 12 ≤ length (now image)) ⌝ }
     ensures { λ r. ⌜ r ≡ bracketAt (now (image .entry)) e skip ⌝ }
 {
-    if token_tree::u32_at(image, e) != 3 {
+    if number_at(image, e) != 3 {
         return false;
     }
-    token_tree::u32_at(image, e + 8) == skip
+    number_at(image, e + 8) == skip
 }

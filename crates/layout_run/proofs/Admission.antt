@@ -1,9 +1,9 @@
 -- What a run asks before the stages: each way out of the three tests.
-use mathlib.Core.Path.{_≡_, refl, sym, ap, _∙_}
+use mathlib.Core.Path.{_≡_, sym, ap, _∙_}
 use Prim.Native.Nat.{_≤_, _<_}
 use borrow.Author.Tests.{lt-leb, le-leb}
 use Rattle.def_numbers.specs.Prelude.{ℕ, _+_, _*_, Bool, true, false, List, leb}
-use Rattle.def_numbers.specs.Basics.{Result, ok, refused, _>>=_}
+use Rattle.def_numbers.specs.Basics.{ok, refused}
 use Rattle.def_numbers.specs.Limits.{areaNeeded}
 use Rattle.def_numbers.specs.Refusals.{need, short-area}
 use Rattle.def_image.specs.Image.{counts}

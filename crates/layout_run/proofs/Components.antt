@@ -5,10 +5,8 @@ use Prim.Native.Nat.{_≤_, _<_}
 use native.Mathlib.Nat.{add-zero}
 use native.Mathlib.Omega.{arith}
 use lib.ListN.{length-append}
-use lib.Seq.{length-sets}
-use Rattle.def_numbers.specs.Prelude.{ℕ, suc, _+_, _-_, _*_, List, [], _∷_, _++_, map, length}
-use Rattle.def_numbers.specs.Basics.{Result, ok, _>>=_, joined}
-use Rattle.def_numbers.specs.Limits.{sizes}
+use Rattle.def_numbers.specs.Prelude.{ℕ, _+_, _-_, List, [], _∷_, _++_, map, length}
+use Rattle.def_numbers.specs.Basics.{ok, joined}
 use Rattle.def_image.specs.Image.{Placed, componentCount}
 use Rattle.def_stages.specs.Component.{Component}
 use Rattle.def_stages.specs.Concatenation.{merge}

@@ -1,8 +1,8 @@
 -- From what each part says to what the whole says: the checks before the stages, the starting value, and stage 3.
-use mathlib.Core.Path.{_≡_, refl, sym, ap, _∙_}
-use Prim.Native.Nat.{_≤_, _<_}
-use Rattle.def_numbers.specs.Prelude.{ℕ, none, List, getD, length}
-use Rattle.def_numbers.specs.Basics.{Result, ok, _>>=_}
+use mathlib.Core.Path.{_≡_, sym, ap, _∙_}
+use Prim.Native.Nat.{_<_}
+use Rattle.def_numbers.specs.Prelude.{ℕ, List, getD, length}
+use Rattle.def_numbers.specs.Basics.{Result, ok}
 use Rattle.def_image.specs.Image.{Placed, counts, treeOf}
 use Rattle.def_stages.specs.Component.{Component}
 use Rattle.def_stages.specs.Concatenation.{stage3}

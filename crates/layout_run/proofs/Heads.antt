@@ -6,8 +6,8 @@ use native.Mathlib.Nat.{le-of-suc-le-suc}
 use native.Mathlib.Numerals.{add-one}
 use native.Mathlib.Omega.{arith}
 use lib.ListN.{length-append}
-use lib.Seq.{sets, length-sets, length-take-le, take-all, getD-take}
-use Rattle.def_numbers.specs.Prelude.{ℕ, zero, suc, _+_, _*_, Bool, Option, List, [], _∷_, _++_, map, length, getD, take}
+use lib.Seq.{sets, length-take-le, take-all, getD-take}
+use Rattle.def_numbers.specs.Prelude.{ℕ, zero, suc, _+_, _*_, List, [], _∷_, _++_, map, length, getD, take}
 use Rattle.def_numbers.specs.Basics.{joined}
 use Rattle.def_stages.specs.Concatenation.{Concatenation, alignNumber, merged}
 use Rattle.def_run.specs.Answer.{concatenationBytes}

@@ -1,15 +1,15 @@
 -- What the stages over the image come to, way by way.
-use mathlib.Core.Path.{_≡_, refl, sym, ap, ap₂, _∙_}
+use mathlib.Core.Path.{_≡_, refl, sym, ap₂, _∙_}
 use Prim.Native.Nat.{_≤_, _<_}
 use native.Mathlib.Omega.{arith}
 use lib.Seq.{sets}
-use Rattle.def_numbers.specs.Prelude.{ℕ, _&&_, Bool, true, false, Option, none, some, List, map, length, getD, leb}
+use Rattle.def_numbers.specs.Prelude.{ℕ, _&&_, true, false, Option, none, some, List, map, length, getD, leb}
 use Rattle.def_numbers.specs.Basics.{Result, ok, refused, _>>=_, within, joined}
 use Rattle.def_image.specs.Image.{Placed, counts}
 use Rattle.def_image.specs.Check.{checkImage}
 use Rattle.def_stages.specs.Text.{Part}
 use Rattle.def_stages.specs.Component.{Component}
-use Rattle.def_stages.specs.Concatenation.{Concatenation, stage3, merged}
+use Rattle.def_stages.specs.Concatenation.{stage3, merged}
 use Rattle.def_stages.specs.Overall.{Overall, stage4}
 use Rattle.def_run.specs.Answer.{Answer, answerBytes}
 use Rattle.laws.specs.Sets.{sets-front}
@@ -22,7 +22,7 @@ use Rattle.answer.specs.declared.Init.the-variants.{Given, Missing}
 use Rattle.answer_fits.specs.Fixed.{AllFixed}
 use Rattle.answer_fits.specs.Proved.{answer-fits, read-fixed}
 use Rattle.answer_fits.specs.Statement.{Fits}
-use Rattle.concatenation.specs.Overall.{answerOf, overallOf}
+use Rattle.concatenation.specs.Overall.{answerOf}
 use Rattle.concatenation.specs.declared.overall.Overall as Code
 use Rattle.concatenation.specs.declared.overall.OverallResult.{OverallResult}
 use Rattle.concatenation.specs.declared.overall.OverallResult.the-variants as R
@@ -32,7 +32,7 @@ use Rattle.tree.specs.Pass.{passed, andThen}
 use Rattle.tree.specs.Read.{readAll, startAll}
 use Rattle.tree.specs.Stages.{stage1All}
 use Rattle.layout_run.specs.Found.{Found}
-use Rattle.layout_run.specs.Judged.{givenOf, StagesIs}
+use Rattle.layout_run.specs.Judged.{givenOf}
 use Rattle.layout_run.specs.Order.{inTurn, stagesIn, bytesOf, cameTo, Admitted, stages-in, reads-in, read-then}
 use Rattle.layout_run.specs.Written.{answerFrom, Fitting, WriteIs}
 use Rattle.layout_run.specs.declared.concatenations.Stage3.{Stage3}

@@ -1,5 +1,5 @@
 -- Answers one after the other.
-use mathlib.Core.Path.{_≡_, refl, sym, ap, _∙_}
+use mathlib.Core.Path.{_≡_, refl, sym, ap}
 use lib.Seq.{append-snoc}
 use Rattle.def_numbers.specs.Prelude.{List, [], _∷_, _++_}
 use Rattle.def_numbers.specs.Basics.{Result, ok, refused, _>>=_}

@@ -3,12 +3,11 @@ use mathlib.Core.Path.{_≡_, refl, sym, ap, _∙_}
 use mathlib.Core.List.{map-append, append-nil}
 use Prim.Native.Nat.{_≤_, _<_}
 use native.Mathlib.Numerals.{add-one}
-use native.Mathlib.Nat.{add-zero}
 use native.Mathlib.Omega.{arith}
 use lib.ListN.{set}
 use lib.Seq.{append-snoc, take-suc-set}
 use Rattle.def_numbers.specs.Prelude.{ℕ, suc, _+_, _-_, _*_, _%_, _^_, List, [], _∷_, _++_, map, length, take}
-use Rattle.def_numbers.specs.Basics.{Result, ok, refused, _>>=_, sum}
+use Rattle.def_numbers.specs.Basics.{ok, refused, _>>=_, sum}
 use Rattle.def_image.specs.Image.{Placed, componentCount}
 use Rattle.def_stages.specs.Component.{Component}
 use Rattle.def_stages.specs.Concatenation.{Concatenation, check, stage3}

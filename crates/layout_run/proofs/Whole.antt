@@ -1,7 +1,7 @@
 -- The whole answer: its four parts one after the other, and its numbers as the code keeps them.
 use mathlib.Core.Path.{_≡_, refl, sym, ap, _∙_}
 use mathlib.Core.List.{map-map}
-use Prim.Native.Nat.{_≤_, _<_}
+use Prim.Native.Nat.{_≤_}
 use native.Mathlib.Nat.{zero-add, add-zero}
 use native.Mathlib.Omega.{arith}
 use lib.ListN.{length-map}
@@ -11,7 +11,7 @@ use Rattle.def_numbers.specs.Basics.{ok, sum, joined}
 use Rattle.def_image.specs.Image.{Placed}
 use Rattle.def_stages.specs.Component.{Component}
 use Rattle.def_stages.specs.Concatenation.{Concatenation, alignNumber, stage3, merge, merged}
-use Rattle.def_run.specs.Answer.{Answer, components, headBytes, concatenationBytes, componentsBytes, literalBytes, answerBytes}
+use Rattle.def_run.specs.Answer.{Answer, components, headBytes, concatenationBytes, componentsBytes, answerBytes}
 use Rattle.laws.specs.Lists.{length-joined}
 use Rattle.misc.specs.Value.{optionUsize}
 use Rattle.answer.specs.Heads.{initOf, IsHead}
@@ -25,7 +25,7 @@ use Rattle.answer_read.specs.Trees.{stage3-comps, merged-comps}
 use Rattle.concatenation.specs.Align.{alignOf}
 use Rattle.concatenation.specs.declared.overall.Overall.{Overall}
 use Rattle.concatenation.specs.declared.overall.Summary.{Summary}
-use Rattle.stage5.specs.Put.{putAll, writtenTo, Room}
+use Rattle.stage5.specs.Put.{Room}
 use Rattle.stage5.specs.Blocks.{length-blocks}
 use Rattle.stage5.specs.declared.Writing.{Writing}
 use Rattle.layout_run.specs.Found.{mergedSize, Found}

@@ -1,7 +1,7 @@
 -- What stage 3 finds of every concatenation, as the code keeps it.
 use mathlib.Core.Path.{_≡_}
 use Rattle.def_numbers.specs.Prelude.{ℕ, _%_, _^_, List, map, length, take}
-use Rattle.def_numbers.specs.Basics.{Result, ok, sum}
+use Rattle.def_numbers.specs.Basics.{ok, sum}
 use Rattle.def_image.specs.Image.{Placed}
 use Rattle.def_stages.specs.Component.{Component}
 use Rattle.def_stages.specs.Concatenation.{Concatenation, stage3, merge}

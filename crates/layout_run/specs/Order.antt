@@ -19,7 +19,7 @@ use Rattle.stages_read.specs.Proved.{stages-read, read-first}
 use Rattle.tree.specs.Pass.{passed, andThen}
 use Rattle.tree.specs.Stages.{stage1All}
 use Rattle.tree.specs.Read.{readAll, startAll}
-use Rattle.tree.specs.Checked.{checked-parts, read-checked, stage1-checked, start-checked}
+use Rattle.tree.specs.Checked.{example, example-checked, checked-parts, read-checked, stage1-checked, start-checked}
 
 -- "Whole run: 1 mode above 2; the image check; 8 area shorter than 32 + 20·C + 72·N + B"
 unfoldable pub admittedOf : List ℕ → ℕ → ℕ → Result Unit
@@ -98,3 +98,8 @@ module _ (image : List ℕ) (bytes : (i : ℕ) → getD image i 0 < 256) (checke
   read-then u e =
       let (v, q) = read-first (treeOf image) u (sym reads-in ∙ e) in
       stage1-checked image bytes (right .0) (right .1) ∙ ap passed q
+
+-- such an image and such an area
+pub example-admitted : admittedOf example 0 124 ≡ ok tt
+unfolding admittedOf
+example-admitted = rw example-checked

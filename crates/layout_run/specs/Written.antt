@@ -3,7 +3,7 @@ use mathlib.Core.Path.{_≡_}
 use Prim.Native.Nat.{_≤_}
 use lib.Seq.{sets}
 use Rattle.def_numbers.specs.Prelude.{ℕ, _+_, _*_, List, map, length, take}
-use Rattle.def_numbers.specs.Basics.{Result, ok, joined}
+use Rattle.def_numbers.specs.Basics.{ok, joined}
 use Rattle.def_numbers.specs.Limits.{sizes}
 use Rattle.def_image.specs.Image.{Placed}
 use Rattle.def_stages.specs.Component.{Component}

@@ -22,6 +22,7 @@ pub(crate) struct Stage3 {
     pub(crate) checked: Checked,
 }
 
+// What stands in the array where no concatenation does.
 fn blank() -> Summary {
     Summary {
         align: FillerAlign::None,
@@ -33,7 +34,7 @@ fn blank() -> Summary {
     }
 }
 
-// Of so many concatenations, of n components.
+// Of so many concatenations, of n components. Where nothing refuses, an answer has at most N components, so the sum's remainder is the sum.
 pub(crate) fn check_all(image: &[u8], count: u32, n: u32) -> Stage3
     requires { ⌜ count ≤ 16 ⌝ }
     ensures { λ r. ⌜ StageIs (now (image .entry)) count n r ⌝ }

@@ -5,7 +5,6 @@ use concatenation::Overall;
 use concatenation::Summary;
 use concatenation::align_number;
 use stage5::Writing;
-ghost use mathlib.Core.Path.{_≡_};
 ghost use Prim.Native.Nat.{_≤_};
 ghost use Rattle.layout_run.specs.Written.{PutHeadsIs, PutAllIs, WriteIs};
 

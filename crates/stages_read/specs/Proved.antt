@@ -1,5 +1,5 @@
 -- The two claims, by induction over what stage 1 reads.
-use mathlib.Core.Path.{_≡_, refl, sym, ap, _∙_}
+use mathlib.Core.Path.{_≡_, refl, sym, _∙_}
 use Rattle.def_numbers.specs.Prelude.{ℕ, suc, Bool, _&&_, Option, none, List, [], _∷_, eqb}
 use Rattle.def_numbers.specs.Basics.{Result, ok, refused, _>>=_, isEmpty, sameBytes}
 use Rattle.def_image.specs.Image.{Unparsed, Placed}

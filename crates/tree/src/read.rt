@@ -10,7 +10,7 @@ ghost use Rattle.tree.specs.Read.{stage2Component};
 pub fn stage2_component(image: &[u8], place: Place, scanned: bool) -> ComponentResult
     ensures { λ r. ⌜ resultIn (now (image .entry)) place r ≡ stage2Component scanned (unparsedIn (now (image .entry)) place) ⌝ }
 {
-    let s = component::stage1_component(image, place, scanned);
+    let s = component_fast::stage1_component(image, place, scanned);
     match s {
         ComponentResult::Ok(c) => component::simplify(image, place, c),
         ComponentResult::Refused(q) => ComponentResult::Refused(q),

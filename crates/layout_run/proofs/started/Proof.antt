@@ -1,5 +1,5 @@
 use borrow.Author.Needs.{needs}
-use mathlib.Core.Path.{_≡_, ap}
+use mathlib.Core.Path.{ap}
 use native.Mathlib.Omega.{arith}
 use Rattle.layout_run.proofs.Entered.{stage-found, stage-refused}
 use Rattle.layout_run.proofs.Outcomes.{few-counts, turn-refused}

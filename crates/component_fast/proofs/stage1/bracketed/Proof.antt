@@ -16,12 +16,12 @@ returns-3 c =
     let l2 = m .length-at2 in
     let b = m .before .before .bracket-at in
     let w = n .is-word in
-    let k = n .before .u32-at in
+    let k = n .before .number-at in
     let y = n .before .before .byte-at in
     let l = n .before .before .before .length-at in
     bracketed-is (a .image .now) (a .place) (k .result) (l .result) (y .result) (w .result) (p .pre .0) (w .ensures)
     (not-false (w .result) (m .before .before .before .before .if1 .left)) (y .ensures) (a .e) _ _ (l2 .result) _ (b .result) (v .0 .0) (f .result)
-    (c .typed .result) (left-is (a .place .run .left) (p .pre .2)) (stands-two (a .image .now) _ _ _ (p .pre .2) (p .pre .4)) (k .ensures) (l .ensures .0) (b .ensures)
+    (c .typed .result) (left-is (a .place .run .left) (p .pre .2)) (stands-two (a .image .now) _ _ _ (p .pre .2) (p .pre .5)) (k .ensures) (l .ensures .0) (b .ensures)
     (skip-is (a .place .run .left) (p .pre .2)) (not-false (b .result) (m .before .if2 .left)) (l2 .ensures .0) refl (f .ensures) (v .1) (c .typed .ensures)
 
 pub bracketed-spec : {M : Type 1} → statement M

@@ -8,7 +8,7 @@ returns c =
     let a = c .before .before .before .before .before .args in
     let b = c .before .byte-at in
     let l = c .before .before .length-at in
-    let k = c .before .before .before .u32-at in
+    let k = c .before .before .before .number-at in
     dot-read (k .result) (l .result) (b .result) (c .is-dot .result) (a .image .now) (a .e) (a .text) (c .is-dot .ensures) (k .ensures)
     (l .ensures .0) (b .ensures)
 

@@ -1,9 +1,9 @@
 -- `layout_run::concatenations::check_all` meets its contract. The invariant: what the concatenations before i gave. The measure is what is left.
 use borrow.Author.Needs.{needs}
-use mathlib.Core.Path.{_≡_, refl, sym, ap, _∙_}
-use Prim.Native.Nat.{_≤_, _<_, _-_, _+_, _^_}
+use mathlib.Core.Path.{_≡_, refl, ap, _∙_}
+use Prim.Native.Nat.{_<_, _-_, _^_}
 use native.Mathlib.Omega.{arith}
-use lib.ListN.{length, length-set, length-replicate}
+use lib.ListN.{length, length-set}
 use Rattle.tree.specs.Chain.{atMost}
 use Rattle.layout_run.proofs.Turns.{Walked, walk-start, walk-refused, walk-next, walk-end}
 use Rattle.layout_run.proofs.concatenations.check_all.Statement.{statement}

@@ -1,9 +1,8 @@
 -- `layout_run::write::put_components` meets its contract: before turn i what is still to be written are the concatenations from i on.
 use borrow.Author.Needs.{needs}
-use mathlib.Core.Path.{_≡_, refl, sym, ap, _∙_}
+use mathlib.Core.Path.{_≡_, refl, ap, _∙_}
 use mathlib.Core.List.{List}
-use Prim.Native.Nat.{_≤_, _<_, _-_}
-use native.Mathlib.Omega.{arith}
+use Prim.Native.Nat.{_-_}
 use lib.ListN.{length}
 use Rattle.def_numbers.specs.Basics.{ok, joined}
 use Rattle.def_image.specs.Image.{Placed}

@@ -1,11 +1,11 @@
 -- `layout_run::write::put_concatenations` meets its contract: before turn i the blocks of the first i concatenations stand in the area.
 use borrow.Author.Needs.{needs}
-use mathlib.Core.Path.{_≡_, refl, sym, ap, _∙_}
+use mathlib.Core.Path.{_≡_, refl, _∙_}
 use mathlib.Core.List.{List, map}
-use Prim.Native.Nat.{_≤_, _<_, _-_}
+use Prim.Native.Nat.{_-_}
 use native.Mathlib.Omega.{arith}
 use lib.ListN.{length, take}
-use lib.Seq.{sets, length-sets}
+use lib.Seq.{sets}
 use Rattle.def_stages.specs.Concatenation.{Concatenation}
 use Rattle.concatenation.specs.Overall.{Summarised}
 use Rattle.layout_run.specs.Found.{mergedSize}
