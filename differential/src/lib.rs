@@ -25,6 +25,7 @@ unchanged! {
     token_tree "/token_tree.rs"
 }
 
+pub mod answer;
 pub mod ast;
 pub mod check;
 pub mod generate;

@@ -64,24 +64,26 @@ fn component(ast: &Ast, comp: &Component) -> String {
 
 /// A bound's text and its signed number; none is `-`.
 fn bound(bound: Option<&Usb>) -> String {
-    bound.map_or("-".to_owned(), |b| format!("{}{:+}", escaped(&chars_to_string(&b.s)), b.x))
+    bound.map_or("-".to_owned(), |b| {
+        format!("{}{:+}", escaped(chars_to_string(&b.s).as_bytes()), b.x)
+    })
 }
 
 /// The text below an entry of the arena.
 fn text(ast: &Ast, p: PText) -> String {
     let mut chars = vec![];
     ast.chars_assign_subtree(&mut chars, p);
-    escaped(&chars_to_string(&chars))
+    escaped(chars_to_string(&chars).as_bytes())
 }
 
 /// Bytes outside 33 to 126 and the backslash become `\` and two hex digits.
-pub fn escaped(text: &str) -> String {
-    let escape = |byte: u8| match byte {
+pub fn escaped(text: &[u8]) -> String {
+    let escape = |byte: &u8| match byte {
         b'\\' => "\\5c".to_owned(),
-        33..=126 => char::from(byte).to_string(),
+        33..=126 => char::from(*byte).to_string(),
         _ => format!("\\{byte:02x}"),
     };
-    text.bytes().map(escape).collect()
+    text.iter().map(escape).collect()
 }
 
 /// A literal's bytes, the highest first.

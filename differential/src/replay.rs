@@ -9,6 +9,7 @@ use std::{
 };
 
 use crate::{
+    answer::area_needed,
     generate::{CutPair, Rng, cases, cut_pair},
     image::{
         MAX_COMPONENTS, MAX_CONCATENATIONS, MAX_LITERAL_BYTES, MAX_RECORDS, MAX_TEXT, MAX_WIDTH,
@@ -18,11 +19,6 @@ use crate::{
     stats::outcome_of,
     text::encode,
 };
-
-/// The area that document 01 asks for these counts of an image.
-fn area_needed(concatenations: usize, components: usize, literal_bytes: usize) -> usize {
-    32 + 20 * concatenations + 72 * components + literal_bytes
-}
 
 /// An area that is long enough for any image.
 pub fn any_area() -> usize {

@@ -74,11 +74,12 @@ pub fn harmless(rng: &Rng, source: bool) -> String {
 }
 
 /// A component that only stage 2 refuses.
-fn refused_by_stage2(rng: &Rng) -> String {
+pub fn refused_by_stage2(rng: &Rng) -> String {
     rng.pick(&["q[5..3]", "q[4..4]", "1u8[9..]", "7..", "q[..=«-9»]"]).to_owned()
 }
 
-fn refused_by_stage1(rng: &Rng) -> String {
+/// A component that stage 1 refuses.
+pub fn refused_by_stage1(rng: &Rng) -> String {
     rng.pick(&["q[]", "q[...]", "9z", "..1..", "q[a b + 1..]"]).to_owned()
 }
 

@@ -4,10 +4,15 @@
 mod accepted;
 mod accepted_literals;
 mod accepted_texts;
+mod classes;
 mod cut_pairs;
 mod damage;
 mod edit;
+mod faults;
+mod flips;
+mod limits;
 mod line;
+mod numerals;
 mod readings;
 mod rng;
 mod soup;
@@ -16,6 +21,7 @@ mod stage2_refusals;
 mod tree_refusals;
 mod words;
 
+pub use classes::{Class, Pair, class_cases};
 pub use cut_pairs::{CutPair, cut_pair};
 pub use readings::{Reading, readings};
 pub use rng::Rng;

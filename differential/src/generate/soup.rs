@@ -80,7 +80,7 @@ fn range_soup(rng: &Rng) -> Vec<u8> {
 }
 
 /// Some recipe's case.
-fn some_case(rng: &Rng) -> Vec<u8> {
+pub fn some_case(rng: &Rng) -> Vec<u8> {
     let list = if rng.chance(70) { accepted_recipes() } else { refused_recipes() };
     (list[rng.below(list.len())].make)(rng)
 }
@@ -98,7 +98,7 @@ fn changed(rng: &Rng, mut change: impl FnMut(&Rng, &mut Vec<u8>)) -> Vec<u8> {
     }
 }
 
-fn changed_bytes(rng: &Rng) -> Vec<u8> {
+pub fn changed_bytes(rng: &Rng) -> Vec<u8> {
     changed(rng, |rng, input| {
         for _ in 0..rng.within(1, 3) {
             let at = rng.below(input.len().max(1));
@@ -111,7 +111,7 @@ fn changed_bytes(rng: &Rng) -> Vec<u8> {
 }
 
 /// Changes bytes of the text table to such as mean something.
-fn changed_text(rng: &Rng) -> Vec<u8> {
+pub fn changed_text(rng: &Rng) -> Vec<u8> {
     changed(rng, |rng, input| {
         if check(input.get(1..).unwrap_or_default()).is_err() {
             return;

@@ -10,12 +10,12 @@ use crate::{
 
 /// The counts of a large image; concatenations 1 to components, one record and
 /// one text byte or more for each component.
-struct Size {
-    concatenations: usize,
-    components: usize,
-    records: usize,
-    text: usize,
-    literals: usize,
+pub struct Size {
+    pub concatenations: usize,
+    pub components: usize,
+    pub records: usize,
+    pub text: usize,
+    pub literals: usize,
 }
 
 const LARGEST: Size =
@@ -45,7 +45,7 @@ fn items(records: usize, text: usize) -> Vec<Item> {
 
 /// A tree of exactly this size. Each literal's width has spare bits where its
 /// bytes have not all bits.
-fn tree(size: &Size) -> Tree {
+pub fn sized_tree(size: &Size) -> Tree {
     let mut index = 0;
     let mut comp = || {
         let bytes = share(size.literals, size.components, index);
@@ -80,18 +80,18 @@ fn single_limits() -> Vec<Vec<u8>> {
             Size { literals: 512 + past, ..SMALL },
         ]);
     }
-    sizes.iter().map(|size| image_of(&tree(size))).collect()
+    sizes.iter().map(|size| image_of(&sized_tree(size))).collect()
 }
 
 /// One a little below all limits, and the largest with its last `)` wrong.
 fn large() -> Vec<Vec<u8>> {
     let near =
         Size { concatenations: 15, components: 255, records: 2_047, text: 16_383, literals: 8_191 };
-    let mut wrong = image_of(&tree(&LARGEST));
+    let mut wrong = image_of(&sized_tree(&LARGEST));
     let text = ..wrong.len() - LARGEST.literals;
     let last = wrong[text].iter().rposition(|b| *b == b')').expect("a group");
     wrong[last] = b'x';
-    vec![image_of(&tree(&near)), wrong]
+    vec![image_of(&sized_tree(&near)), wrong]
 }
 
 /// Groups within groups of each kind, up to the depth and past it.
@@ -118,7 +118,7 @@ fn nests() -> Vec<Vec<u8>> {
 
 /// Sets a number of 4 bytes, or one byte, to something else; or cuts the image
 /// off, or adds to it.
-fn changed(rng: &Rng, mut image: Vec<u8>) -> Vec<u8> {
+pub fn changed(rng: &Rng, mut image: Vec<u8>) -> Vec<u8> {
     for _ in 0..rng.within(1, 2) {
         let words = image.len() / 4;
         if words == 0 {

@@ -5,8 +5,8 @@
 mod images;
 mod numbers;
 
-pub use images::images;
-pub use numbers::texts;
+pub use images::{Size, changed, images, sized_tree};
+pub use numbers::{drawn, texts};
 
 use std::{collections::BTreeMap, fs, io, path::Path};
 

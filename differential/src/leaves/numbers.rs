@@ -183,7 +183,7 @@ fn wide() -> Vec<String> {
 
 /// A number of any size with any signs, and often one character more, less or
 /// another.
-fn drawn(rng: &Rng) -> String {
+pub fn drawn(rng: &Rng) -> String {
     let x = (u128::from(rng.next()) << 64 | u128::from(rng.next())) >> rng.below(128);
     let (prefix, radix) = RADICES[rng.below(4)];
     let outer = rng.pick(&["", "", "-", "-", "+", "--"]);

@@ -1,0 +1,106 @@
+// Runs ours on the cases of a file (see src/driver.rs), the image and the area each in an allocation of just its length, so that
+// valgrind sees any byte read or written outside. The area's bytes count as unset until they are written: nothing may depend on
+// them, and every byte of an answer must be set.
+#include <stdint.h>
+#include <stdio.h>
+#include <stdlib.h>
+#include <string.h>
+#include <valgrind/memcheck.h>
+
+uint64_t layout_run(const uint8_t *image, size_t image_len, uint32_t mode, uint8_t *area, size_t area_len);
+
+struct entry {
+    uint32_t mode, image_len, area_len;
+    uint64_t code;
+    uint8_t *image, *answer;
+    size_t answer_len;
+};
+
+static void stop(const char *why) {
+    fprintf(stderr, "driver: %s\n", why);
+    exit(2);
+}
+
+// Exactly so many bytes of a file in an allocation of just that length.
+static uint8_t *bytes_of(FILE *file, size_t length) {
+    uint8_t *bytes = malloc(length);
+    if ((!bytes && length) || fread(bytes, 1, length, file) != length)
+        stop("the file is cut off");
+    return bytes;
+}
+
+static uint64_t number(const uint8_t *bytes, int length) {
+    uint64_t number = 0;
+    for (int i = length; i > 0; i--)
+        number = number << 8 | bytes[i - 1];
+    return number;
+}
+
+static int next(FILE *file, struct entry *entry) {
+    uint8_t head[20];
+    size_t got = fread(head, 1, sizeof head, file);
+    if (got == 0)
+        return 0;
+    if (got != sizeof head)
+        stop("the file is cut off");
+    entry->mode = (uint32_t)number(head, 4);
+    entry->image_len = (uint32_t)number(head + 4, 4);
+    entry->area_len = (uint32_t)number(head + 8, 4);
+    entry->code = number(head + 12, 8);
+    entry->answer_len = entry->code >> 32 ? 0 : (size_t)entry->code;
+    entry->image = bytes_of(file, entry->image_len);
+    entry->answer = bytes_of(file, entry->answer_len);
+    return 1;
+}
+
+// What is lent at a place of the area.
+static uint8_t lent(size_t at) {
+    return (uint8_t)(at * 167 + (at >> 8) + 89);
+}
+
+// How many things are not as they were when the case was written.
+static int wrong(const struct entry *entry) {
+    uint8_t *area = malloc(entry->area_len), *image = malloc(entry->image_len);
+    if ((!area && entry->area_len) || (!image && entry->image_len))
+        stop("no memory");
+    memcpy(image, entry->image, entry->image_len);
+    for (size_t i = 0; i < entry->area_len; i++)
+        area[i] = lent(i);
+    (void)VALGRIND_MAKE_MEM_UNDEFINED(area, entry->area_len);
+    uint64_t code = layout_run(image, entry->image_len, entry->mode, area, entry->area_len);
+    int wrong = code != entry->code;
+    if (!wrong && entry->answer_len && VALGRIND_CHECK_MEM_IS_DEFINED(area, entry->answer_len))
+        wrong++;
+    (void)VALGRIND_MAKE_MEM_DEFINED(area, entry->area_len);
+    wrong += memcmp(image, entry->image, entry->image_len) != 0;
+    if (code == entry->code) {
+        wrong += memcmp(area, entry->answer, entry->answer_len) != 0;
+        for (size_t i = entry->answer_len; i < entry->area_len; i++)
+            wrong += area[i] != lent(i);
+    }
+    free(area);
+    free(image);
+    return wrong;
+}
+
+int main(int argc, char **argv) {
+    FILE *file = argc == 2 ? fopen(argv[1], "rb") : NULL;
+    if (!file)
+        stop("usage: driver FILE");
+    struct entry entry;
+    int cases = 0, errors = 0;
+    for (; next(file, &entry); cases++) {
+        int found = wrong(&entry);
+        if (found)
+            fprintf(stderr, "driver: case %d is not as it was in the comparison\n", cases);
+        errors += found > 0;
+        free(entry.image);
+        free(entry.answer);
+    }
+    fclose(file);
+    errors += (int)VALGRIND_COUNT_ERRORS;
+    if (!RUNNING_ON_VALGRIND)
+        stop("not under valgrind");
+    printf("%d cases, %d errors\n", cases, errors);
+    return errors > 0;
+}

@@ -1,0 +1,123 @@
+//! Counts by outcome, and the first differences with all that is needed to
+//! see them again.
+
+use std::{
+    collections::BTreeMap,
+    io::{self, Write},
+};
+
+use layout_rust::{generate::Class, stats::outcome_of};
+
+use crate::compare::Call;
+
+/// How many differences are told in full.
+const TOLD: usize = 5;
+
+pub struct Tally {
+    class: Class,
+    seed: u64,
+    /// The place of the case in its class and seed.
+    index: u64,
+    outcomes: BTreeMap<String, u64>,
+    cases: u64,
+    outside: u64,
+    printed: u64,
+    /// Whether something of the present case differs.
+    wrong: bool,
+    different: u64,
+    told: Vec<String>,
+}
+
+fn hex(bytes: &[u8]) -> String {
+    bytes.iter().map(|byte| format!("{byte:02x}")).collect()
+}
+
+impl Tally {
+    pub fn new(class: Class, seed: u64) -> Self {
+        Self {
+            class,
+            seed,
+            index: 0,
+            outcomes: BTreeMap::new(),
+            cases: 0,
+            outside: 0,
+            printed: 0,
+            wrong: false,
+            different: 0,
+            told: vec![],
+        }
+    }
+
+    fn differs(&mut self, what: String) {
+        self.wrong = true;
+        if self.told.len() < TOLD {
+            let Self { class, seed, index, .. } = self;
+            self.told.push(format!("different: {class:?} seed {seed} index {index}: {what}"));
+        }
+    }
+
+    /// A case that the Rust answered.
+    pub fn outcome(&mut self, name: &str, input: &[u8], call: Call, rust: &str, ours: &str) {
+        *self.outcomes.entry(outcome_of(rust)).or_insert(0) += 1;
+        if rust != ours {
+            let Call { mode, area } = call;
+            self.differs(format!(
+                "{name}, mode {mode}, area {area}, input {}\nthe Rust:\n{rust}ours:\n{ours}",
+                hex(input)
+            ));
+        }
+    }
+
+    /// A case that only ours could be asked: nothing but its own area may
+    /// have changed, and what it wrote can be read.
+    pub fn outside(&mut self, name: &str, input: &[u8], call: Call, ours: &str) {
+        self.outside += 1;
+        if ours.starts_with("fault") {
+            let Call { mode, area } = call;
+            let input = hex(input);
+            self.differs(format!("{name}, mode {mode}, area {area}, input {input}\n{ours}"));
+        }
+    }
+
+    /// The two images of a cut pair through ours.
+    pub fn pair(&mut self, equal: bool, whole: &[u8], cut: &[u8]) {
+        if !equal {
+            self.differs(format!("cut pair, whole {}\ncut {}\n", hex(whole), hex(cut)));
+        }
+    }
+
+    /// A case through the program.
+    pub fn printed(&mut self, name: &str, input: &[u8], rust: &str, program: &str) {
+        self.printed += 1;
+        if rust != program {
+            let input = hex(input);
+            let both = format!("the Rust:\n{rust}the program:\n{program}");
+            self.differs(format!("{name}, through the program, input {input}\n{both}"));
+        }
+    }
+
+    /// The present case is done; those outside the domain count apart.
+    pub fn next(&mut self, compared: bool) {
+        self.index += 1;
+        self.cases += u64::from(compared);
+        self.different += u64::from(self.wrong);
+        self.wrong = false;
+    }
+
+    /// Prints all; whether nothing differs.
+    pub fn print(&self, to: &mut impl Write) -> io::Result<bool> {
+        for (outcome, count) in &self.outcomes {
+            writeln!(to, "{outcome}: {count}")?;
+        }
+        if self.outside > 0 {
+            writeln!(to, "outside the Rust's domain, run for the guard bytes: {}", self.outside)?;
+        }
+        writeln!(to, "also through the program: {}", self.printed)?;
+        for told in &self.told {
+            write!(to, "{told}")?;
+        }
+        let equal = self.cases.saturating_sub(self.different);
+        writeln!(to, "{equal} equal, {} different", self.different)?;
+        Ok(self.different == 0)
+    }
+}
