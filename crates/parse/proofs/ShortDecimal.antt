@@ -68,7 +68,7 @@ as-it-stands n s long plain e =
 pub low-alone : (n : ℕ) → n < 2 ^ 64 → some (valueOf (record { high = 0; low = n })) ≡ narrow (pos n)
 low-alone n h = rw (zero-mul (2 ^ 64), zero-add n) at (positive-fits 0 n (lit< tt) h)
 
--- 07
+-- `07` is read as it stands
 witness : narrow (pos 7) ≡ tryParse (48 ∷ 55 ∷ [])
 unfolding digitsFrom digitWorth
 witness = as-it-stands 7 (48 ∷ 55 ∷ []) (λ e. absurd (omega arith)) (short-decimal (48 ∷ 55 ∷ []) (omega arith)) refl

@@ -203,6 +203,7 @@ fn any_parse(s: &[u8]) -> OptionI128
     misc::checked_neg(z)
 }
 
+// Most numbers are short decimals, and need no table and no halves.
 pub fn i128_try_parse(s: &[u8]) -> OptionI128
     ensures { λ r. ⌜ optionOf r ≡ tryParse (now (s .entry)) ⌝ }
 {

@@ -6,7 +6,7 @@ ghost use lib.IntN.{pos};
 ghost use lib.ListN.{length};
 ghost use Rattle.def_numbers.specs.Numbers.{digitsFrom, narrow, tryParse};
 
-// Stands for no number: 18 digits stay below it.
+// Stands for no such number: 18 digits stay below it.
 const NONE: u64 = 0xffff_ffff_ffff_ffff;
 
 // The digits' value, where every byte is a digit.
@@ -30,7 +30,8 @@ fn value(s: &[u8]) -> u64
     n
 }
 
-// The number, where it is as short. More than two characters with a first `0` have a prefix, and are left out.
+// The number, where it is as short and has no prefix: "if more than two characters remain and the first is `0`, the second must be `x`,
+// `o` or `b`".
 pub(crate) fn read(s: &[u8]) -> u64
     ensures { λ r. ⌜ (r < 2 ^ 63 → narrow (pos r) ≡ tryParse (now (s .entry))) ⌝ }
 {
