@@ -74,7 +74,7 @@ pub nothing : (radix : ℕ) (s : List ℕ) → length s ≡ 0 → none ≡ cappe
 nothing radix [] e = refl
 nothing radix (b ∷ rest) e = absurd (omega arith)
 
-some-digit : (radix : ℕ) (s : List ℕ) → (length s ≡ 0 → ⊥) → digits radix s ≡ digitsFrom radix 0 s
+pub some-digit : (radix : ℕ) (s : List ℕ) → (length s ≡ 0 → ⊥) → digits radix s ≡ digitsFrom radix 0 s
 some-digit radix [] f = absurd (f refl)
 some-digit radix (b ∷ rest) f = refl
 
@@ -93,7 +93,7 @@ module _ (radix n i : ℕ) (s : List ℕ) (so-far : digitsFrom radix n (drop i s
     ended long h =
         rw (some-digit radix s long, ← so-far, drop-cons s i 0 inside, no-digit radix (getD s i 0) (rw worth at h), digitsFrom)
 
-    goes-on : radix ≤ 16 → d < radix → digitsFrom radix (n * radix + d) (drop (i + 1) s) ≡ digitsFrom radix 0 s
+    pub goes-on : radix ≤ 16 → d < radix → digitsFrom radix (n * radix + d) (drop (i + 1) s) ≡ digitsFrom radix 0 s
     unfolding digitsFrom
     goes-on small h =
         rw (← so-far, add-one, drop-cons s i 0 inside, is-digit radix (getD s i 0) small (rw worth at h), ← worth, digitsFrom)

@@ -9,6 +9,7 @@ ghost use Rattle.misc.specs.Value.{optionOf};
 ghost use Rattle.parse.specs.Parts.{worthByte, Worths, number, numberOf, capped, cappedOption, negated, radixOption};
 
 pub mod digit;
+mod short;
 
 // A number without a sign, in two halves.
 struct U128 {
@@ -186,7 +187,8 @@ fn unsigned_parse(s: &[u8]) -> OptionI128
     from_str_radix(radix, &s[2..])
 }
 
-pub fn i128_try_parse(s: &[u8]) -> OptionI128
+// A number with its outer minus, of any form.
+fn any_parse(s: &[u8]) -> OptionI128
     ensures { λ r. ⌜ optionOf r ≡ tryParse (now (s .entry)) ⌝ }
 {
     if s.len() == 0 {
@@ -199,4 +201,15 @@ pub fn i128_try_parse(s: &[u8]) -> OptionI128
         return OptionI128::None;
     };
     misc::checked_neg(z)
+}
+
+// Most numbers are short decimals, and need no table and no halves.
+pub fn i128_try_parse(s: &[u8]) -> OptionI128
+    ensures { λ r. ⌜ optionOf r ≡ tryParse (now (s .entry)) ⌝ }
+{
+    let n = short::read(s);
+    if n < 0x8000_0000_0000_0000 {
+        return OptionI128::Some(I128 { high: 0, low: n });
+    }
+    any_parse(s)
 }
