@@ -29,7 +29,7 @@ use Rattle.component_fast.specs.declared.range.Range.the-variants as R
 use Rattle.component_fast.specs.declared.typed.Found.{Found}
 use Rattle.component_fast.specs.declared.typed.Found.the-variants as F
 use Rattle.component_fast.proofs.Tokens.{Word, word-facts, word-plain, token-item, length-is}
-use Rattle.component_fast.proofs.Ranges.{none-at, kind-at, stands-next, stands-third}
+use Rattle.component_fast.proofs.Ranges.{none-at, next-entry, stands-next, stands-third}
 
 -- ---- the items of a component
 
@@ -39,11 +39,11 @@ items-in image p h =
     ∙ ap (λ f. items 0 (recsFrom image f (p .run .r) (p .run .left))) (sym (add-zero (p .text)))
 
 -- a group that has all the records that there are
-record Group (image : List ℕ) (text at r k : ℕ) : Type 0 where
-  group : Item
-  alone : itemsAt image text at r (suc (suc k)) ≡ group ∷ []
-  kind : group .kind ≡ (entryAt image r) .kind
-  inside : items (group .inside-at) (group .inside) ≡ itemsAt image text (at + lengthAt image r) (suc r) k
+pub record Group (image : List ℕ) (text at r k : ℕ) : Type 0 where
+  pub group : Item
+  pub alone : itemsAt image text at r (suc (suc k)) ≡ group ∷ []
+  pub kind : group .kind ≡ (entryAt image r) .kind
+  pub inside : items (group .inside-at) (group .inside) ≡ itemsAt image text (at + lengthAt image r) (suc r) k
 
 abbrev groupAt : List ℕ → ℕ → ℕ → ℕ → ℕ → Item
 groupAt image text at r k =
@@ -54,7 +54,7 @@ groupAt image text at r k =
       inside-at = at + lengthAt image r;
     }
 
-group-at : (image : List ℕ) (text at r k : ℕ) → suc k ≡ more (recAt image (text + at) r) → Group image text at r k
+pub group-at : (image : List ℕ) (text at r k : ℕ) → suc k ≡ more (recAt image (text + at) r) → Group image text at r k
 unfolding recAt
 group-at image text at r k h =
     record {
@@ -75,11 +75,11 @@ bracket-more : (image : List ℕ) (from r k : ℕ) → (entryAt image r) .kind �
 unfolding recAt
 bracket-more image from r k h s = rw (h, s) (omega arith)
 
-record Opener (image : List ℕ) (r from k : ℕ) : Type 0 where
-  kind : (entryAt image (suc r)) .kind ≡ 3
-  rest : suc k ≡ more (recAt image from (suc r))
+pub record Opener (image : List ℕ) (r from k : ℕ) : Type 0 where
+  pub kind : (entryAt image (suc r)) .kind ≡ 3
+  pub rest : suc k ≡ more (recAt image from (suc r))
 
-opener : (image : List ℕ) (r from k e skip : ℕ) (b : Bool) → Stands image r (suc (suc k)) e → b ≡ bracketAt image (e + 12) skip → b ≡ true → skip ≡ suc (suc k)
+pub opener : (image : List ℕ) (r from k e skip : ℕ) (b : Bool) → e ≡ (tables image) .records + 12 * r → b ≡ bracketAt image (e + 12) skip → b ≡ true → skip ≡ suc (suc k)
     → Opener image r from k
 unfolding bracketAt
 opener image r from k e skip b s h q n =
@@ -87,7 +87,7 @@ opener image r from k e skip b s h q n =
     go ((eqb-iff (u32At image (e + 12)) 3) .0 x) ((eqb-iff (u32At image (e + 12 + 8)) skip) .0 y)
   where
     at : e + 12 ≡ (tables image) .records + 12 * suc r
-    at = (stands-next image r (suc k) e s) .place
+    at = next-entry ((tables image) .records) r e s
 
     go : u32At image (e + 12) ≡ 3 → u32At image (e + 12 + 8) ≡ skip → Opener image r from k
     go x y =
@@ -107,8 +107,25 @@ module _ (image : List ℕ) (place : Place) (kind len byte : ℕ) (w : Bool) (re
     word : Word kind len byte
     word = word-facts kind len byte (sym wh ∙ wq)
 
-    plain : Plain (tokenAt image (place .text) 0 len)
+    pub plain : Plain (tokenAt image (place .text) 0 len)
     plain = word-plain image (place .text) 0 len kind byte word (bq ∙ ap (λ n. getD image n 0) (sym (add-zero (place .text))))
+
+    pub only-item : (e : ℕ) → place .run .left ≡ 1 → e ≡ (tables image) .records + 12 * place .run .r → kind ≡ u32At image e → len ≡ lengthAt image (place .run .r)
+        → items 0 ((unparsedIn image place) .recs) ≡ tokenAt image (place .text) 0 len ∷ []
+    only-item e one p k l =
+        items-in image place reach
+        ∙ ap (λ n. itemsAt image (place .text) 0 (place .run .r) n) one
+        ∙ token-item image (place .text) 0 len (place .run .r) 0 (ap (u32At image) (sym p) ∙ sym k ∙ word .chars) (sym l)
+        ∙ ap (λ is. tokenAt image (place .text) 0 len ∷ is) (none-at image (place .text) (0 + len) (suc (place .run .r)))
+
+    pub two-items : (e k : ℕ) (g : Item) → place .run .left ≡ suc (suc (suc k)) → e ≡ (tables image) .records + 12 * place .run .r → kind ≡ u32At image e
+        → len ≡ lengthAt image (place .run .r) → itemsAt image (place .text) (0 + len) (suc (place .run .r)) (suc (suc k)) ≡ g ∷ []
+        → items 0 ((unparsedIn image place) .recs) ≡ tokenAt image (place .text) 0 len ∷ g ∷ []
+    two-items e k g left p q l h =
+        items-in image place reach
+        ∙ ap (λ n. itemsAt image (place .text) 0 (place .run .r) n) left
+        ∙ token-item image (place .text) 0 len (place .run .r) (suc (suc k)) (ap (u32At image) (sym p) ∙ sym q ∙ word .chars) (sym l)
+        ∙ ap (λ l. tokenAt image (place .text) 0 len ∷ l) h
 
     pub alone-is : (e : ℕ) (range : Usbr) (f : Found) → place .run .left ≡ 1 → e ≡ (tables image) .records + 12 * place .run .r → kind ≡ u32At image e
         → len ≡ lengthAt image (place .run .r) → usbrOf image (place .text) range ≡ Ranges.unbounded → TypedIs place len byte range f → FoundIs image place f
@@ -117,14 +134,7 @@ module _ (image : List ℕ) (place : Place) (kind len byte : ℕ) (w : Bool) (re
         λ scanned.
         t image bq (word .some)
         ∙ ap (λ r. typed (tokenAt image (place .text) 0 len ∷ []) ((unparsedIn image place) .bits) r) q
-        ∙ sym (word-is scanned (unparsedIn image place) (tokenAt image (place .text) 0 len) its plain refl)
-      where
-        its : items 0 ((unparsedIn image place) .recs) ≡ tokenAt image (place .text) 0 len ∷ []
-        its =
-            items-in image place reach
-            ∙ ap (λ n. itemsAt image (place .text) 0 (place .run .r) n) one
-            ∙ token-item image (place .text) 0 len (place .run .r) 0 (ap (u32At image) (sym p) ∙ sym k ∙ word .chars) (sym l)
-            ∙ ap (λ is. tokenAt image (place .text) 0 len ∷ is) (none-at image (place .text) (0 + len) (suc (place .run .r)))
+        ∙ sym (word-is scanned (unparsedIn image place) (tokenAt image (place .text) 0 len) (only-item e one p k l) plain refl)
 
     pub bracketed-is : (e k at len2 skip : ℕ) (b : Bool) (range : Usbr) (found : Range) (f : Found)
         → place .run .left ≡ suc (suc (suc k)) → Stands image (place .run .r) (suc (suc k)) e → kind ≡ u32At image e → len ≡ lenAt image e
@@ -133,7 +143,7 @@ module _ (image : List ℕ) (place : Place) (kind len byte : ℕ) (w : Bool) (re
     bracketed-is e k at len2 skip b range found F.Other left s kq lq bh sq b1 l2 aq rh fq t = tt
     bracketed-is e k at len2 skip b range found (F.Is c) left s kq lq bh sq b1 l2 aq rh fq t =
         λ scanned.
-        go scanned (opener image (place .run .r) (place .text + (0 + len)) k e skip b s bh b1 sq)
+        go scanned (opener image (place .run .r) (place .text + (0 + len)) k e skip b (s .place) bh b1 sq)
         (range-at image (place .text) (e + 24) at k range found rh fq (suc (suc (place .run .r))) (stands-third image (place .run .r) k e s))
       where
         offset : 0 + len + lengthAt image (suc (place .run .r)) ≡ at
@@ -142,19 +152,9 @@ module _ (image : List ℕ) (place : Place) (kind len byte : ℕ) (w : Bool) (re
             ∙ ap (λ n. len + n) (length-is image (suc (place .run .r)) (suc k) (e + 12) (stands-next image (place .run .r) (suc k) e s) (omega arith) ∙ sym l2)
             ∙ sym aq
 
-        first : itemsAt image (place .text) 0 (place .run .r) (suc (suc (suc k)))
-            ≡ tokenAt image (place .text) 0 len ∷ itemsAt image (place .text) (0 + len) (suc (place .run .r)) (suc (suc k))
-        first =
-            token-item image (place .text) 0 len (place .run .r) (suc (suc k)) (kind-at image (place .run .r) (suc (suc k)) e s (sym kq ∙ word .chars))
-            (length-is image (place .run .r) (suc (suc k)) e s (omega arith) ∙ sym lq)
-
         its : (g : Item) → itemsAt image (place .text) (0 + len) (suc (place .run .r)) (suc (suc k)) ≡ g ∷ []
             → items 0 ((unparsedIn image place) .recs) ≡ tokenAt image (place .text) 0 len ∷ g ∷ []
-        its g h =
-            items-in image place reach
-            ∙ ap (λ n. itemsAt image (place .text) 0 (place .run .r) n) left
-            ∙ first
-            ∙ ap (λ l. tokenAt image (place .text) 0 len ∷ l) h
+        its g = two-items e k g left (s .place) kq (lq ∙ sym (length-is image (place .run .r) (suc (suc k)) e s (omega arith)))
 
         told : (scanned : Bool) → Group image (place .text) (0 + len) (suc (place .run .r)) k → (entryAt image (suc (place .run .r))) .kind ≡ 3
             → Bracket image (place .text) (itemsAt image (place .text) at (suc (suc (place .run .r))) k) range

@@ -54,7 +54,7 @@ start-made s e o q = rw q
 
 -- ---- records one after the other
 
-next-entry : (t r e : ℕ) → e ≡ t + 12 * r → e + 12 ≡ t + 12 * suc r
+pub next-entry : (t r e : ℕ) → e ≡ t + 12 * r → e + 12 ≡ t + 12 * suc r
 next-entry t r e h = omega arith
 
 third-entry : (t r e : ℕ) → e ≡ t + 12 * r → e + 24 ≡ t + 12 * suc (suc r)
@@ -68,7 +68,7 @@ pub stands-third : (image : List ℕ) (r k e : ℕ) → Stands image r (suc (suc
 stands-third image r k e s =
     let b = s .behind in record { place = third-entry ((tables image) .records) r e (s .place); behind = omega arith }
 
-pub kind-at : (image : List ℕ) (r n e : ℕ) → Stands image r n e → u32At image e ≡ 0 → (entryAt image r) .kind ≡ 0
+kind-at : (image : List ℕ) (r n e : ℕ) → Stands image r n e → u32At image e ≡ 0 → (entryAt image r) .kind ≡ 0
 kind-at image r n e s k = ap (u32At image) (sym (s .place)) ∙ k
 
 pub none-at : (image : List ℕ) (text at r : ℕ) → itemsAt image text at r 0 ≡ []

@@ -1,13 +1,13 @@
 -- Closed components that meet the premises of the laws of the shapes: `ab[8..16]` and `ab`.
 use mathlib.Core.Path.{_≡_, refl}
-use Rattle.def_numbers.specs.Prelude.{ℕ, Bool, some, List, [], _∷_, _++_}
-use Rattle.def_numbers.specs.Basics.{sameBytes}
+use Rattle.def_numbers.specs.Prelude.{ℕ, Bool, none, some, List, [], _∷_, _++_}
+use Rattle.def_numbers.specs.Basics.{ok, sameBytes}
 use Rattle.def_image.specs.Image.{Rec, Unparsed}
 use Rattle.def_image.specs.Tree.{textOf}
 use Rattle.def_stages.specs.Text.{Item, itemsOf, chunks}
 use Rattle.def_stages.specs.Ranges.{unbounded}
-use Rattle.def_stages.specs.Component.{typed, stage1Component}
-use Rattle.component_fast.specs.Shapes.{Plain, rangeOf, dotted-is, word-is, bracket-is}
+use Rattle.def_stages.specs.Component.{typed, stage1Component, startingValue}
+use Rattle.component_fast.specs.Shapes.{Plain, rangeOf, dotted-is, word-is, bracket-is, start-word, start-bracket}
 
 abbrev chars : List ℕ → Rec
 chars s = record { kind = 0; text = s; skip = 1 }
@@ -61,3 +61,11 @@ unfolding chunks itemsOf textOf sameBytes
 bracketed-read scanned =
     bracket-is scanned bracketed word group (a ∷ token 4 (46 ∷ []) 5 ∷ token 5 (46 ∷ []) 6 ∷ b ∷ []) (some (rangeOf (some a) (some b))) refl plain-word refl refl
     (dotted-is (some a) (some b) (token 4 (46 ∷ []) 5) (token 5 (46 ∷ []) 6) plain-a plain-b refl refl)
+
+pub alone-start : (k base : ℕ) → startingValue k (record { base = base; value = alone } ∷ []) ≡ ok none
+unfolding chunks itemsOf textOf
+alone-start k base = start-word k (record { base = base; value = alone }) word refl plain-word refl
+
+pub bracketed-start : (k base : ℕ) → startingValue k (record { base = base; value = bracketed } ∷ []) ≡ ok none
+unfolding chunks itemsOf textOf
+bracketed-start k base = start-bracket k (record { base = base; value = bracketed }) word group refl plain-word refl

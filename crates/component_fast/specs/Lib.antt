@@ -2,5 +2,6 @@
 pub mod Examples
 pub mod Range
 pub mod Shapes
+pub mod Start
 pub mod Table
 pub mod Typed

@@ -3,10 +3,10 @@ use mathlib.Core.Path.{_≡_, refl, ap, _∙_}
 use Rattle.def_numbers.specs.Prelude.{ℕ, _+_, Bool, true, false, Option, none, some, List, [], _∷_, _++_, take, drop, eqb, pos}
 use Rattle.def_numbers.specs.Basics.{Result, ok, isEmpty}
 use Rattle.def_numbers.specs.Numbers.{char}
-use Rattle.def_image.specs.Image.{Unparsed, kinds}
+use Rattle.def_image.specs.Image.{Unparsed, Placed, kinds}
 use Rattle.def_stages.specs.Text.{Item, items, isGroup, isToken, partOf}
 use Rattle.def_stages.specs.Ranges.{Usb, Usbr, val, text, unbounded, Scan, scan, scanFrom, parseStart, parseEnd, parseRange, parseUsb, readBound, cutBound, cutLast, cutPair, singleBit}
-use Rattle.def_stages.specs.Component.{Component, Split, splitRange, splitColon, parseComponent, typed, stage1Component}
+use Rattle.def_stages.specs.Component.{Component, Split, splitRange, splitColon, parseComponent, typed, stage1Component, startingValue}
 use Rattle.component.specs.Places.{middleOf}
 
 -- a token that is none of the single characters which a component is cut at
@@ -157,3 +157,26 @@ bracket-is scanned u w g is o h p k i q =
     ∙ split-stage scanned (w ∷ g ∷ []) (u .bits) _ (w ∷ []) (split-bracket w g k) (middle-is scanned w p)
     ∙ ap (λ l. parseComponent (w ∷ []) (some l) (u .bits)) i
     ∙ parsed-bracket w is (u .bits) o q
+
+-- ---- the starting value
+
+start-split : (k : ℕ) (u : Placed Unparsed) (is : List Item) (s : Split) → items 0 (u .value .recs) ≡ is → splitRange is ≡ s → splitColon (s .mid) ≡ none
+    → startingValue k (u ∷ []) ≡ ok none
+unfolding startingValue
+start-split k u is s h p q =
+    let none-before : splitColon ((splitRange (items 0 (u .value .recs))) .mid) ≡ none =
+    ap (λ l. splitColon ((splitRange l) .mid)) h ∙ ap (λ (x : Split). splitColon (x .mid)) p ∙ q in
+    rw (none-before, startingValue)
+
+no-colon : (w : Item) → Plain w → splitColon (w ∷ []) ≡ none
+unfolding splitColon
+no-colon w p = rw (p .colon)
+
+-- `w` and `w [ .. ]` have no colon
+pub start-word : (k : ℕ) (u : Placed Unparsed) (w : Item) → items 0 (u .value .recs) ≡ w ∷ [] → Plain w → eqb (w .kind) (kinds .bracket) ≡ false
+    → startingValue k (u ∷ []) ≡ ok none
+start-word k u w h p q = start-split k u (w ∷ []) _ h (split-word w q) (no-colon w p)
+
+pub start-bracket : (k : ℕ) (u : Placed Unparsed) (w g : Item) → items 0 (u .value .recs) ≡ w ∷ g ∷ [] → Plain w → eqb (g .kind) (kinds .bracket) ≡ true
+    → startingValue k (u ∷ []) ≡ ok none
+start-bracket k u w g h p q = start-split k u (w ∷ g ∷ []) _ h (split-bracket w g q) (no-colon w p)
