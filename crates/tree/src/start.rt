@@ -27,7 +27,7 @@ pub fn starting_value(image: &[u8]) -> Start
         return Start::None;
     }
     let spot = place_at(image, advanced(image, first(), s - 1));
-    let found = component::starting_value(image, spot.place, s - 1);
+    let found = component_fast::starting_value(image, spot.place, s - 1);
     match found {
         StartResult::None => Start::None,
         StartResult::Some(p) => Start::Given(spot.base, p),
