@@ -232,7 +232,10 @@ pub fn entry_in(
     ensures { λ e. ⌜ entryOf e ≡ entryIn (now (image .entry)) records text count t r ⌝ }
 {
     let at = no_further(image, records) + 12 * (r as usize);
-    if image.len() < at + 20 {
+    if image.len() < 20 {
+        return short_entry(image, records, text, count, t, r);
+    }
+    if image.len() - 20 < at {
         return short_entry(image, records, text, count, t, r);
     }
     let start = four_at(image, at + 4);

@@ -3,11 +3,11 @@ use Rattle.token_tree.proofs.Entries.{entry-same}
 use Rattle.token_tree.proofs.entry_in.Statement.{statement}
 use Rattle.token_tree.proofs.entry_in.Tie as tie
 
-returns-2 : tie.Need-returns-2
-returns-2 c =
+returns-3 : tie.Need-returns-3
+returns-3 c =
     let skip = c .before .before in
     let start = skip .before .before .before .before in
-    let first = start .before .before in
+    let first = start .before .before .before in
     let a = first .before .before .args in
     entry-same (a .image .now) (a .records) (a .text) (a .count) (a .t) (a .r) (first .no-further .result)
     (c .before .no-further2 .result) (first .no-further .ensures) (c .before .no-further2 .ensures)
@@ -17,6 +17,6 @@ returns-2 c =
 pub entry-in-spec : {M : Type 1} → statement M
 entry-in-spec =
     tie.close
-    (tie.spec (λ c κs. search needs) (λ c. search needs) (λ c. search needs) (λ c. search needs) (λ c κs. search needs) (λ c. search needs) (λ c. search needs)
-    (λ c κs. search needs) (λ c κs. search needs) (λ c. search needs) (λ c κs. search needs) (λ c κs. search needs) (λ c. search needs)
-    (λ c κs. search needs) (λ c κs. search needs) (λ c. search needs) (λ c. search needs) (λ c κs. search needs) returns-2)
+    (tie.spec (λ c κs. search needs) (λ c. search needs) (λ c. search needs) (λ c κs. search needs) (λ c. search needs) (λ c. search needs) (λ c κs. search needs) (λ c. search needs)
+    (λ c. search needs) (λ c κs. search needs) (λ c κs. search needs) (λ c. search needs) (λ c κs. search needs) (λ c κs. search needs) (λ c. search needs)
+    (λ c κs. search needs) (λ c κs. search needs) (λ c. search needs) (λ c. search needs) (λ c κs. search needs) returns-3)
