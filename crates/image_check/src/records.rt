@@ -3,6 +3,7 @@ use crate::between;
 use crate::both;
 use crate::first;
 use crate::needed;
+use crate::words::plain_word;
 use errors::Checked;
 use token_tree::PBind;
 use token_tree::PVal;
@@ -141,27 +142,32 @@ fn check_in(image: &[u8], p: Places, from: u32, count: u32, depth: u32) -> Check
     let mut k = from;
     let mut left = count;
     while 0 < left {
-        let e = entry_on(image, p, k);
-        if is_opener(e.kind) {
-            let opened = open_check(image, p, e, k, left, depth);
-            let Checked::Passed = opened else {
-                return opened;
-            };
-            let inside = check_in(image, p, k + 1, e.skip - 2, depth + 1);
-            let closer = closer_of(image, p, k, e);
-            let closed = first(inside, close_check(p.t, e, closer));
-            let Checked::Passed = closed else {
-                return closed;
-            };
-            k += e.skip;
-            left -= e.skip;
-        } else {
-            let word = word_check(p.t, e);
-            let Checked::Passed = word else {
-                return word;
-            };
+        if plain_word(image, p, k) {
             k += 1;
             left -= 1;
+        } else {
+            let e = entry_on(image, p, k);
+            if is_opener(e.kind) {
+                let opened = open_check(image, p, e, k, left, depth);
+                let Checked::Passed = opened else {
+                    return opened;
+                };
+                let inside = check_in(image, p, k + 1, e.skip - 2, depth + 1);
+                let closer = closer_of(image, p, k, e);
+                let closed = first(inside, close_check(p.t, e, closer));
+                let Checked::Passed = closed else {
+                    return closed;
+                };
+                k += e.skip;
+                left -= e.skip;
+            } else {
+                let word = word_check(p.t, e);
+                let Checked::Passed = word else {
+                    return word;
+                };
+                k += 1;
+                left -= 1;
+            }
         }
     }
     Checked::Passed

@@ -43,7 +43,8 @@ pub struct RecordEntry {
     pub byte: u8,
 }
 
-fn join4(a: u8, b: u8, c: u8, d: u8) -> u32
+// Little-endian.
+pub fn join4(a: u8, b: u8, c: u8, d: u8) -> u32
     ensures { λ r. ⌜ r ≡ a + 256 * b + 65536 * c + 16777216 * d ⌝ }
 {
     (a as u32) + 256 * (b as u32) + 65536 * (c as u32) + 16777216 * (d as u32)
@@ -196,7 +197,7 @@ fn no_further(s: &[u8], at: usize) -> usize
 }
 
 // Where the text of record r of `count` stops: t, or the start that follows.
-fn stop_of(next: u32, count: u32, t: u32, r: u32) -> u32
+pub fn stop_of(next: u32, count: u32, t: u32, r: u32) -> u32
     ensures { λ n. ⌜ n ≡ (if eqb (r + 1) count then t else next) ⌝ }
 {
     if (r as usize) + 1 == (count as usize) {
