@@ -4,12 +4,13 @@ use crate::both;
 use crate::records::Places;
 ghost use mathlib.Core.Path.{_≡_};
 ghost use mathlib.Core.Bool.{true, _&&_};
-ghost use Prim.Native.Nat.{_+_, _≤_};
+ghost use Prim.Native.Nat.{ℕ, _+_, _^_, _≤_, _<_};
 ghost use lib.Dec.{eqb, ltb};
 ghost use lib.ListN.{length};
 ghost use Rattle.def_image.specs.Image.{u32At};
 ghost use Rattle.def_image.specs.Check.{wordRight};
-ghost use Rattle.image_check.specs.Parts.{entryOn};
+ghost use Rattle.def_numbers.specs.Basics.{ok};
+ghost use Rattle.image_check.specs.Parts.{entryOn, Says};
 
 // Four bytes that are all there.
 fn four_at(s: &[u8], at: usize) -> u32
@@ -43,4 +44,21 @@ pub(crate) fn plain_word(image: &[u8], p: Places, k: u32) -> bool
     let start = four_at(image, at + 4);
     let stop = token_tree::stop_of(four_at(image, at + 16), p.count, p.t, k);
     word_right(p.t, kind, start, stop, four_at(image, at + 8))
+}
+
+// Whether n records from record k on are words that pass. False says nothing.
+pub(crate) fn plain_words(image: &[u8], p: Places, k: u32, n: u32) -> bool
+    requires { ⌜ k + n < 2 ^ 32 ⌝ }
+    ensures { λ r. ⌜ (r ≡ true → (depth : ℕ) → Says (p .t) (entryOn (now (image .entry)) p) depth k n (ok tt)) ⌝ }
+{
+    let mut at = k;
+    let mut left = n;
+    while 0 < left {
+        if !plain_word(image, p, at) {
+            return false;
+        }
+        at += 1;
+        left -= 1;
+    }
+    true
 }

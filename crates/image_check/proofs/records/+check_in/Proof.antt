@@ -13,7 +13,7 @@ use Rattle.errors.specs.Refused.{resultOf}
 use Rattle.token_tree.specs.Tables.{entryOf}
 use Rattle.image_check.specs.Parts.{Says, entryOn, firstOf}
 use Rattle.image_check.proofs.Tests.{stops, passed}
-use Rattle.image_check.proofs.Groups.{plain-goes, word-stops, word-goes, group-stops, inside-stops, group-goes, says-end}
+use Rattle.image_check.proofs.Groups.{word-stops, word-goes, group-stops, inside-stops, group-goes, says-end}
 use Rattle.image_check.proofs.records.check_in.Reads as check-in
 use Rattle.image_check.proofs.records.check_in.Kinds as check-in-kinds
 use Rattle.image_check.proofs.records.+check_in.Lts-check_in as check-in-lts
@@ -24,7 +24,7 @@ use Rattle.image_check.proofs.first.Reads as first-reads
 use Rattle.image_check.proofs.records.is_opener.Reads as is-opener-reads
 use Rattle.image_check.proofs.records.open_check.Reads as open-check-reads
 use Rattle.image_check.proofs.records.word_check.Reads as word-check-reads
-use Rattle.image_check.proofs.words.plain_word.Reads as plain-word-reads
+use Rattle.image_check.proofs.records.plain_item.Reads as plain-item-reads
 use Rattle.image_check.proofs.records.+check_in.{statement}
 use Rattle.image_check.proofs.records.+check_in.Tie.{close}
 
@@ -39,8 +39,8 @@ below t = and 1 check-in-kinds.ps (falls 1 check-in-kinds.ps _<_ μ-check-in t) 
 
 abbrev told : ℕ → check-in-lts.Claims
 told t = (
-  plain-word-reads.Asked,
-  plain-word-reads.Learnt,
+  plain-item-reads.Asked,
+  plain-item-reads.Learnt,
   entry-on-reads.Asked,
   entry-on-reads.Learnt,
   is-opener-reads.Asked,
@@ -70,16 +70,17 @@ abbrev μ-loop : check-in-lts.MeasureT-loop
 loop-holds : (t : ℕ) → check-in-lts.Need-loop-holds (told t) (given t) check-in.Post Inv μ-loop
 loop-holds t c = (search needs, search needs, λ x says. says)
 
+-- what passed at once is no more than what is left
+plain-fits : (t : ℕ) (c : check-in-lts.Then1 (told t) (given t) check-in.Post Inv μ-loop)
+    → c .before .plain-item .result ≤ c .before .before .before .loop .left
+plain-fits t c = c .before .plain-item .ensures (c .if1 .taken) .0
+
 plain-again : (t : ℕ) → check-in-lts.Need-loop-again (told t) (given t) check-in.Post Inv μ-loop
 plain-again t c =
-    let w = c .before in
-    let a = w .before .before .before .before .args in
-    let v = w .before .before .loop in (
-      omega arith,
-      omega arith,
-      λ x says. v .inv .2 x
-          (plain-goes (a .p .t) (entryOn (a .image .now) (a .p)) (a .depth) (v .k) (v .left) x (w .before .loop-test .taken)
-          (w .plain-word .ensures (c .if1 .taken)) says),
+    let v = c .before .before .before .loop in (
+      omega (arith, plain-fits t c, v .inv .0),
+      omega (arith, v .inv .1),
+      λ x says. v .inv .2 x (c .before .plain-item .ensures (c .if1 .taken) .1 x says),
     )
 
 opener-refused : (t : ℕ) → check-in-lts.Need-returns (told t) (given t) check-in.Post Inv μ-loop
@@ -189,10 +190,10 @@ pub +check-in-spec : {M : Type 1} → statement M
     Inv
     μ-loop
     (loop-holds t)
-    (λ c κs. search needs)
-    (λ c. omega arith)
-    (λ c. omega arith)
-    (λ c. omega arith)
+    (λ c κs. omega arith)
+    (λ c. omega (arith, plain-fits t c))
+    (λ c. omega (arith, plain-fits t c))
+    (λ c. omega (arith, plain-fits t c))
     (plain-again t)
     (λ c κs. search needs)
     (λ c κs. search needs)
