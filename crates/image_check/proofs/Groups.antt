@@ -3,16 +3,16 @@ use mathlib.Core.Path.{_≡_, refl, sym, ap, _∙_}
 use native.Mathlib.Nat.{add-zero, sub-zero, suc-add, add-suc}
 use native.Mathlib.Numerals.{add-one}
 use native.Mathlib.Omega.{arith}
-use borrow.Author.Tests.{lt-leb, le-leb}
+use borrow.Author.Tests.{lt-leb, le-leb, lt-ltb, eqb-true}
 use Prim.Native.Nat.{_<_, _≤_, _-_}
-use Rattle.def_numbers.specs.Prelude.{ℕ, zero, suc, _+_, Bool, true, false, _&&_, List, _∷_, length, getD, take, drop, leb, ltb}
+use Rattle.def_numbers.specs.Prelude.{ℕ, zero, suc, _+_, Bool, true, false, _&&_, List, _∷_, length, getD, take, drop, leb, ltb, eqb}
 use Rattle.def_numbers.specs.Basics.{Result, ok, refused, tab}
 use Rattle.def_numbers.specs.Limits.{limits}
 use Rattle.def_numbers.specs.Refusals.{need, bad-record, too-deep}
 use Rattle.def_image.specs.Image.{Entry, opens, delimiter}
 use Rattle.def_image.specs.Check.{noEntry, textRight, delimiterRight, wordRight, insideOf, closerOf, afterOf, openRight, closeRight, checkIn}
-use Rattle.image_check.specs.Parts.{firstOf, openerRight, opener, Says}
-use Rattle.image_check.proofs.Tests.{and-true, and-false, Stops}
+use Rattle.image_check.specs.Parts.{firstOf, openerRight, opener, Says, Passes}
+use Rattle.image_check.proofs.Tests.{and-true, and-false, left-true, right-true, Stops}
 
 length-tab : (g : ℕ → Entry) (from n : ℕ) → length (tab g from n) ≡ n
 unfolding tab
@@ -151,6 +151,16 @@ module _ (t : ℕ) (g : ℕ → Entry) (depth k : ℕ) where
     group-goes' (suc m) x l e q rest zero h = absurd (omega arith)
     group-goes' (suc m) x l e q rest (suc f) h = rw (step-opened m f l (omega arith) e, ← q) (rest f (omega arith))
 
+-- a word opens nothing, so that a record known to be a right word is passed
+word-shut : (t : ℕ) (e : Entry) → wordRight t e ≡ true → opens (e .kind) ≡ false
+word-shut t e h =
+    let kind : e .kind ≡ 0 = eqb-true (e .kind) 0 (right-true (textRight t e) (eqb (e .kind) 0) (left-true (textRight t e && eqb (e .kind) 0) (eqb (e .skip) 1) h)) in
+    rw kind
+
+pub plain-goes : (t : ℕ) (g : ℕ → Entry) (depth k left : ℕ) (x : Result Unit) → 0 < left → wordRight t (g k) ≡ true
+    → Says t g depth (k + 1) (left - 1) x → Says t g depth k left x
+plain-goes t g depth k left x l h = word-goes' t g depth k left x l (word-shut t (g k) h) (rw h)
+
 -- the same of the entry e that was read
 module _ (t : ℕ) (g : ℕ → Entry) (depth k left : ℕ) (e : Entry) (q : e ≡ g k) where
   pub word-stops : (y : Result Unit) → 0 < left → opens (e .kind) ≡ false → y ≡ need (wordRight t e) bad-record → Stops y → Says t g depth k left y
@@ -177,3 +187,13 @@ unfolding checkIn tab
 says-end t g depth k zero l zero h = refl
 says-end t g depth k zero l (suc f) h = refl
 says-end t g depth k (suc m) l f h = absurd (omega arith)
+
+-- a group that holds words only, c its closer
+pub words-group : (t : ℕ) (g : ℕ → Entry) (depth k left : ℕ) (e c : Entry) → e ≡ g k → c ≡ g (k + (e .skip - 1)) → opens (e .kind) ≡ true → 2 ≤ e .skip
+    → e .skip ≤ left → depth < 32 → openerRight t e c ≡ true → ok tt ≡ need (closeRight t e c) bad-record
+    → Says t g (depth + 1) (k + 1) (e .skip - 2) (ok tt) → Passes t g depth k left (e .skip)
+words-group t g depth k left e c q h o two l d r closes says some =
+    let right : openRight t e (tab g (k + 1) (left - 1)) ≡ true = opener-here t g e k left two l ∙ ap (openerRight t e) (sym h) ∙ r in
+    let opened : ok tt ≡ opener t e (tab g (k + 1) (left - 1)) depth = rw (right, lt-ltb depth 32 d) in
+    let closed : ok tt ≡ need (closeRight t e (g (k + (e .skip - 1)))) bad-record = closes ∙ ap (λ x. need (closeRight t e x) bad-record) h in
+    (l, λ x rest. group-goes t g depth k left e q (ok tt) x o two l says opened closed rest)

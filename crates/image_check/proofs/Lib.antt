@@ -2,4 +2,5 @@
 mod Tests
 mod Sums
 mod Groups
+mod Plain
 mod Whole

@@ -1,6 +1,6 @@
 -- The parts of the image check, over numbers that were read already. Each is the definition's own where it is given what the image says.
 use mathlib.Core.Path.{_≡_}
-use Prim.Native.Nat.{_≤_}
+use Prim.Native.Nat.{_-_, _≤_, _<_}
 use Rattle.def_numbers.specs.Prelude.{ℕ, _+_, _/_, _%_, _^_, Bool, true, _&&_, List, map, length, getD, leb, ltb, eqb}
 use Rattle.def_numbers.specs.Basics.{Result, _>>=_, if_then_else_, within, sum, all, tab}
 use Rattle.def_numbers.specs.Limits.{limits}
@@ -73,6 +73,10 @@ opener t e rest depth = do
 -- x is the answer of the check of `count` records from record `from` on, whatever fuel is enough
 abbrev pub Says : ℕ → (ℕ → Entry) → ℕ → ℕ → ℕ → Result Unit → Type 0
 Says t g depth from count x = (f : ℕ) → count ≤ f → x ≡ checkIn t f (tab g from count) depth
+
+-- n records from record k on pass, where n is not 0: what the rest says, all of them say
+abbrev pub Passes : ℕ → (ℕ → Entry) → ℕ → ℕ → ℕ → ℕ → Type 0
+Passes t g depth k left n = 0 < n → (n ≤ left) × ((x : Result Unit) → Says t g depth (k + n) (left - n) x → Says t g depth k left x)
 
 -- 6 and 7 of all components
 unfoldable pub records : List ℕ → Result Unit

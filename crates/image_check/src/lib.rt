@@ -1,6 +1,7 @@
 // Document 01's image check: 2 to 7 in the document's order, for every byte string.
 mod entries;
 mod records;
+mod words;
 
 use errors::Checked;
 use token_tree::Counts;

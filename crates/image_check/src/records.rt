@@ -3,6 +3,8 @@ use crate::between;
 use crate::both;
 use crate::first;
 use crate::needed;
+use crate::words::plain_word;
+use crate::words::plain_words;
 use errors::Checked;
 use token_tree::PBind;
 use token_tree::PVal;
@@ -15,7 +17,7 @@ ghost use Rattle.def_image.specs.Image.{counts, recordCount, opens, delimiter};
 ghost use Rattle.def_image.specs.Check.{textRight, delimiterRight, wordRight, closeRight, checkComponents};
 ghost use Rattle.errors.specs.Refused.{resultOf};
 ghost use Rattle.token_tree.specs.Tables.{entryOf};
-ghost use Rattle.image_check.specs.Parts.{entryOn, placesOf, delimiterOf, openerRight, opener, Says, records};
+ghost use Rattle.image_check.specs.Parts.{entryOn, placesOf, delimiterOf, openerRight, opener, Says, Passes, records};
 
 // Where the records and their texts stand, how many records there are and where the text stops.
 pub struct Places {
@@ -133,6 +135,49 @@ fn is_opener(kind: u32) -> bool
     between(1, 4, kind)
 }
 
+// The skip of record k where it opens a group that passes and holds words only, else 0, which says nothing.
+fn plain_group(image: &[u8], p: Places, k: u32, left: u32, depth: u32) -> u32
+    requires { ⌜ (0 < left) × (k + left < 2 ^ 32) ⌝ }
+    ensures { λ n. ⌜ Passes (p .t) (entryOn (now (image .entry)) p) depth k left n ⌝ }
+{
+    let e = entry_on(image, p, k);
+    if !is_opener(e.kind) {
+        return 0;
+    }
+    if e.skip < 2 {
+        return 0;
+    }
+    if left < e.skip {
+        return 0;
+    }
+    if 32 <= depth {
+        return 0;
+    }
+    let closer = closer_of(image, p, k, e);
+    if !opener_right(p.t, e, closer) {
+        return 0;
+    }
+    let closed = close_check(p.t, e, closer);
+    let Checked::Passed = closed else {
+        return 0;
+    };
+    if !plain_words(image, p, k + 1, e.skip - 2) {
+        return 0;
+    }
+    e.skip
+}
+
+// The number of records that a word or a group of words has, where it passes, else 0, which says nothing.
+fn plain_item(image: &[u8], p: Places, k: u32, left: u32, depth: u32) -> u32
+    requires { ⌜ (0 < left) × (k + left < 2 ^ 32) ⌝ }
+    ensures { λ n. ⌜ Passes (p .t) (entryOn (now (image .entry)) p) depth k left n ⌝ }
+{
+    if plain_word(image, p, k) {
+        return 1;
+    }
+    plain_group(image, p, k, left, depth)
+}
+
 // `count` records from record `from` on, one component's or what stands in a group, `depth` groups deep. Siblings go by the loop.
 fn check_in(image: &[u8], p: Places, from: u32, count: u32, depth: u32) -> Checked
     requires { ⌜ (from + count < 2 ^ 32) × (depth ≤ 32) ⌝ }
@@ -141,27 +186,33 @@ fn check_in(image: &[u8], p: Places, from: u32, count: u32, depth: u32) -> Check
     let mut k = from;
     let mut left = count;
     while 0 < left {
-        let e = entry_on(image, p, k);
-        if is_opener(e.kind) {
-            let opened = open_check(image, p, e, k, left, depth);
-            let Checked::Passed = opened else {
-                return opened;
-            };
-            let inside = check_in(image, p, k + 1, e.skip - 2, depth + 1);
-            let closer = closer_of(image, p, k, e);
-            let closed = first(inside, close_check(p.t, e, closer));
-            let Checked::Passed = closed else {
-                return closed;
-            };
-            k += e.skip;
-            left -= e.skip;
+        let plain = plain_item(image, p, k, left, depth);
+        if 0 < plain {
+            k += plain;
+            left -= plain;
         } else {
-            let word = word_check(p.t, e);
-            let Checked::Passed = word else {
-                return word;
-            };
-            k += 1;
-            left -= 1;
+            let e = entry_on(image, p, k);
+            if is_opener(e.kind) {
+                let opened = open_check(image, p, e, k, left, depth);
+                let Checked::Passed = opened else {
+                    return opened;
+                };
+                let inside = check_in(image, p, k + 1, e.skip - 2, depth + 1);
+                let closer = closer_of(image, p, k, e);
+                let closed = first(inside, close_check(p.t, e, closer));
+                let Checked::Passed = closed else {
+                    return closed;
+                };
+                k += e.skip;
+                left -= e.skip;
+            } else {
+                let word = word_check(p.t, e);
+                let Checked::Passed = word else {
+                    return word;
+                };
+                k += 1;
+                left -= 1;
+            }
         }
     }
     Checked::Passed

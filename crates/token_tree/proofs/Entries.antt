@@ -7,7 +7,7 @@ use mathlib.Core.List.{List}
 use lib.ListN.{length, getD, List·getD-eq-default}
 use lib.Dec.{eqb}
 use Rattle.def_numbers.specs.Basics.{if_then_else_}
-use Rattle.def_image.specs.Image.{u32At, counts, tables, Entry, entryAt}
+use Rattle.def_image.specs.Image.{u32At, counts, tablesFor, tables, Entry, entryAt}
 use Rattle.token_tree.specs.Tables.{countsOf, tablesOf, SameFrom, stopIn, entryIn, entry-read}
 use Rattle.token_tree.specs.declared.Counts.{Counts}
 use Rattle.token_tree.specs.declared.Tables.{Tables}
@@ -35,21 +35,27 @@ module _ (s : List ℕ) (records text count t r p q : ℕ) (hp : SameFrom s reco
   number-on : (d : ℕ) → u32At s (p + 12 * r + d) ≡ u32At s (records + 12 * r + d)
   number-on d = rw (add-assoc p (12 * r) d, add-assoc records (12 * r) d) (number-same s records p hp (12 * r + d))
 
-  stop-same : stopIn s (p + 12 * r + 16) count t r ≡ stopIn s (records + 12 * (r + 1) + 4) count t r
-  stop-same = ap (λ n. if eqb (r + 1) count then t else n) (number-on 16 ∙ ap (u32At s) (omega arith))
+  stop-same : {stop next : ℕ} → next ≡ u32At s (p + 12 * r + 16) → stop ≡ (if eqb (r + 1) count then t else next)
+      → stop ≡ stopIn s (records + 12 * (r + 1) + 4) count t r
+  stop-same hn hz = hz ∙ ap (λ n. if eqb (r + 1) count then t else n) (hn ∙ number-on 16 ∙ ap (u32At s) (omega arith))
 
-  -- five reads make the record
+  -- six reads make the record
   pub entry-same :
-      {kind start stop skip byte : ℕ} → kind ≡ u32At s (p + 12 * r) → start ≡ u32At s (p + 12 * r + 4) → stop ≡ stopIn s (p + 12 * r + 16) count t r
-      → skip ≡ u32At s (p + 12 * r + 8) → byte ≡ getD s (q + start) 0
+      {kind start next stop skip byte : ℕ} → kind ≡ u32At s (p + 12 * r) → start ≡ u32At s (p + 12 * r + 4) → next ≡ u32At s (p + 12 * r + 16)
+      → stop ≡ (if eqb (r + 1) count then t else next) → skip ≡ u32At s (p + 12 * r + 8) → byte ≡ getD s (q + start) 0
       → record { kind = kind; start = start; stop = stop; skip = skip; byte = byte } ≡ entryIn s records text count t r
   unfolding entryIn
-  entry-same {start = start} hk ha hz hn hb =
+  entry-same {start = start} hk ha hx hz hn hb =
       let a : start ≡ u32At s (records + 12 * r + 4) = ha ∙ number-on 4 in
-      entry-made (hk ∙ number-same s records p hp (12 * r)) a (hz ∙ stop-same) (hn ∙ number-on 8)
+      entry-made (hk ∙ number-same s records p hp (12 * r)) a (stop-same hx hz) (hn ∙ number-on 8)
       (hb ∙ hq .same start ∙ ap (λ n. getD s (text + n) 0) a)
 
+-- the tables for counts that were read are the image's
+pub tables-told : (image : List ℕ) (t : Tables) (h : Counts) → tablesOf t ≡ tablesFor (h .c) (h .n) (h .r) (h .t) (h .b)
+    → countsOf h ≡ counts image → tablesOf t ≡ tables image
+tables-told image t h p q = p ∙ ap (λ x. tablesFor (x .c) (x .n) (x .r) (x .t) (x .b)) q
+
 -- a record read at the tables and counts that were read is the definition's
-pub entry-told : (image : List ℕ) (t : Tables) (h : Counts) (r : ℕ) {e : Entry} → tablesOf t ≡ tables image → countsOf h ≡ counts image
+pub entry-told : (image : List ℕ) (t : Tables) (h : Counts) (r : ℕ) {e : Entry} → tablesOf t ≡ tablesFor (h .c) (h .n) (h .r) (h .t) (h .b) → countsOf h ≡ counts image
     → e ≡ entryIn image (t .records) (t .text) (h .r) (h .t) r → e ≡ entryAt image r
-entry-told image t h r p q e = e ∙ entry-read image t h r p q
+entry-told image t h r p q e = e ∙ entry-read image t h r (tables-told image t h p q) q

@@ -1,10 +1,12 @@
 // The prepared image and its tables (src/token_tree.rs, whose arena the image replaces). Nothing is asked of a caller: a byte that
 // is missing counts as 0.
 ghost use mathlib.Core.Path.{_≡_};
-ghost use Prim.Native.Nat.{_+_, _*_, _^_, _<_};
-ghost use lib.ListN.{getD};
-ghost use Rattle.def_image.specs.Image.{u32At, counts, tables, componentCount, recordCount, literalWidth, startAt, entryAt};
-ghost use Rattle.token_tree.specs.Tables.{countsOf, tablesOf, entryOf, SameFrom, stopIn, entryIn};
+ghost use Prim.Native.Nat.{_+_, _*_, _^_, _<_, _≤_};
+ghost use lib.Dec.{eqb};
+ghost use lib.ListN.{length, getD};
+ghost use Rattle.def_numbers.specs.Basics.{if_then_else_};
+ghost use Rattle.def_image.specs.Image.{u32At, counts, tablesFor, tables, componentCount, recordCount, literalWidth, startAt, entryAt};
+ghost use Rattle.token_tree.specs.Tables.{countsOf, tablesOf, entryOf, SameFrom, entryIn};
 
 // A text place, a record number and a component number, kept apart as the crate keeps its pointers.
 pub struct PText(pub u32);
@@ -41,7 +43,8 @@ pub struct RecordEntry {
     pub byte: u8,
 }
 
-fn join4(a: u8, b: u8, c: u8, d: u8) -> u32
+// Little-endian.
+pub fn join4(a: u8, b: u8, c: u8, d: u8) -> u32
     ensures { λ r. ⌜ r ≡ a + 256 * b + 65536 * c + 16777216 * d ⌝ }
 {
     (a as u32) + 256 * (b as u32) + 65536 * (c as u32) + 16777216 * (d as u32)
@@ -61,6 +64,14 @@ fn byte_on(s: &[u8], at: usize, n: usize) -> u8
         return 0;
     }
     if n < s.len() - at { s[at + n] } else { 0 }
+}
+
+// Four bytes that are all there.
+fn four_at(s: &[u8], at: usize) -> u32
+    requires { ⌜ at + 4 ≤ length (now s) ⌝ }
+    ensures { λ r. ⌜ r ≡ u32At (now (s .entry)) at ⌝ }
+{
+    join4(s[at], s[at + 1], s[at + 2], s[at + 3])
 }
 
 // Four bytes of which some may be missing.
@@ -84,10 +95,11 @@ pub fn u32_at(s: &[u8], at: usize) -> u32
     if s.len() - 4 < at {
         return short_at(s, at);
     }
-    join4(s[at], s[at + 1], s[at + 2], s[at + 3])
+    four_at(s, at)
 }
 
-pub fn counts_of(image: &[u8]) -> Counts
+// The counts of an image of which some bytes may be missing.
+fn short_counts(image: &[u8]) -> Counts
     ensures { λ r. ⌜ countsOf r ≡ counts (now (image .entry)) ⌝ }
 {
     Counts {
@@ -99,10 +111,24 @@ pub fn counts_of(image: &[u8]) -> Counts
     }
 }
 
-pub fn tables_of(image: &[u8]) -> Tables
-    ensures { λ r. ⌜ tablesOf r ≡ tables (now (image .entry)) ⌝ }
+pub fn counts_of(image: &[u8]) -> Counts
+    ensures { λ r. ⌜ countsOf r ≡ counts (now (image .entry)) ⌝ }
 {
-    let h = counts_of(image);
+    if image.len() < 20 {
+        return short_counts(image);
+    }
+    Counts {
+        c: four_at(image, 0),
+        n: four_at(image, 4),
+        r: four_at(image, 8),
+        t: four_at(image, 12),
+        b: four_at(image, 16),
+    }
+}
+
+fn tables_for(h: Counts) -> Tables
+    ensures { λ r. ⌜ tablesOf r ≡ tablesFor (h .c) (h .n) (h .r) (h .t) (h .b) ⌝ }
+{
     let components = 40 + 4 * (h.c as usize);
     let records = components + 8 * (h.n as usize);
     let text = records + 12 * (h.r as usize);
@@ -115,6 +141,12 @@ pub fn tables_of(image: &[u8]) -> Tables
         literals,
         stop: literals + (h.b as usize),
     }
+}
+
+pub fn tables_of(image: &[u8]) -> Tables
+    ensures { λ r. ⌜ tablesOf r ≡ tables (now (image .entry)) ⌝ }
+{
+    tables_for(counts_of(image))
 }
 
 // The number of components of concatenation i.
@@ -164,14 +196,29 @@ fn no_further(s: &[u8], at: usize) -> usize
     if at < s.len() { at } else { s.len() }
 }
 
-// Where the text of record r of `count` stops: t, or the start that stands at `next`.
-fn stop_in(image: &[u8], next: usize, count: u32, t: u32, r: u32) -> u32
-    ensures { λ n. ⌜ n ≡ stopIn (now (image .entry)) next count t r ⌝ }
+// Where the text of record r of `count` stops: t, or the start that follows.
+pub fn stop_of(next: u32, count: u32, t: u32, r: u32) -> u32
+    ensures { λ n. ⌜ n ≡ (if eqb (r + 1) count then t else next) ⌝ }
 {
     if (r as usize) + 1 == (count as usize) {
         return t;
     }
-    u32_at(image, next)
+    next
+}
+
+// A record of whose bytes, or of the start after it, some may be missing.
+fn short_entry(image: &[u8], records: usize, text: usize, count: u32, t: u32, r: u32) -> RecordEntry
+    ensures { λ e. ⌜ entryOf e ≡ entryIn (now (image .entry)) records text count t r ⌝ }
+{
+    let at = no_further(image, records) + 12 * (r as usize);
+    let start = u32_at(image, at + 4);
+    RecordEntry {
+        kind: u32_at(image, at),
+        start: PText(start),
+        stop: PText(stop_of(u32_at(image, at + 16), count, t, r)),
+        skip: u32_at(image, at + 8),
+        byte: byte_at(image, no_further(image, text) + (start as usize)),
+    }
 }
 
 // Record r of a table at `records`, of `count` records, whose texts stand at `text` and stop at t. For any numbers.
@@ -186,12 +233,18 @@ pub fn entry_in(
     ensures { λ e. ⌜ entryOf e ≡ entryIn (now (image .entry)) records text count t r ⌝ }
 {
     let at = no_further(image, records) + 12 * (r as usize);
-    let start = u32_at(image, at + 4);
+    if image.len() < 20 {
+        return short_entry(image, records, text, count, t, r);
+    }
+    if image.len() - 20 < at {
+        return short_entry(image, records, text, count, t, r);
+    }
+    let start = four_at(image, at + 4);
     RecordEntry {
-        kind: u32_at(image, at),
+        kind: four_at(image, at),
         start: PText(start),
-        stop: PText(stop_in(image, at + 16, count, t, r)),
-        skip: u32_at(image, at + 8),
+        stop: PText(stop_of(four_at(image, at + 16), count, t, r)),
+        skip: four_at(image, at + 8),
         byte: byte_at(image, no_further(image, text) + (start as usize)),
     }
 }
@@ -200,7 +253,7 @@ pub fn entry_at(image: &[u8], r: PBind) -> RecordEntry
     ensures { λ e. ⌜ entryOf e ≡ entryAt (now (image .entry)) (r .0) ⌝ }
 {
     let h = counts_of(image);
-    let t = tables_of(image);
+    let t = tables_for(h);
     entry_in(image, t.records, t.text, h.r, h.t, r.0)
 }
 

@@ -6,8 +6,9 @@ use Rattle.token_tree.proofs.entry_at.Tie as tie
 returns : tie.Need-returns
 returns c =
     let a = c .before .before .before .before .args in
-    entry-told (a .image .now) (c .before .tables-of .result) (c .before .before .counts-of .result) (a .r .0)
-    (c .before .tables-of .ensures) (c .before .before .counts-of .ensures) (c .entry-in .ensures)
+    let t = c .before .tables-for in
+    let h = c .before .before .counts-of in
+    entry-told (a .image .now) (t .result) (h .result) (a .r .0) (t .ensures) (h .ensures) (c .entry-in .ensures)
 
 pub entry-at-spec : {M : Type 1} → statement M
 entry-at-spec = tie.close (tie.spec (λ c κs. search needs) (λ c κs. search needs) (λ c κs. search needs) returns)

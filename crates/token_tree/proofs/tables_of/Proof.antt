@@ -1,29 +1,12 @@
--- The sums are those of `tablesFor`, over the counts that were read.
-use mathlib.Core.Path.{ap}
 use borrow.Author.Needs.{needs}
-use Rattle.def_image.specs.Image.{tablesFor}
+use Rattle.token_tree.proofs.Entries.{tables-told}
 use Rattle.token_tree.proofs.tables_of.Statement.{statement}
 use Rattle.token_tree.proofs.tables_of.Tie as tie
 
 returns : tie.Need-returns
-returns c = ap (λ h. tablesFor (h .c) (h .n) (h .r) (h .t) (h .b)) (c .before .before .before .before .before .counts-of .ensures)
+returns c =
+    let h = c .before .counts-of in
+    tables-told (c .before .before .before .args .image .now) (c .tables-for .result) (h .result) (c .tables-for .ensures) (h .ensures)
 
 pub tables-of-spec : {M : Type 1} → statement M
-tables-of-spec =
-    tie.close
-    (tie.spec
-    (λ c κs. search needs)
-    (λ c. search needs)
-    (λ c. search needs)
-    (λ c. search needs)
-    (λ c. search needs)
-    (λ c. search needs)
-    (λ c. search needs)
-    (λ c. search needs)
-    (λ c. search needs)
-    (λ c. search needs)
-    (λ c. search needs)
-    (λ c. search needs)
-    (λ c. search needs)
-    (λ c. search needs)
-    returns)
+tables-of-spec = tie.close (tie.spec (λ c κs. search needs) (λ c κs. search needs) returns)
