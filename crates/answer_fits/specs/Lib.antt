@@ -1,4 +1,5 @@
 -- The answer of an image that passes the check fits the area that the run asks for.
+pub mod Accepts
 pub mod Fixed
 pub mod Kept
 pub mod Merged

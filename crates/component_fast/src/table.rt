@@ -7,18 +7,12 @@ ghost use Rattle.def_image.specs.Image.{u32At, tables};
 ghost use Rattle.items.specs.Run.{lengthAt};
 ghost use Rattle.component_fast.specs.Table.{lenAt, plainByte, isWord, isDot, dotAt, bracketAt};
 
-fn join4(a: u8, b: u8, c: u8, d: u8) -> u32
-    ensures { λ r. ⌜ r ≡ a + 256 * b + 65536 * c + 16777216 * d ⌝ }
-{
-    (a as u32) + 256 * (b as u32) + 65536 * (c as u32) + 16777216 * (d as u32)
-}
-
 // Four bytes of which none is missing: one load.
 pub(crate) fn number_at(s: &[u8], at: usize) -> u32
     requires { ⌜ at + 4 ≤ length (now s) ⌝ }
     ensures { λ r. ⌜ r ≡ u32At (now (s .entry)) at ⌝ }
 {
-    join4(s[at], s[at + 1], s[at + 2], s[at + 3])
+    token_tree::join4(s[at], s[at + 1], s[at + 2], s[at + 3])
 }
 
 // Where the entry of record r stands.

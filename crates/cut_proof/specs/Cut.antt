@@ -24,7 +24,8 @@ use Rattle.cutting.specs.Statement.{Given, Premises, Same, BitKept, Cutting, tr
 use Rattle.cut_stages.specs.Statement.{bareTree, early, later, InTurn, CutEarly, CutLater, CutParsed, Cuttable, bitsBetween, pieceComponents}
 use Rattle.cut_bits.specs.Places.{same-place}
 use Rattle.cut_bits.specs.Holding.{holds-bit}
-use Rattle.cut_proof.specs.Assemble.{on-ok, Accepts, run-accepts, accepts-run}
+use Rattle.answer_fits.specs.Accepts.{Accepts, run-accepts, accepts-run}
+use Rattle.cut_proof.specs.Assemble.{on-ok}
 use Rattle.cut_proof.specs.Bare.{erase-placed, erase-place}
 
 -- a node of a tree passes what all of them pass

@@ -3,20 +3,18 @@
 use mathlib.Core.Path.{_≡_, refl, ap}
 use Prim.Native.Nat.{_≤_, _<_}
 use native.Mathlib.Omega.{arith}
-use Rattle.def_numbers.specs.Prelude.{ℕ, _+_, _*_, _/_, _%_, _^_, List, [], _∷_, length, leb}
+use Rattle.def_numbers.specs.Prelude.{ℕ, _+_, _*_, _/_, _%_, _^_, List, [], _∷_, length}
 use Rattle.def_numbers.specs.Basics.{Result, ok, refused, _>>=_}
-use Rattle.def_numbers.specs.Limits.{areaNeeded}
-use Rattle.def_numbers.specs.Refusals.{need, mode-above-2, short-area}
-use Rattle.def_image.specs.Image.{counts, treeOf}
+use Rattle.def_image.specs.Image.{treeOf}
 use Rattle.def_image.specs.Check.{checkImage}
 use Rattle.def_image.specs.Tree.{imageOf}
 use Rattle.def_run.specs.Answer.{Answer, answerBytes}
 use Rattle.def_run.specs.Listing.{programArea}
 use Rattle.def_run.specs.Run.{run, stages}
 use Rattle.def_examples.specs.Compute.{computed}
-use Rattle.laws.specs.Results.{bind-ok, ok-same}
 use Rattle.laws.specs.Tests.{tested}
 use Rattle.prepared_back.specs.Every.{all-tested}
+use Rattle.answer_fits.specs.Accepts.{run-accepts}
 use Rattle.answer_fits.specs.Proved.{answer-fits}
 use Rattle.refusal_places.specs.Run.{refusal-places}
 use Rattle.refusal_places.specs.Witness.{variable, literal}
@@ -47,14 +45,9 @@ answer-short image mode a h e =
     omega (arith, f .room, q .0 .0 .0 .0 .1, q .0 .0 .0 .1 .1, q .1)
 
 pub accepted-length : (image : List ℕ) (mode area : ℕ) (bytes : List ℕ) → run image mode area ≡ ok bytes → length bytes ≤ programArea
-unfolding run
 accepted-length image mode area bytes e =
-    let first = bind-ok (need (leb mode 2) mode-above-2) _ e in
-    let second = bind-ok (checkImage image) _ (first .2) in
-    let third = bind-ok (need (leb (areaNeeded ((counts image) .c) ((counts image) .n) ((counts image) .b)) area) short-area) _ (second .2) in
-    let fourth = bind-ok (stages mode (treeOf image)) (λ a. ok (answerBytes a)) (third .2) in
-    let same : answerBytes (fourth .0) ≡ bytes = ok-same refl (fourth .2) in
-    rw same at (answer-short image mode (fourth .0) (second .1) (fourth .1))
+    let h = run-accepts image mode area bytes e in
+    rw (h .bytes) at (answer-short image mode (h .said) (h .checked) (h .staged))
 
 pub accepted-split : (image : List ℕ) (mode area : ℕ) (bytes : List ℕ) → run image mode area ≡ ok bytes
     → (codeOn image mode area ≡ length bytes) × (codeOn image mode area < 2 ^ 32)

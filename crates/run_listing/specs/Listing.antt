@@ -4,18 +4,17 @@ use Prim.Native.Nat.{_≤_, _<_}
 use native.Mathlib.Nat.{le-trans}
 use native.Mathlib.Omega.{arith}
 use lib.Dec.{lit≤}
-use Rattle.def_numbers.specs.Prelude.{ℕ, _+_, _*_, _-_, _^_, List, [], _∷_, length, take, leb}
+use Rattle.def_numbers.specs.Prelude.{ℕ, _+_, _*_, _-_, _^_, List, [], _∷_, length, take}
 use Rattle.def_numbers.specs.Basics.{Result, ok, refused, joined}
-use Rattle.def_numbers.specs.Limits.{limits, areaNeeded, maxInput}
-use Rattle.def_numbers.specs.Refusals.{need, mode-above-2, short-area}
+use Rattle.def_numbers.specs.Limits.{limits, maxInput}
 use Rattle.def_image.specs.Image.{counts, treeOf}
 use Rattle.def_image.specs.Check.{checkImage}
 use Rattle.def_run.specs.Answer.{Answer, components, answerBytes}
 use Rattle.def_run.specs.Listing.{listing, programArea, output}
 use Rattle.def_run.specs.Run.{run, stages}
-use Rattle.laws.specs.Results.{bind-ok, ok-same}
 use Rattle.laws.specs.Tests.{tested}
 use Rattle.prepared_back.specs.Every.{all-tested}
+use Rattle.answer_fits.specs.Accepts.{run-accepts}
 use Rattle.answer_fits.specs.Statement.{Fits}
 use Rattle.answer_fits.specs.Proved.{answer-fits}
 use Rattle.answer_read.specs.Facts.{the-given}
@@ -67,14 +66,9 @@ answer-listing image mode a h e = go (counted image h) (answer-fits image h mode
 
 accepted-listing : (image : List ℕ) (mode area : ℕ) (bytes : List ℕ) → run image mode area ≡ ok bytes
     → length (listing image (ok bytes)) ≤ longestListing
-unfolding run
 accepted-listing image mode area bytes e =
-    let first = bind-ok (need (leb mode 2) mode-above-2) _ e in
-    let second = bind-ok (checkImage image) _ (first .2) in
-    let third = bind-ok (need (leb (areaNeeded ((counts image) .c) ((counts image) .n) ((counts image) .b)) area) short-area) _ (second .2) in
-    let fourth = bind-ok (stages mode (treeOf image)) (λ a. ok (answerBytes a)) (third .2) in
-    let same : answerBytes (fourth .0) ≡ bytes = ok-same refl (fourth .2) in
-    rw same at (answer-listing image mode (fourth .0) (second .1) (fourth .1))
+    let h = run-accepts image mode area bytes e in
+    rw (h .bytes) at (answer-listing image mode (h .said) (h .checked) (h .staged))
 
 -- ---- every run
 

@@ -9,8 +9,8 @@ use state::start;
 use tree::Cursor;
 use turn::turn;
 ghost use mathlib.Core.Path.{_≡_};
-ghost use Rattle.stage3.specs.Check.{CheckIs};
-ghost use Rattle.stage3.specs.Tally.{tallyOf, totalOf, foundOf, answerOf, endOf};
+ghost use Rattle.stage3.specs.Tally.{noTally, tallyOf, totalOf, foundOf, answerOf, endOf};
+ghost use Rattle.stage3.specs.Walk.{walk};
 
 mod shape;
 mod state;
@@ -60,9 +60,10 @@ fn ended(i: u32, s: State) -> CheckResult
     }
 }
 
-// Concatenation i, of n components from a cursor: 34, 30, 31, 32 by component, then 33.
+// Concatenation i, of n components from a cursor: each component's stages 1 and 2, then its 34, 30, 31, 32; after the last one 33. What
+// this says of the definition's stages is `check-is` (specs/Whole).
 pub fn check(image: &[u8], i: u32, c: Cursor, n: u32) -> CheckResult
-    ensures { λ r. ⌜ CheckIs (now (image .entry)) i c n r ⌝ }
+    ensures { λ r. ⌜ answerOf r ≡ walk (now (image .entry)) i 0 c n noTally ⌝ }
 {
     let mut s = start();
     let mut at = c;

@@ -4,7 +4,6 @@ use Prim.Native.Nat.{_≤_, _<_, _-_, _+_}
 use native.Mathlib.Omega.{arith}
 use Rattle.stage3.specs.Tally.{Tally, noTally, tallyOf}
 use Rattle.stage3.specs.Walk.{walk}
-use Rattle.stage3.specs.Whole.{check-is}
 use Rattle.stage3.proofs.Loops.{walk-start, walk-end, walk-on, walk-off, next-merged}
 use Rattle.stage3.proofs.check.Statement.{statement}
 use Rattle.stage3.proofs.check.Tie as tie
@@ -37,8 +36,7 @@ returns c =
     let t = c .before .before .before .turn in
     let v = c .before .q .given in
     let h : l .j < a .n = omega arith in
-    check-is (a .image .now) (a .i) (a .c) (a .n) _
-    (walk-off (a .image .now) (a .i) (l .j) (l .at) (a .n) (tallyOf (l .s)) (t .result) h (t .ensures) (v .0 .0) (v .1) ∙ sym (l .inv .2))
+    walk-off (a .image .now) (a .i) (l .j) (l .at) (a .n) (tallyOf (l .s)) (t .result) h (t .ensures) (v .0 .0) (v .1) ∙ sym (l .inv .2)
 
 loop-again : tie.Need-loop-again Inv-loop μ-loop
 loop-again c =
@@ -60,8 +58,7 @@ returns-2 c =
     let a = c .before .before .before .before .before .args in
     let l = c .before .before .loop in
     let h : a .n ≤ l .j = omega arith in
-    check-is (a .image .now) (a .i) (a .c) (a .n) _
-    (c .ended .ensures ∙ sym (l .inv .2 ∙ walk-end (a .image .now) (a .i) (l .j) (l .at) (a .n) (tallyOf (l .s)) h))
+    c .ended .ensures ∙ sym (l .inv .2 ∙ walk-end (a .image .now) (a .i) (l .j) (l .at) (a .n) (tallyOf (l .s)) h)
 
 pub check-spec : {M : Type 1} → statement M
 check-spec =

@@ -5,6 +5,7 @@ use Prim.Native.Nat.{_<_, _-_, _^_}
 use native.Mathlib.Omega.{arith}
 use lib.ListN.{length, length-set}
 use Rattle.tree.specs.Chain.{atMost}
+use Rattle.stage3.specs.Whole.{check-is}
 use Rattle.layout_run.proofs.Turns.{Walked, walk-start, walk-refused, walk-next, walk-end}
 use Rattle.layout_run.proofs.concatenations.check_all.Statement.{statement}
 use Rattle.layout_run.proofs.concatenations.check_all.Tie as tie
@@ -37,7 +38,7 @@ returns c =
     let m = c .before .before .before .before .at-most in
     let r = c .before .before .before .check in
     walk-refused (a .image .now) (a .count) (a .n) (l .i) (l .c) (l .left) (l .cs) (l .sizes) (l .merged) (m .result) (c .before .before .before .before .before .before .loop-test .taken)
-    (m .ensures .0 ∙ ap (λ x. atMost x (l .left)) (c .before .before .before .before .before .component-count .ensures)) (l .inv .2) (r .result) (r .ensures) _ (c .before .q .given .1)
+    (m .ensures .0 ∙ ap (λ x. atMost x (l .left)) (c .before .before .before .before .before .component-count .ensures)) (l .inv .2) (r .result) (check-is (a .image .now) (l .i) (l .c) (m .result) (r .result) (r .ensures)) _ (c .before .q .given .1)
 
 sub-left : tie.Need-sub-left Inv-loop μ-loop
 sub-left c = c .before .before .before .before .before .before .before .at-most .ensures .1
@@ -56,7 +57,7 @@ loop-again c =
       simp length-set (l .inv .0),
       simp length-set (l .inv .1),
       rw (c .advanced .ensures) (walk-next (a .image .now) (a .count) (a .n) (l .i) (l .c) (l .left) (l .cs) (l .sizes) (l .merged) (m .result) (c .before .before .before .before .before .before .before .before .before .loop-test .taken)
-          (m .ensures .0 ∙ ap (λ x. atMost x (l .left)) (c .before .before .before .before .before .before .before .before .component-count .ensures)) (l .inv .2) (r .result) (r .ensures) f (c .before .before .before .before .f .given .1) b p q),
+          (m .ensures .0 ∙ ap (λ x. atMost x (l .left)) (c .before .before .before .before .before .before .before .before .component-count .ensures)) (l .inv .2) (r .result) (check-is (a .image .now) (l .i) (l .c) (m .result) (r .result) (r .ensures)) f (c .before .before .before .before .f .given .1) b p q),
     )
 
 cast-t30 : tie.Need-cast-t30 Inv-loop μ-loop
