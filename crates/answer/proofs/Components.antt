@@ -21,8 +21,9 @@ use Rattle.usb.specs.Usb.{partOf, usbOf, optionUsbOf, usbrOf}
 use Rattle.answer.specs.declared.Fields.{Fields}
 use Rattle.answer.specs.declared.Kind.{Kind}
 use Rattle.answer.specs.declared.Kind.the-variants.{Literal, Variable, Filler}
-use Rattle.answer.specs.Kinds.{HasKind, fieldsOf, hasEnd, endOrZero}
-use Rattle.answer.specs.Sizes.{length-text}
+use Rattle.answer.specs.Kinds.{HasKind, fieldsOf}
+use Rattle.answer_words.specs.Numbers.{hasEnd, endOrZero}
+use Rattle.answer_words.specs.Sizes.{length-text}
 
 module _ (image : List ℕ) (text base : ℕ) where
   -- what is written of the fields

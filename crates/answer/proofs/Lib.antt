@@ -1,5 +1,4 @@
 -- Laws over plain variables that the functions' proofs cite.
 pub mod Blocks
-pub mod Words
 pub mod Components
 pub mod Heads

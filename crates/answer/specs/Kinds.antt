@@ -3,9 +3,6 @@ use mathlib.Core.Path.{_≡_}
 use Rattle.def_numbers.specs.Prelude.{ℕ, List, length}
 use Rattle.def_stages.specs.Component.{ComponentType, literal, variable, filler}
 use Rattle.usb.specs.declared.Part.{Part}
-use Rattle.usb.specs.declared.Usb.{Usb}
-use Rattle.usb.specs.declared.OptionUsb.{OptionUsb}
-use Rattle.usb.specs.declared.OptionUsb.the-variants as O
 use Rattle.usb.specs.Usb.{partOf}
 use Rattle.answer.specs.declared.Fields.{Fields}
 use Rattle.answer.specs.declared.Kind.{Kind}
@@ -25,12 +22,3 @@ abbrev pub fieldsOf : Kind → ℕ → Fields
 fieldsOf (Literal w) offset = record { kind = 1; text = none; width = w; offset = offset }
 fieldsOf (Variable p) offset = record { kind = 2; text = p; width = 0; offset = 0 }
 fieldsOf Filler offset = record { kind = 3; text = none; width = 0; offset = 0 }
-
-abbrev pub hasEnd : OptionUsb → ℕ
-hasEnd (O.Some u) = 1
-hasEnd O.None = 0
-
--- an end, or the bound that is written as zeros
-abbrev pub endOrZero : OptionUsb → Usb
-endOrZero (O.Some u) = u
-endOrZero O.None = record { s = none; x = record { high = 0; low = 0 } }

@@ -1,131 +1,29 @@
 // The answer area (document 01): writers of its blocks into a lent area. Each writes its bytes from a place on, those that lie
 // inside the area, and leaves all other bytes as they were.
-mod values;
-
-use misc::I128;
+use answer_words::end_or_zero;
+use answer_words::flags;
+use answer_words::has_end;
+use answer_words::put_text;
+use answer_words::put_u32;
+use answer_words::put_usb;
+use answer_words::put_width;
 use misc::OptionUsize;
 use usb::Part;
-use usb::Usb;
 use usb::Usbr;
-use values::end_or_zero;
-use values::flags;
-use values::has_end;
-use values::text_start;
-use values::width_number;
 ghost use mathlib.Core.Path.{_≡_};
-ghost use mathlib.Core.List.{List, [], _∷_, _++_};
-ghost use Prim.Native.Nat.{ℕ, _+_, _/_, _%_, _^_, _≤_, _<_};
+ghost use mathlib.Core.List.{List, _++_};
+ghost use Prim.Native.Nat.{ℕ, _+_};
 ghost use lib.ListN.{length};
 ghost use lib.Seq.{sets};
 ghost use Rattle.def_image.specs.Tree.{u32};
 ghost use Rattle.def_stages.specs.Text as Text;
 ghost use Rattle.def_stages.specs.Component.{Component};
 ghost use Rattle.def_stages.specs.Concatenation.{Concatenation};
-ghost use Rattle.def_run.specs.Answer.{Answer, widthBytes, textBytes, xBytes, usbBytes, componentBytes, concatenationBytes, headBytes};
-ghost use Rattle.misc.specs.Value.{optionUsize, valueOf};
-ghost use Rattle.usb.specs.Usb.{usbOf, usbrOf};
+ghost use Rattle.def_run.specs.Answer.{Answer, textBytes, componentBytes, concatenationBytes, headBytes};
+ghost use Rattle.misc.specs.Value.{optionUsize};
+ghost use Rattle.usb.specs.Usb.{usbrOf};
 ghost use Rattle.answer.specs.Heads.{IsConcatenation, IsHead, initOf, startText};
 ghost use Rattle.answer.specs.Kinds.{HasKind, fieldsOf};
-
-fn put_byte(area: &mut [u8], at: usize, b: u8)
-    ensures { λ _. ⌜ now (area .exit) ≡ sets (now (area .entry)) at (b ∷ []) ⌝ }
-{
-    if at < area.len() {
-        area[at] = b;
-    }
-}
-
-// Four bytes that all lie inside the area.
-fn put_four(area: &mut [u8], at: usize, a: u8, b: u8, c: u8, d: u8)
-    requires { ⌜ at + 4 ≤ length (now area) ⌝ }
-    ensures { λ _. ⌜ now (area .exit) ≡ sets (now (area .entry)) at (a ∷ b ∷ c ∷ d ∷ []) ⌝ }
-{
-    area[at] = a;
-    area[at + 1] = b;
-    area[at + 2] = c;
-    area[at + 3] = d;
-}
-
-// Those of four bytes that lie inside the area.
-fn put_inside(area: &mut [u8], at: usize, a: u8, b: u8, c: u8, d: u8)
-    requires { ⌜ at < length (now area) ⌝ }
-    ensures { λ _. ⌜ now (area .exit) ≡ sets (now (area .entry)) at (a ∷ b ∷ c ∷ d ∷ []) ⌝ }
-{
-    put_byte(area, at, a);
-    put_byte(area, at + 1, b);
-    put_byte(area, at + 2, c);
-    put_byte(area, at + 3, d);
-}
-
-// Little-endian. Past the area's end there is nothing to write, and before it no sum below wraps. With room for all four bytes they
-// are one store.
-pub fn put_u32(area: &mut [u8], at: usize, n: u32)
-    ensures { λ _. ⌜ now (area .exit) ≡ sets (now (area .entry)) at (u32 n) ⌝ }
-{
-    let a = (n % 256) as u8;
-    let b = (n / 256 % 256) as u8;
-    let c = (n / 65536 % 256) as u8;
-    let d = (n / 16777216 % 256) as u8;
-    if area.len() <= at {
-        return;
-    }
-    if 4 <= area.len() - at {
-        put_four(area, at, a, b, c, d);
-    } else {
-        put_inside(area, at, a, b, c, d);
-    }
-}
-
-// Two numbers of 32 bits, the low half first.
-pub fn put_u64(area: &mut [u8], at: usize, n: u64)
-    ensures { λ _. ⌜ now (area .exit) ≡ sets (now (area .entry)) at (u32 (n % 2 ^ 32) ++ u32 (n / 2 ^ 32)) ⌝ }
-{
-    if area.len() <= at {
-        return;
-    }
-    put_u32(area, at, (n % 4294967296) as u32);
-    put_u32(area, at + 4, (n / 4294967296) as u32);
-}
-
-pub fn put_width(area: &mut [u8], at: usize, w: OptionUsize)
-    ensures { λ _. ⌜ now (area .exit) ≡ sets (now (area .entry)) at (widthBytes (optionUsize w)) ⌝ }
-{
-    put_u64(area, at, width_number(w));
-}
-
-// The text of every part with this offset and this number of bytes.
-pub fn put_text(area: &mut [u8], at: usize, base: u32, p: Part)
-    ensures { λ _. ⌜ ((d : Text.Part) → d .at ≡ p .at → length (d .bytes) ≡ p .len
-        → now (area .exit) ≡ sets (now (area .entry)) at (textBytes base d)) ⌝ }
-{
-    if area.len() <= at {
-        return;
-    }
-    put_u32(area, at, text_start(base, p));
-    put_u32(area, at + 4, (p.len % 4294967296) as u32);
-}
-
-// Two's complement in 16 bytes, the low half first.
-pub fn put_x(area: &mut [u8], at: usize, x: I128)
-    ensures { λ _. ⌜ now (area .exit) ≡ sets (now (area .entry)) at (xBytes (valueOf x)) ⌝ }
-{
-    if area.len() <= at {
-        return;
-    }
-    put_u64(area, at, x.low);
-    put_u64(area, at + 8, x.high);
-}
-
-pub fn put_usb(area: &mut [u8], at: usize, base: u32, u: Usb)
-    ensures { λ _. ⌜ ((image : List ℕ) (text : ℕ)
-        → now (area .exit) ≡ sets (now (area .entry)) at (usbBytes base (usbOf image text u))) ⌝ }
-{
-    if area.len() <= at {
-        return;
-    }
-    put_text(area, at, base, u.s);
-    put_x(area, at + 8, u.x);
-}
 
 // What a component is: a literal of so many bits, a variable with its text, or a filler.
 pub enum Kind {

@@ -7,8 +7,8 @@ use Rattle.def_image.specs.Tree.{u32}
 use Rattle.def_run.specs.Answer.{widthBytes, textBytes, headBytes}
 use Rattle.misc.specs.Value.{optionUsize}
 use Rattle.usb.specs.Usb.{partOf}
-use Rattle.answer.specs.Writing.{sets-out, six-blocks}
-use Rattle.answer.proofs.Blocks.{length-bytes}
+use Rattle.answer_words.specs.Writing.{sets-out, six-blocks}
+use Rattle.answer_words.proofs.Blocks.{length-bytes}
 use Rattle.answer.proofs.Heads.{head-of}
 use Rattle.answer.proofs.put_head.Statement.{statement}
 use Rattle.answer.proofs.put_head.Tie as tie

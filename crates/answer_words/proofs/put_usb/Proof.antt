@@ -5,11 +5,11 @@ use borrow.Author.Needs.{needs}
 use Rattle.def_run.specs.Answer.{textBytes, xBytes, usbBytes}
 use Rattle.misc.specs.Value.{valueOf}
 use Rattle.usb.specs.Usb.{partOf, usbOf}
-use Rattle.answer.specs.Writing.{sets-out, and-then}
-use Rattle.answer.specs.Sizes.{length-text}
-use Rattle.answer.proofs.Blocks.{length-bytes}
-use Rattle.answer.proofs.put_usb.Statement.{statement}
-use Rattle.answer.proofs.put_usb.Tie as tie
+use Rattle.answer_words.specs.Writing.{sets-out, and-then}
+use Rattle.answer_words.specs.Sizes.{length-text}
+use Rattle.answer_words.proofs.Blocks.{length-bytes}
+use Rattle.answer_words.proofs.put_usb.Statement.{statement}
+use Rattle.answer_words.proofs.put_usb.Tie as tie
 
 returns : tie.Need-returns
 returns c = let a = c .before .before .args in λ image text. sets-out _ _ (usbBytes (a .base) (usbOf image text (a .u))) (c .if1 .taken)

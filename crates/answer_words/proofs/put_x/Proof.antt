@@ -9,10 +9,10 @@ use borrow.Author.Needs.{needs}
 use Rattle.def_image.specs.Tree.{u32}
 use Rattle.def_run.specs.Answer.{xBytes}
 use Rattle.misc.specs.Value.{valueOf}
-use Rattle.answer.specs.Writing.{sets-out, and-then}
-use Rattle.answer.proofs.Words.{x-of}
-use Rattle.answer.proofs.put_x.Statement.{statement}
-use Rattle.answer.proofs.put_x.Tie as tie
+use Rattle.answer_words.specs.Writing.{sets-out, and-then}
+use Rattle.answer_words.proofs.Words.{x-of}
+use Rattle.answer_words.proofs.put_x.Statement.{statement}
+use Rattle.answer_words.proofs.put_x.Tie as tie
 
 returns : tie.Need-returns
 returns c = sets-out _ _ (xBytes (valueOf (c .before .before .args .x))) (c .if1 .taken)

@@ -4,9 +4,9 @@ use mathlib.Core.Path.{ap, _∙_}
 use lib.Seq.{sets}
 use borrow.Author.Needs.{needs}
 use Rattle.misc.specs.Value.{optionUsize}
-use Rattle.answer.proofs.Blocks.{wide-of}
-use Rattle.answer.proofs.put_width.Statement.{statement}
-use Rattle.answer.proofs.put_width.Tie as tie
+use Rattle.answer_words.proofs.Blocks.{wide-of}
+use Rattle.answer_words.proofs.put_width.Statement.{statement}
+use Rattle.answer_words.proofs.put_width.Tie as tie
 
 returns : tie.Need-returns
 returns c =

@@ -2,9 +2,9 @@
 -- Assumes nothing.
 use mathlib.Core.List.{[], _∷_}
 use borrow.Author.Needs.{needs}
-use Rattle.answer.specs.Writing.{sets-out}
-use Rattle.answer.proofs.put_byte.Statement.{statement}
-use Rattle.answer.proofs.put_byte.Tie as tie
+use Rattle.answer_words.specs.Writing.{sets-out}
+use Rattle.answer_words.proofs.put_byte.Statement.{statement}
+use Rattle.answer_words.proofs.put_byte.Tie as tie
 
 returns-2 : tie.Need-returns-2
 returns-2 c = sets-out _ _ (_ ∷ []) (c .if1 .left)

@@ -4,9 +4,9 @@ use mathlib.Core.Path.{refl}
 use borrow.Author.Needs.{needs}
 use native.Mathlib.Omega.{arith}
 use lib.ListN.{length-set}
-use Rattle.answer.specs.Writing.{four}
-use Rattle.answer.proofs.put_four.Statement.{statement}
-use Rattle.answer.proofs.put_four.Tie as tie
+use Rattle.answer_words.specs.Writing.{four}
+use Rattle.answer_words.proofs.put_four.Statement.{statement}
+use Rattle.answer_words.proofs.put_four.Tie as tie
 
 slice-write-area-2 : tie.Need-slice-write-area-2
 slice-write-area-2 c = let h = c .pre in simp length-set (omega arith)

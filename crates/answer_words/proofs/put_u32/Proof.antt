@@ -2,9 +2,9 @@
 -- Assumes nothing.
 use borrow.Author.Needs.{needs}
 use Rattle.def_image.specs.Tree.{u32}
-use Rattle.answer.specs.Writing.{sets-out}
-use Rattle.answer.proofs.put_u32.Statement.{statement}
-use Rattle.answer.proofs.put_u32.Tie as tie
+use Rattle.answer_words.specs.Writing.{sets-out}
+use Rattle.answer_words.proofs.put_u32.Statement.{statement}
+use Rattle.answer_words.proofs.put_u32.Tie as tie
 
 returns : tie.Need-returns
 returns c = sets-out _ _ (u32 _) (c .if1 .taken)

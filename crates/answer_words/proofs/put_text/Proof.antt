@@ -6,10 +6,10 @@ use lib.Seq.{sets}
 use borrow.Author.Needs.{needs}
 use Rattle.def_image.specs.Tree.{u32}
 use Rattle.def_run.specs.Answer.{textBytes}
-use Rattle.answer.specs.Writing.{sets-out, and-then}
-use Rattle.answer.proofs.Blocks.{text-of}
-use Rattle.answer.proofs.put_text.Statement.{statement}
-use Rattle.answer.proofs.put_text.Tie as tie
+use Rattle.answer_words.specs.Writing.{sets-out, and-then}
+use Rattle.answer_words.proofs.Blocks.{text-of}
+use Rattle.answer_words.proofs.put_text.Statement.{statement}
+use Rattle.answer_words.proofs.put_text.Tie as tie
 
 returns : tie.Need-returns
 returns c = λ d _ _. sets-out _ _ (textBytes (c .before .before .args .base) d) (c .if1 .taken)

@@ -14,7 +14,7 @@ use Rattle.def_image.specs.Tree.{u32}
 use Rattle.def_run.specs.Answer.{twos, xBytes}
 use Rattle.misc.specs.Value.{bits, valueOf}
 use Rattle.misc.specs.declared.I128.{I128}
-use Rattle.answer.proofs.Blocks.{u32-mod}
+use Rattle.answer_words.proofs.Blocks.{u32-mod}
 
 -- turned over in two halves of a base, and back
 turned : (B h l : ℕ) → h < B → l < B → B * B - suc ((B - 1 - h) * B + (B - 1 - l)) ≡ h * B + l

@@ -1,9 +1,9 @@
 -- `answer::put_inside` meets its contract: four bytes, one next to the other, past the area's end none.
 -- Assumes nothing.
 use borrow.Author.Needs.{needs}
-use Rattle.answer.specs.Writing.{four}
-use Rattle.answer.proofs.put_inside.Statement.{statement}
-use Rattle.answer.proofs.put_inside.Tie as tie
+use Rattle.answer_words.specs.Writing.{four}
+use Rattle.answer_words.proofs.put_inside.Statement.{statement}
+use Rattle.answer_words.proofs.put_inside.Tie as tie
 
 returns : tie.Need-returns
 returns c =

@@ -5,9 +5,9 @@ use mathlib.Core.List.{_++_}
 use Prim.Native.Nat.{_/_, _%_, _^_}
 use borrow.Author.Needs.{needs}
 use Rattle.def_image.specs.Tree.{u32}
-use Rattle.answer.specs.Writing.{sets-out, and-then}
-use Rattle.answer.proofs.put_u64.Statement.{statement}
-use Rattle.answer.proofs.put_u64.Tie as tie
+use Rattle.answer_words.specs.Writing.{sets-out, and-then}
+use Rattle.answer_words.proofs.put_u64.Statement.{statement}
+use Rattle.answer_words.proofs.put_u64.Tie as tie
 
 returns : tie.Need-returns
 returns c = let n = c .before .before .args .n in sets-out _ _ (u32 (n % 2 ^ 32) ++ u32 (n / 2 ^ 32)) (c .if1 .taken)
