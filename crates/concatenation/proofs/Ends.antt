@@ -8,10 +8,10 @@ use Rattle.def_numbers.specs.Refusals.{refuse, numberOf, no-common-width, oppos
 use Rattle.def_stages.specs.Concatenation.{Concatenation}
 use Rattle.def_stages.specs.Overall.{Overall, overallFrom, overall, placeFrom, stage4}
 use Rattle.misc.specs.declared.OptionUsize.the-variants as U
-use Rattle.concatenation.specs.declared.align.FillerAlign.the-variants as A
+use Rattle.alignment.specs.declared.align.FillerAlign.the-variants as A
 use Rattle.concatenation.specs.declared.overall.Place.the-variants as P
 use Rattle.concatenation.specs.declared.overall.Summary.{Summary}
-use Rattle.concatenation.specs.Align.{alignOf}
+use Rattle.alignment.specs.Align.{alignOf}
 use Rattle.concatenation.specs.Overall.{isOpposite, oppositeAt, commonOf, checksOf}
 use Rattle.concatenation.proofs.Turns.{At}
 

@@ -1,6 +1,4 @@
 -- Laws over plain values that the functions' proofs cite.
-pub mod Widths
-pub mod Steps
 pub mod Summaries
 pub mod Turns
 pub mod Ends

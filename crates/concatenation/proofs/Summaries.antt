@@ -7,8 +7,8 @@ use Rattle.def_numbers.specs.Refusals.{need, refuse, middle-filler, unequal-wid
 use Rattle.def_stages.specs.Concatenation.{Concatenation, FillerAlign, isAlign, align-mid}
 use Rattle.def_stages.specs.Overall.{Overall, joinWidth, checkSource, overall, joinAlign, isSided}
 use Rattle.misc.specs.Value.{optionUsize}
-use Rattle.concatenation.specs.Align.{alignOf}
-use Rattle.concatenation.specs.declared.align.FillerAlign.{FillerAlign as Align}
+use Rattle.alignment.specs.Align.{alignOf}
+use Rattle.alignment.specs.declared.align.FillerAlign.{FillerAlign as Align}
 use Rattle.concatenation.specs.declared.overall.Summary.{Summary}
 use Rattle.concatenation.specs.Overall.{HasSummary, StartsAs, joined, turn, placeOf, middleAt, isOpposite}
 

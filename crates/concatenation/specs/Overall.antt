@@ -9,7 +9,7 @@ use Rattle.def_stages.specs.Concatenation.{Concatenation, FillerAlign, isAlign,
 use Rattle.def_stages.specs.Overall.{Overall, placeFrom, isFiller, joinAlign, joinWidth, checkSource, middleFrom, oppositeFrom, isSided}
 use Rattle.misc.specs.Value.{optionUsize}
 use Rattle.errors.specs.Refused.{refusedAs}
-use Rattle.concatenation.specs.Align.{alignOf}
+use Rattle.alignment.specs.Align.{alignOf}
 use Rattle.concatenation.specs.declared.overall.Overall.{Overall as Now}
 use Rattle.concatenation.specs.declared.overall.Summary.{Summary}
 use Rattle.concatenation.specs.declared.overall.Place.{Place}

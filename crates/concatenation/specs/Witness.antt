@@ -12,9 +12,9 @@ use Rattle.def_stages.specs.Overall.{placeFrom}
 use Rattle.misc.specs.Value.{valueOf}
 use Rattle.misc.specs.declared.OptionI128.the-variants as I
 use Rattle.misc.specs.declared.OptionUsize.the-variants as U
-use Rattle.concatenation.specs.declared.align.FillerAlign.the-variants as A
+use Rattle.alignment.specs.declared.align.FillerAlign.the-variants as A
 use Rattle.concatenation.specs.declared.overall.Place.the-variants as P
-use Rattle.concatenation.specs.Running.{HasShape}
+use Rattle.running_check.specs.Running.{HasShape}
 use Rattle.concatenation.specs.Overall.{Summarised, none-left, one-more}
 
 -- two bits, a variable, and `..`

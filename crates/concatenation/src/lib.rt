@@ -1,26 +1,22 @@
-// Stages 3 and 4 over small values (src/concatenation.rs): alignments, the running check of a concatenation, and what the
-// concatenations say together.
-mod align;
-mod flags;
-mod lent;
+// Stage 4 over small values (src/concatenation.rs): what the concatenations say together. Alignments and stage 3's running check are
+// passed on.
 mod overall;
-mod running;
 mod together;
 
-pub use align::FillerAlign;
-pub use align::align_number;
-pub use align::join_align;
-pub use lent::advance;
-pub use lent::lent_once;
+pub use alignment::FillerAlign;
+pub use alignment::align_number;
+pub use alignment::join_align;
 pub use overall::Overall;
 pub use overall::OverallResult;
 pub use overall::Place;
 pub use overall::Summary;
-pub use running::Advanced;
-pub use running::Running;
-pub use running::Shape;
-pub use running::Stepped;
-pub use running::advance_value;
-pub use running::finish;
-pub use running::step;
+pub use running_check::Advanced;
+pub use running_check::Running;
+pub use running_check::Shape;
+pub use running_check::Stepped;
+pub use running_check::advance;
+pub use running_check::advance_value;
+pub use running_check::finish;
+pub use running_check::lent_once;
+pub use running_check::step;
 pub use together::stage4;

@@ -1,8 +1,8 @@
 // Stage 4 over an array of summaries, of which the first n count (all 16 where n is larger).
-use crate::align::FillerAlign;
-use crate::align::is_align;
-use crate::align::is_opposite;
-use crate::flags::both;
+use alignment::FillerAlign;
+use alignment::is_align;
+use alignment::is_opposite;
+use alignment::both;
 use crate::overall::Overall;
 use crate::overall::OverallResult;
 use crate::overall::Place;
@@ -22,7 +22,7 @@ ghost use Rattle.def_stages.specs.Concatenation.{Concatenation};
 ghost use Rattle.def_stages.specs.Overall.{overallFrom, overall, middleFrom, oppositeFrom, placeFrom, stage4 as stage4Of};
 ghost use Rattle.errors.specs.Refused.{resultOf};
 ghost use Rattle.misc.specs.Value.{optionUsize};
-ghost use Rattle.concatenation.specs.Align.{alignOf};
+ghost use Rattle.alignment.specs.Align.{alignOf};
 ghost use Rattle.concatenation.specs.Overall.{placeOf, overallOf, answerOf, HasSummary, Summarised, middleAt, isOpposite, oppositeAt, commonOf, onlyOf, middleOf, oppositeOf, checksOf};
 
 fn refused_at(number: u32, i: u32, k: u32) -> Checked

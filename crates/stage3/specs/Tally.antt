@@ -16,7 +16,7 @@ use Rattle.component.specs.declared.places.Place.{Place}
 use Rattle.component.specs.declared.values.Component.{Component as CodeComponent}
 use Rattle.component.specs.declared.values.ComponentType.{ComponentType}
 use Rattle.concatenation.specs.Running.{runningOf, kindOf, stepOf, finishOf}
-use Rattle.concatenation.specs.declared.running.Running.{Running as Now}
+use Rattle.running_check.specs.declared.running.Running.{Running as Now}
 use Rattle.concatenation.specs.Overall.{placeOf}
 use Rattle.stage3.specs.Count.{oneMore}
 use Rattle.stage3.specs.declared.Found.{Found}

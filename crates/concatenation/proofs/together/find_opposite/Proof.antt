@@ -8,7 +8,7 @@ use borrow.Author.Needs.{needs}
 use lib.ListN.{take, drop}
 use Rattle.def_stages.specs.Concatenation.{Concatenation}
 use Rattle.def_stages.specs.Overall.{placeFrom}
-use Rattle.concatenation.specs.Align.{alignOf}
+use Rattle.alignment.specs.Align.{alignOf}
 use Rattle.concatenation.specs.Overall.{Summarised, isOpposite}
 use Rattle.concatenation.proofs.Summaries.{opposite-is}
 use Rattle.concatenation.proofs.Turns.{turn-at, end-at, place-on, place-here, place-end}
