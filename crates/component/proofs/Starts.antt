@@ -14,13 +14,13 @@ use Rattle.usb.specs.Usb as Usb
 use Rattle.usb.specs.declared.Part.{Part}
 use Rattle.items.specs.Run.{inReach, itemsAt, itemsIn}
 use Rattle.items.specs.declared.Run.{Run}
-use Rattle.component.specs.Ends as Ends
-use Rattle.component.specs.Prefix.{partsOf, colonIn}
+use Rattle.component_text.specs.Ends as Ends
+use Rattle.component_text.specs.Prefix.{partsOf, colonIn}
 use Rattle.component.specs.Places.{wholeOf, unparsedIn, placedAt, middleOf}
-use Rattle.component.specs.declared.ends.Split as code
+use Rattle.component_text.specs.declared.ends.Split as code
 use Rattle.component.specs.declared.places.Place.{Place}
-use Rattle.component.specs.declared.prefix.Colon.{Colon}
-use Rattle.component.specs.declared.prefix.Colon.the-variants as C
+use Rattle.component_text.specs.declared.prefix.Colon.{Colon}
+use Rattle.component_text.specs.declared.prefix.Colon.the-variants as C
 
 -- ---- the items of a component
 

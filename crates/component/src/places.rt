@@ -1,9 +1,9 @@
 // A component in the image, and what stands before its records' range and after its starting value.
-use super::begins::is_empty;
-use super::ends::Split;
-use super::ends::split_range;
-use super::prefix::Colon;
-use super::prefix::split_colon;
+use component_text::is_empty;
+use component_text::Split;
+use component_text::split_range;
+use component_text::Colon;
+use component_text::split_colon;
 use errors::Refusal;
 use items::Run;
 use usb::Part;
@@ -12,7 +12,7 @@ ghost use mathlib.Core.List.{List, [], _∷_};
 ghost use Prim.Native.Nat.{ℕ};
 ghost use Rattle.def_stages.specs.Component.{splitOf, startingValue};
 ghost use Rattle.items.specs.Run.{itemsIn};
-ghost use Rattle.component.specs.Ends.{splitIn};
+ghost use Rattle.component_text.specs.Ends.{splitIn};
 ghost use Rattle.component.specs.Places.{wholeOf, unparsedIn, placedAt, middleOf, startIn};
 
 // A component's records, the bytes of the image where its text and its literal begin, and its literal's width.

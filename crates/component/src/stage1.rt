@@ -1,6 +1,6 @@
 // Stage 1 of a component: 11 to 17.
-use super::begins::is_empty;
-use super::ends::OptionRun;
+use component_text::is_empty;
+use component_text::OptionRun;
 use super::places::Place;
 use super::places::middle;
 use super::places::parts_of;

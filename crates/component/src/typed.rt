@@ -1,6 +1,6 @@
 // A component's type: "else a text beginning with `-` or a digit makes it a literal, any other a variable".
-use super::begins::is_literal;
-use super::begins::part_of;
+use component_text::is_literal;
+use component_text::part_of;
 use super::places::Place;
 use super::values::Bits;
 use super::values::Component;

@@ -1,0 +1,14 @@
+// The text of one component (src/component.rs): its bracket at the end, what stands before a colon, and what it begins with. Nothing is
+// asked of a caller: a run out of reach has no items.
+mod begins;
+mod ends;
+mod prefix;
+
+pub use begins::is_empty;
+pub use begins::is_literal;
+pub use begins::part_of;
+pub use ends::OptionRun;
+pub use ends::Split;
+pub use ends::split_range;
+pub use prefix::Colon;
+pub use prefix::split_colon;
