@@ -15,10 +15,10 @@ use Rattle.errors.specs.Refused.{refusedAs, resultOf}
 use Rattle.errors.specs.declared.Refusal.{Refusal}
 use Rattle.errors.specs.declared.Checked.{Checked}
 use Rattle.errors.specs.declared.Checked.the-variants as K
-use Rattle.ranges.specs.Literal.{bothOf, cutOf, resultCut}
-use Rattle.ranges.specs.declared.literal.CutLiteral.{CutLiteral}
-use Rattle.ranges.specs.declared.literal.CutResult.{CutResult}
-use Rattle.ranges.specs.declared.literal.CutResult.the-variants as C
+use Rattle.literal_range.specs.Literal.{bothOf, cutOf, resultCut}
+use Rattle.literal_range.specs.declared.literal.CutLiteral.{CutLiteral}
+use Rattle.literal_range.specs.declared.literal.CutResult.{CutResult}
+use Rattle.literal_range.specs.declared.literal.CutResult.the-variants as C
 use Rattle.usb.specs.Usb.{partOf, usbOf, usbrOf, resultUsbr}
 use Rattle.usb.specs.declared.Part.{Part}
 use Rattle.usb.specs.declared.Usbr.{Usbr}

@@ -7,13 +7,13 @@ use super::values::ComponentType;
 use super::values::cut;
 use super::values::ordered;
 use errors::Checked;
-use ranges::CutResult;
+use literal_range::CutResult;
 use usb::Part;
 use usb::ResultUsbr;
 use usb::Usbr;
 ghost use mathlib.Core.Path.{_≡_};
 ghost use Rattle.def_stages.specs.Component.{simplify};
-ghost use Rattle.ranges.specs.Literal.{bothOf};
+ghost use Rattle.literal_range.specs.Literal.{bothOf};
 ghost use Rattle.usb.specs.Usb.{partOf, usbrOf};
 ghost use Rattle.component.specs.Values.{bitsOf, componentOf, resultIn};
 ghost use Rattle.component.specs.Stage2.{variableOf, fillerOf, FillerIs};
@@ -22,7 +22,7 @@ fn simplify_literal(image: &[u8], place: Place, b: Bits, range: Usbr) -> Compone
     ensures { λ r. ⌜ resultIn (now (image .entry)) place r ≡ bothOf (bitsOf (now (image .entry)) place b) (usbrOf (now (image .entry)) (place .text) range) ⌝ }
 {
     let bits = ordered(place.width as usize, b);
-    let s = ranges::simplify_both(image, place.text, bits.to - bits.from, range);
+    let s = literal_range::simplify_both(image, place.text, bits.to - bits.from, range);
     match s {
         CutResult::Ok(c) => {
             let kept = cut(bits, c.from, c.to);

@@ -57,7 +57,7 @@ fn is_there(e: OptionUsb) -> bool
 fn is_zero(u: Usb) -> bool
     ensures { λ r. ⌜ ((image : List ℕ) (text : ℕ) → r ≡ isZero (usbOf image text u)) ⌝ }
 {
-    let OptionI128::Some(x) = ranges::static_val(u) else {
+    let OptionI128::Some(x) = bounds::static_val(u) else {
         return false;
     };
     misc::is_zero(x)
@@ -70,7 +70,7 @@ fn full_end(e: OptionUsb, w: usize) -> bool
     let OptionUsb::Some(u) = e else {
         return true;
     };
-    let OptionI128::Some(x) = ranges::static_val(u) else {
+    let OptionI128::Some(x) = bounds::static_val(u) else {
         return false;
     };
     has_size(x, w)

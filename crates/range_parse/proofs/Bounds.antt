@@ -20,28 +20,19 @@ use Rattle.items.proofs.Reach.{reach-facts}
 use Rattle.usb.specs.Usb.{partOf, usbOf}
 use Rattle.usb.specs.declared.Part.{Part}
 use Rattle.range_parse.specs.Bound.{partBetween, sidesBy}
-use Rattle.range_parse.specs.Sides.{joinParts, join-is}
-use Rattle.range_parse.specs.Signs.{chosenOf, SignsAre, SignIs}
+use Rattle.bound_steps.specs.Sides.{joinParts, join-is}
+use Rattle.bound_steps.specs.Signs.{chosenOf}
+use Rattle.range_parse.specs.Signs.{SignsAre, SignIs}
 use Rattle.range_parse.specs.Walked.{Mark, Marked, passed, signAt, cutAt}
-use Rattle.range_parse.specs.declared.sides.Sides.{Sides}
+use Rattle.bound_steps.specs.declared.sides.Sides.{Sides}
 use Rattle.range_parse.specs.declared.signs.Found.{Found}
-use Rattle.range_parse.specs.declared.signs.Sign.{Sign}
-use Rattle.range_parse.specs.declared.signs.Signs.{Signs}
+use Rattle.bound_steps.specs.declared.signs.Sign.{Sign}
+use Rattle.bound_steps.specs.declared.signs.Signs.{Signs}
 use Rattle.range_parse.proofs.Search.{cut-none, cut-some}
 use Rattle.range_parse.proofs.Texts.{part-is}
 use Rattle.range_parse.proofs.Walks.{length-add, length-one}
 
 -- ---- the sign of the cut
-
-module _ (s : Signs) where
-  pub chosen-plus : (s .plus .left ≡ 0 → ⊥) → record { run = s .plus; negative = false } ≡ chosenOf s
-  chosen-plus h = rw (ne-eqb (s .plus .left) 0 h)
-
-  pub chosen-pair : s .plus .left ≡ 0 → (s .pair .left ≡ 0 → ⊥) → record { run = s .pair; negative = true } ≡ chosenOf s
-  chosen-pair z h = rw (eq-eqb (s .plus .left) 0 z, ne-eqb (s .pair .left) 0 h)
-
-  pub chosen-minus : s .plus .left ≡ 0 → s .pair .left ≡ 0 → record { run = s .minus; negative = true } ≡ chosenOf s
-  chosen-minus z h = rw (eq-eqb (s .plus .left) 0 z, eq-eqb (s .pair .left) 0 h)
 
 module _ (image : List ℕ) (text : ℕ) (run : Run) where
   held : (s : Run) (o : Option Cut) → eqb (s .left) 0 ≡ false → orElse (cutAt image text run s) o ≡ cutAt image text run s

@@ -23,22 +23,18 @@ use Rattle.usb.specs.declared.Usb.{Usb}
 use Rattle.usb.specs.declared.OptionUsb.the-variants as O
 use Rattle.usb.specs.declared.ResultUsb.{ResultUsb}
 use Rattle.usb.specs.declared.ResultUsb.the-variants as U
-use Rattle.range_parse.specs.Range.{raisedBy, endedBy, rangeOf, rangedBy, scannedAs, scannedRange, range-some}
+use Rattle.range_parse.specs.Range.{endedBy, rangeOf, rangedBy, scannedAs, scannedRange, range-some}
 use Rattle.range_parse.specs.Scan.{scanOf, resultScan, ScanIs, Places}
-use Rattle.range_parse.specs.Sides.{boundOf}
+use Rattle.bound_steps.specs.Sides.{raisedBy}
 use Rattle.range_parse.specs.Walked.{Walked, passed}
 use Rattle.range_parse.specs.declared.scan.Scan.{Scan}
 use Rattle.range_parse.specs.declared.scan.Scanned.{Scanned}
 use Rattle.range_parse.specs.declared.scan.Scanned.the-variants as S
-use Rattle.range_parse.proofs.Joined.{same-refusal, with-narrow}
+use Rattle.bound_steps.proofs.Joined.{same-refusal}
 use Rattle.range_parse.proofs.Lone.{items-in}
 use Rattle.range_parse.proofs.Texts.{items-begin}
 
 -- ---- answers
-
-raised-not : (m : Result Ranges.Usb) → m ≡ raisedBy false m
-raised-not (ok u) = refl
-raised-not (refused n i k) = refl
 
 bind-last : {B C D : Type 0} (r : Result B) (f : B → C) (h : C → D) → ((r >>= λ b. ok (f b)) >>= λ c. ok (h c)) ≡ (r >>= λ b. ok (h (f b)))
 bind-last (ok b) f h = refl
@@ -50,17 +46,6 @@ bind-end (ok a) g f h = bind-last (g a) f h
 bind-end (refused n i k) g f h = refl
 
 module _ (image : List ℕ) (text : ℕ) where
-  pub raised-same : (u : ResultUsb) (b : Bool) → b ≡ false → resultUsb image text u ≡ raisedBy b (resultUsb image text u)
-  raised-same u b e = rw e (raised-not (resultUsb image text u))
-
-  pub raised-refused : (u : ResultUsb) (b : Bool) (r : Refusal) → u ≡ U.Refused r → resultUsb image text u ≡ raisedBy b (resultUsb image text u)
-  raised-refused u b r e = rw e
-
-  pub raised-one : (u : ResultUsb) (b : Bool) (e : Usb) (one : I128) (o : OptionI128) → u ≡ U.Ok e → b ≡ true → valueOf one ≡ pos 1
-      → optionOf o ≡ narrow (valueOf (e .x) +ℤ valueOf one) → boundOf (partOf image text (e .s)) (optionOf o) ≡ raisedBy b (resultUsb image text u)
-  raised-one u b e one o p t v n =
-      rw (p, t) (with-narrow (partOf image text (e .s)) (valueOf (e .x) +ℤ pos 1) (optionOf o) (n ∙ ap (λ z. narrow (valueOf (e .x) +ℤ z)) v))
-
   -- ---- the start
 
   module _ (run : Run) (h : inReach text run ≡ true) where

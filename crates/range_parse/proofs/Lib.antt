@@ -2,9 +2,7 @@
 pub mod Bounds
 pub mod Cuts
 pub mod Dots
-pub mod Joined
 pub mod Lone
-pub mod Marks
 pub mod Scans
 pub mod Search
 pub mod Steps

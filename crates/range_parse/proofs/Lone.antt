@@ -12,7 +12,7 @@ use Rattle.errors.specs.declared.Refusal.{Refusal}
 use Rattle.items.specs.Run.{Taken, Ended, itemsAt, itemsOf, itemsIn, itemIs, inReach}
 use Rattle.items.specs.declared.Item.{Item}
 use Rattle.items.specs.declared.Run.{Run}
-use Rattle.range_parse.proofs.Joined.{same-refusal}
+use Rattle.bound_steps.proofs.Joined.{same-refusal}
 use Rattle.range_parse.proofs.Texts.{items-begin}
 use Rattle.range_parse.proofs.Walks.{items-none, items-next, walked-start}
 

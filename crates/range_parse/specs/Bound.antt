@@ -3,8 +3,8 @@ use Rattle.def_numbers.specs.Prelude.{ℕ, _+_, _-_, Bool, true, not, eqb}
 use Rattle.def_numbers.specs.Basics.{if_then_else_}
 use Rattle.items.specs.declared.Run.{Run}
 use Rattle.usb.specs.declared.Part.{Part}
-use Rattle.range_parse.specs.declared.signs.Sign.{Sign}
-use Rattle.range_parse.specs.declared.sides.Sides.{Sides}
+use Rattle.bound_steps.specs.declared.signs.Sign.{Sign}
+use Rattle.bound_steps.specs.declared.sides.Sides.{Sides}
 
 -- the text of items from an offset up to another, if there are any
 abbrev pub partBetween : Bool → ℕ → ℕ → Part

@@ -2,6 +2,5 @@
 pub mod Bound
 pub mod Range
 pub mod Scan
-pub mod Sides
 pub mod Signs
 pub mod Walked

@@ -10,6 +10,7 @@ use Rattle.errors.specs.Refused.{refusedAs}
 use Rattle.items.specs.Run.{itemsOf}
 use Rattle.items.specs.declared.Run.{Run}
 use Rattle.usb.specs.Usb.{usbrOf}
+use Rattle.bound_steps.specs.Sides.{raisedBy}
 use Rattle.range_parse.specs.Walked.{passed}
 use Rattle.range_parse.specs.declared.range.RangeResult.{RangeResult}
 use Rattle.range_parse.specs.declared.range.RangeResult.the-variants as R
@@ -19,10 +20,6 @@ abbrev pub rangeResult : List ℕ → ℕ → RangeResult → Result (Option Ran
 rangeResult image text (R.Range r) = ok (some (usbrOf image text r))
 rangeResult image text R.NoRange = ok none
 rangeResult image text (R.Refused r) = refusedAs r
-
--- "`..=` adds 1 to x of the end if there is one"
-abbrev pub raisedBy : Bool → Result Ranges.Usb → Result Ranges.Usb
-raisedBy inclusive u = u >>= λ e. if inclusive then withX bound-overflow (e .s) (e .x +ℤ pos 1) else ok e
 
 -- with a start that was read
 abbrev pub endedBy : Ranges.Usb → Bool → List Text.Item → Result (Option Ranges.Usbr)

@@ -1,8 +1,8 @@
 // A bound: "It is written as one token or one `(` group."
-use crate::sides;
-use crate::sides::Sides;
+use bound_steps::Sides;
+use bound_steps::Sign;
+use bound_steps::chosen;
 use crate::signs;
-use crate::signs::Sign;
 use errors::refuse;
 use items::Next;
 use items::Run;
@@ -65,7 +65,7 @@ fn read_bound(image: &[u8], text: usize, run: Run) -> ResultUsb
 {
     let found = signs::signs_in(image, text, run);
     let end = found.end;
-    let s = signs::chosen(found.signs);
+    let s = chosen(found.signs);
     let original = part_between(run.left != 0, run.at, end);
     let sign = s.run;
     if sign.left == 0 {
@@ -74,7 +74,7 @@ fn read_bound(image: &[u8], text: usize, run: Run) -> ResultUsb
             x: misc::usize_to_i128(0),
         });
     }
-    sides::join(image, text, original, sides_of(run, s, end))
+    bound_steps::join(image, text, original, sides_of(run, s, end))
 }
 
 // One item and no more: a token, or a group in parentheses, which is read inside.

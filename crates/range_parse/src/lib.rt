@@ -7,5 +7,4 @@ pub use range::parse_range;
 mod bound;
 mod range;
 mod scan;
-mod sides;
 mod signs;

@@ -1,9 +1,9 @@
 // A range: "A range is cut at its one top-level `..` or `..=`."
+use bound_steps::raised;
 use crate::bound::parse_usb;
 use crate::scan;
 use crate::scan::Scan;
 use crate::scan::Scanned;
-use crate::sides::bound_of;
 use errors::Refusal;
 use errors::refuse;
 use items::Run;
@@ -19,7 +19,7 @@ ghost use Prim.Native.Nat.{ℕ};
 ghost use Rattle.def_stages.specs.Ranges.{parseStart, parseRange};
 ghost use Rattle.items.specs.Run.{inReach, itemsIn, itemsOf};
 ghost use Rattle.usb.specs.Usb.{usbOf, resultUsb};
-ghost use Rattle.range_parse.specs.Range.{rangeResult, raisedBy, endedBy, rangedBy, scannedRange};
+ghost use Rattle.range_parse.specs.Range.{rangeResult, endedBy, rangedBy, scannedRange};
 ghost use Rattle.range_parse.specs.Scan.{ScanIs};
 ghost use Rattle.range_parse.specs.Walked.{Walked};
 
@@ -42,20 +42,6 @@ fn parse_start(image: &[u8], text: usize, run: Run) -> ResultUsb
         });
     }
     parse_usb(image, text, run)
-}
-
-// "`..=` adds 1 to x of the end if there is one"
-fn raised(u: ResultUsb, inclusive: bool) -> ResultUsb
-    ensures { λ r. ⌜ ((image : List ℕ) (text : ℕ) → resultUsb image text r ≡ raisedBy inclusive (resultUsb image text u)) ⌝ }
-{
-    if !inclusive {
-        return u;
-    }
-    let ResultUsb::Ok(e) = u else {
-        return u;
-    };
-    let s = e.s;
-    bound_of(s, misc::checked_add(e.x, misc::usize_to_i128(1)))
 }
 
 // The range from a start to the end that stands in the run after the dots; "an empty end is none".

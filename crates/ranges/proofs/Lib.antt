@@ -1,7 +1,2 @@
-pub mod Answers
-pub mod Bounds
-pub mod Bytes
-pub mod Cuts
-pub mod Literals
-pub mod Missing
+-- Laws over plain values that the functions' proofs cite.
 pub mod Ranges

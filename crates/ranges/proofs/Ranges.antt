@@ -28,9 +28,10 @@ use Rattle.usb.specs.declared.ResultUsb.the-variants as U
 use Rattle.usb.specs.Usb.{bytesOf, usbOf, optionUsbOf, usbrOf, resultUsb}
 use Rattle.ranges.specs.declared.range.ResultEnd.{ResultEnd}
 use Rattle.ranges.specs.declared.range.ResultEnd.the-variants as E
-use Rattle.ranges.specs.Checks.{needed, andThen, passes, endNumber, endVal, isSome, isNumberEnd, widthOf, rangeChecks, checkedRange, restOf, resultEnd}
-use Rattle.ranges.proofs.Answers.{need-is}
-use Rattle.ranges.proofs.Bounds.{empty-is, end-is}
+use Rattle.bounds.specs.Checks.{needed, andThen, passes, endNumber, endVal}
+use Rattle.ranges.specs.Checks.{isSome, isNumberEnd, widthOf, rangeChecks, checkedRange, restOf, resultEnd}
+use Rattle.bounds.proofs.Answers.{need-is}
+use Rattle.bounds.proofs.Bounds.{empty-is, end-is}
 
 module _ (image : List ℕ) (at : ℕ) where
   numbers : (a : Usb) (e : OptionUsb) → (eqb (a .s .len) 0 && isNumberEnd e) ≡ staticRange (usbrOf image at (record { start = a; «end» = e }))

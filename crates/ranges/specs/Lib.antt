@@ -1,3 +1,2 @@
--- The tests of ranges on plain numbers, and the cut of a literal.
+-- The tests of ranges on plain numbers.
 pub mod Checks
-pub mod Literal

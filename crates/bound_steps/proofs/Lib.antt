@@ -1,0 +1,3 @@
+-- Laws over plain values that the functions' proofs cite.
+pub mod Joined
+pub mod Marks

@@ -1,0 +1,3 @@
+-- What the steps of reading a bound give.
+pub mod Sides
+pub mod Signs

@@ -1,0 +1,2 @@
+-- The tests of bounds on plain numbers.
+pub mod Checks
