@@ -1,0 +1,2 @@
+-- Further witnesses of the cutting claim.
+pub mod Further
