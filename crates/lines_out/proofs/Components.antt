@@ -11,7 +11,8 @@ use Rattle.def_image.specs.Image.{u32At, bytesAt, tables}
 use Rattle.def_run.specs.Answer.{widthAt, textAt, untwos, boundAt, fieldAt}
 use Rattle.def_run.specs.Listing.{hex, shown, signed, boundWord, endWord, fieldLine}
 use Rattle.digits_out.specs.Put.{Put, _⨾_, read-as, put-nothing}
-use Rattle.lines_out.specs.Parts.{spaced, kindWord, contentAt, endAt, field-parts}
+use Rattle.line_words.specs.Spaced.{spaced}
+use Rattle.lines_out.specs.Parts.{kindWord, contentAt, endAt, field-parts}
 
 -- ---- the kind
 

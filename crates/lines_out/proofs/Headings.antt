@@ -1,15 +1,14 @@
--- Line 1, a concatenation's own line, and a refusal's, put together from what was written.
+-- Line 1, a concatenation's own line, put together from what was written.
 use mathlib.Core.Path.{_≡_, refl, sym, ap, _∙_}
 use borrow.Author.Tests.{eq-eqb, ne-eqb}
 use Rattle.def_numbers.specs.Prelude.{ℕ, _+_, _*_, _/_, _%_, List, [], _∷_, _++_}
 use Rattle.def_numbers.specs.Basics.{ascii}
 use Rattle.def_image.specs.Image.{u32At}
 use Rattle.def_run.specs.Answer.{widthAt, textAt, groupAt}
-use Rattle.def_run.specs.Listing.{line, decimal, shown, isSet, flagWord, summaryWords, listing}
-use Rattle.errors.specs.Refused.{refusedAs}
-use Rattle.errors.specs.declared.Refusal.{Refusal}
+use Rattle.def_run.specs.Listing.{line, decimal, shown, isSet, flagWord, summaryWords}
 use Rattle.digits_out.specs.Put.{Put, _⨾_, read-as}
-use Rattle.lines_out.specs.Parts.{spaced, spaced-one, line-counted, line-last, headLine, groupLine}
+use Rattle.line_words.specs.Spaced.{spaced, line-counted, line-last}
+use Rattle.lines_out.specs.Parts.{headLine, groupLine}
 
 -- ---- the starting value
 
@@ -47,13 +46,3 @@ put-group-of s i size align flags width e f g h x y a b c =
   where
     same : line ((99 ∷ []) ∷ decimal i ∷ decimal size ∷ summaryWords width align flags) ≡ groupLine i (groupAt s i)
     same = rw (e, f, g, h)
-
--- ---- a refusal
-
-refusing : (w a b c : List ℕ) → w ++ ((32 ∷ a) ++ ((32 ∷ b) ++ ((32 ∷ c) ++ (10 ∷ [])))) ≡ line (w ∷ a ∷ b ∷ c ∷ [])
-refusing w a b c = ap (λ (x : List ℕ). w ++ ((32 ∷ a) ++ ((32 ∷ b) ++ (x ++ (10 ∷ []))))) (sym (spaced-one c)) ∙ line-counted w a b (c ∷ [])
-
-pub put-refusal-of : {l m n o p t : List ℕ} {at q r u v z : ℕ} (a : Refusal) → Put l at (ascii "refused") m q → Put m q (32 ∷ decimal (a .number)) n r
-    → Put n r (32 ∷ decimal (a .concatenation)) o u → Put o u (32 ∷ decimal (a .component)) p v → Put p v (10 ∷ []) t z → Put l at (listing [] (refusedAs a)) t z
-unfolding listing
-put-refusal-of a x y b c d = read-as (refusing (ascii "refused") (decimal (a .number)) (decimal (a .concatenation)) (decimal (a .component))) (x ⨾ y ⨾ b ⨾ c ⨾ d)

@@ -1,4 +1,3 @@
 -- Laws that the proofs cite.
 pub mod Components
 pub mod Headings
-pub mod Wording

@@ -6,36 +6,9 @@ use Rattle.laws.specs.Tests.{by-test}
 use Rattle.def_numbers.specs.Prelude.{ℕ, Bool, true, false, List, [], _∷_, _++_, map, reverse, eqb, _+_, Option, none, some}
 use Rattle.def_numbers.specs.Basics.{if_then_else_, joined, tab, ascii}
 use Rattle.def_image.specs.Image.{u32At, bytesAt, bytesFor}
+use Rattle.line_words.specs.Spaced.{spaced, line-parts}
 use Rattle.def_run.specs.Answer.{Field, Group, Bound, widthAt, textAt, boundAt, groupAt, fieldAt, readAnswer}
 use Rattle.def_run.specs.Listing.{line, decimal, hex, shown, boundWord, endWord, summaryWords, flagWord, isSet, fieldLine, groupLines, answerLines}
-
--- words, each with a space before it
-unfoldable pub spaced : List (List ℕ) → List ℕ
-spaced [] = []
-spaced (w ∷ ws) = (32 ∷ w) ++ spaced ws
-
-pub spaced-append : (a b : List (List ℕ)) → spaced (a ++ b) ≡ spaced a ++ spaced b
-unfolding spaced
-spaced-append [] b = refl
-spaced-append (w ∷ a) b = rw (spaced-append a b, append-assoc)
-
-pub line-spaced : (w : List ℕ) (ws : List (List ℕ)) → line (w ∷ ws) ≡ w ++ (spaced ws ++ (10 ∷ []))
-unfolding line spaced
-line-spaced w [] = refl
-line-spaced w (v ∷ ws) = rw (line-spaced v ws, append-assoc)
-
--- a line that begins with two words after its first
-pub line-counted : (w a b : List ℕ) (ws : List (List ℕ)) → w ++ ((32 ∷ a) ++ ((32 ∷ b) ++ (spaced ws ++ (10 ∷ [])))) ≡ line (w ∷ a ∷ b ∷ ws)
-unfolding spaced
-line-counted w a b ws = sym (line-spaced w (a ∷ b ∷ ws) ∙ rw (append-assoc, append-assoc))
-
-pub spaced-one : (v : List ℕ) → spaced (v ∷ []) ≡ 32 ∷ v
-unfolding spaced
-spaced-one v = rw append-nil
-
--- and ends with one more
-pub line-last : (ws : List (List ℕ)) (v : List ℕ) → spaced ws ++ ((32 ∷ v) ++ (10 ∷ [])) ≡ spaced (ws ++ (v ∷ [])) ++ (10 ∷ [])
-line-last ws v = sym (rw (spaced-append ws (v ∷ []), append-assoc, spaced-one v))
 
 -- the end of the component at a place
 abbrev pub endAt : List ℕ → List ℕ → ℕ → Option Bound
@@ -53,9 +26,6 @@ contentWords kind literal text =
 abbrev pub contentAt : List ℕ → List ℕ → ℕ → ℕ → List (List ℕ)
 contentAt image s place literals =
     contentWords (u32At s place) (bytesAt s (literals + u32At s (place + 16)) (bytesFor (u32At s (place + 12)))) (textAt image s (place + 4))
-
-pub line-parts : (w : List ℕ) (a b : List (List ℕ)) → line (w ∷ (a ++ b)) ≡ w ++ (spaced a ++ (spaced b ++ (10 ∷ [])))
-line-parts w a b = line-spaced w (a ++ b) ∙ rw (spaced-append a b, append-assoc)
 
 pub field-parts : (f : Field) →
     fieldLine f ≡ kindWord (f .kind) ++ (spaced (boundWord (f .start) ∷ endWord (f .«end») ∷ []) ++ (spaced (contentWords (f .kind) (f .literal) (f .text)) ++ (10 ∷ [])))

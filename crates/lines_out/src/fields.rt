@@ -12,7 +12,8 @@ ghost use Rattle.def_image.specs.Image.{tables};
 ghost use Rattle.def_run.specs.Answer.{widthAt, textAt, boundAt, fieldAt};
 ghost use Rattle.def_run.specs.Listing.{shown, boundWord, endWord, fieldLine};
 ghost use Rattle.digits_out.specs.Put.{Put};
-ghost use Rattle.lines_out.specs.Parts.{spaced, kindWord, contentAt, endAt};
+ghost use Rattle.line_words.specs.Spaced.{spaced};
+ghost use Rattle.lines_out.specs.Parts.{kindWord, contentAt, endAt};
 
 // A number of two halves of 32 bits.
 pub(crate) fn width_at(s: &[u8], at: usize) -> u64

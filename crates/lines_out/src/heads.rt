@@ -1,18 +1,16 @@
-// Line 1, a concatenation's own line, and a refusal's.
+// Line 1, and a concatenation's own line.
 use crate::fields::put_text_at;
 use crate::fields::width_at;
-use crate::words::put_count;
-use crate::words::put_summary;
 use digits_out::put_byte;
 use digits_out::put_bytes;
-use errors::Refusal;
+use line_words::put_count;
+use line_words::put_summary;
 use token_tree::u32_at;
 ghost use mathlib.Core.Path.{_≡_};
-ghost use mathlib.Core.List.{[], _∷_};
+ghost use mathlib.Core.List.{_∷_};
 ghost use Rattle.def_image.specs.Image.{u32At};
 ghost use Rattle.def_run.specs.Answer.{textAt, groupAt};
-ghost use Rattle.def_run.specs.Listing.{shown, flagWord, isSet, listing};
-ghost use Rattle.errors.specs.Refused.{refusedAs};
+ghost use Rattle.def_run.specs.Listing.{shown, flagWord, isSet};
 ghost use Rattle.digits_out.specs.Put.{Put};
 ghost use Rattle.lines_out.specs.Parts.{headLine, groupLine};
 
@@ -59,16 +57,5 @@ pub fn put_group(out: &mut [u8], at: usize, s: &[u8], i: u32) -> usize
     let after = put_count(out, after, i as u64);
     let after = put_count(out, after, size as u64);
     let after = put_summary(out, after, width, align, flags);
-    put_byte(out, after, 10)
-}
-
-// A refusal's line.
-pub fn put_refusal(out: &mut [u8], at: usize, r: Refusal) -> usize
-    ensures { λ q. ⌜ Put (now (out .entry)) at (listing [] (refusedAs r)) (now (out .exit)) q ⌝ }
-{
-    let after = put_bytes(out, at, b"refused");
-    let after = put_count(out, after, r.number as u64);
-    let after = put_count(out, after, r.concatenation as u64);
-    let after = put_count(out, after, r.component as u64);
     put_byte(out, after, 10)
 }

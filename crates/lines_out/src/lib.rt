@@ -2,4 +2,3 @@
 // it; nothing is asked of a caller.
 pub mod fields;
 pub mod heads;
-mod words;

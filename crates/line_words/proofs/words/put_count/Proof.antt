@@ -1,8 +1,8 @@
 -- `lines_out::words::put_count` meets its contract.
-use Rattle.lines_out.proofs.Wording.{put-counted}
+use Rattle.line_words.proofs.Wording.{put-counted}
 use borrow.Author.Needs.{needs}
-use Rattle.lines_out.proofs.words.put_count.Statement.{statement}
-use Rattle.lines_out.proofs.words.put_count.Tie as tie
+use Rattle.line_words.proofs.words.put_count.Statement.{statement}
+use Rattle.line_words.proofs.words.put_count.Tie as tie
 
 returns : tie.Need-returns
 returns c = put-counted _ (c .before .before .before .before .before .before .put-byte .ensures) (c .before .before .put-decimal .ensures)

@@ -1,8 +1,8 @@
 -- `lines_out::words::put_width` meets its contract.
-use Rattle.lines_out.proofs.Wording.{put-no-width, put-width-of}
+use Rattle.line_words.proofs.Wording.{put-no-width, put-width-of}
 use borrow.Author.Needs.{needs}
-use Rattle.lines_out.proofs.words.put_width.Statement.{statement}
-use Rattle.lines_out.proofs.words.put_width.Tie as tie
+use Rattle.line_words.proofs.words.put_width.Statement.{statement}
+use Rattle.line_words.proofs.words.put_width.Tie as tie
 
 returns : tie.Need-returns
 returns c = put-no-width (c .before .before .before .before .before .before .before .args .width) (c .before .before .before .before .before .if1 .taken) (c .before .before .put-bytes .ensures)

@@ -1,9 +1,9 @@
 -- `lines_out::heads::put_refusal` meets its contract.
 use Rattle.def_numbers.specs.Basics.{ascii}
-use Rattle.lines_out.proofs.Headings.{put-refusal-of}
+use Rattle.line_words.proofs.Wording.{put-refusal-of}
 use borrow.Author.Needs.{needs}
-use Rattle.lines_out.proofs.heads.put_refusal.Statement.{statement}
-use Rattle.lines_out.proofs.heads.put_refusal.Tie as tie
+use Rattle.line_words.proofs.refusal.put_refusal.Statement.{statement}
+use Rattle.line_words.proofs.refusal.put_refusal.Tie as tie
 
 returns : tie.Need-returns
 unfolding ascii

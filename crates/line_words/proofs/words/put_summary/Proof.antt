@@ -1,8 +1,8 @@
 -- `lines_out::words::put_summary` meets its contract.
-use Rattle.lines_out.proofs.Wording.{put-summed}
+use Rattle.line_words.proofs.Wording.{put-summed}
 use borrow.Author.Needs.{needs}
-use Rattle.lines_out.proofs.words.put_summary.Statement.{statement}
-use Rattle.lines_out.proofs.words.put_summary.Tie as tie
+use Rattle.line_words.proofs.words.put_summary.Statement.{statement}
+use Rattle.line_words.proofs.words.put_summary.Tie as tie
 
 returns : tie.Need-returns
 returns c = put-summed (c .before .before .before .before .before .before .before .before .before .before .before .before .before .before .before .before .before .args .width) (c .before .before .before .before .before .before .before .before .before .before .before .before .before .before .before .before .before .args .align) (c .before .before .before .before .before .before .before .before .before .before .before .before .before .before .before .before .before .args .flags) (c .before .before .before .before .before .before .before .before .before .before .before .before .before .before .put-width .ensures) (c .before .before .before .before .before .before .before .before .before .before .put-align .ensures) (c .before .before .before .before .before .before .put-flag .ensures) (c .before .before .put-flag2 .ensures)

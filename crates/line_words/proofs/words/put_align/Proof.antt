@@ -1,9 +1,9 @@
 -- `lines_out::words::put_align` meets its contract.
 use Rattle.def_numbers.specs.Basics.{ascii}
-use Rattle.lines_out.proofs.Wording.{put-aligned, put-multiple}
+use Rattle.line_words.proofs.Wording.{put-aligned, put-multiple}
 use borrow.Author.Needs.{needs}
-use Rattle.lines_out.proofs.words.put_align.Statement.{statement}
-use Rattle.lines_out.proofs.words.put_align.Tie as tie
+use Rattle.line_words.proofs.words.put_align.Statement.{statement}
+use Rattle.line_words.proofs.words.put_align.Tie as tie
 
 returns : tie.Need-returns
 unfolding ascii

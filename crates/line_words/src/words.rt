@@ -6,9 +6,9 @@ ghost use mathlib.Core.Path.{_≡_};
 ghost use mathlib.Core.List.{[], _∷_};
 ghost use Rattle.def_run.specs.Listing.{decimal, widthWord, alignWord, flagWord, isSet, summaryWords};
 ghost use Rattle.digits_out.specs.Put.{Put};
-ghost use Rattle.lines_out.specs.Parts.{spaced};
+ghost use Rattle.line_words.specs.Spaced.{spaced};
 
-pub(crate) fn put_count(out: &mut [u8], at: usize, n: u64) -> usize
+pub fn put_count(out: &mut [u8], at: usize, n: u64) -> usize
     ensures { λ r. ⌜ Put (now (out .entry)) at (32 ∷ decimal n) (now (out .exit)) r ⌝ }
 {
     let place = put_byte(out, at, b' ');
@@ -56,7 +56,7 @@ fn put_flag(out: &mut [u8], at: usize, set: bool, letter: u8) -> usize
     put_byte(out, place, b'-')
 }
 
-pub(crate) fn put_summary(out: &mut [u8], at: usize, width: u64, align: u32, flags: u32) -> usize
+pub fn put_summary(out: &mut [u8], at: usize, width: u64, align: u32, flags: u32) -> usize
     ensures { λ r. ⌜ Put (now (out .entry)) at (spaced (summaryWords width align flags)) (now (out .exit)) r ⌝ }
 {
     let place = put_width(out, at, width);

@@ -1,8 +1,8 @@
 -- `lines_out::words::put_flag` meets its contract.
-use Rattle.lines_out.proofs.Wording.{put-flag-set, put-flag-clear}
+use Rattle.line_words.proofs.Wording.{put-flag-set, put-flag-clear}
 use borrow.Author.Needs.{needs}
-use Rattle.lines_out.proofs.words.put_flag.Statement.{statement}
-use Rattle.lines_out.proofs.words.put_flag.Tie as tie
+use Rattle.line_words.proofs.words.put_flag.Statement.{statement}
+use Rattle.line_words.proofs.words.put_flag.Tie as tie
 
 returns : tie.Need-returns
 returns c = put-flag-set _ _ (c .before .before .before .before .if1 .taken) (c .before .before .before .before .before .before .before .put-byte .ensures) (c .before .before .put-byte2 .ensures)

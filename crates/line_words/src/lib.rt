@@ -1,0 +1,8 @@
+// The words of a listing's lines, and the line of a refusal, each written at a place of a lent buffer. Every function writes as much as
+// fits and gives the place after it; nothing is asked of a caller.
+mod refusal;
+mod words;
+
+pub use refusal::put_refusal;
+pub use words::put_count;
+pub use words::put_summary;
