@@ -63,9 +63,9 @@ fn moved(left: Usb, negative: bool, n: I128) -> ResultUsb
 {
     let s = left.s;
     if negative {
-        return bound_of(s, misc::checked_sub(left.x, n));
+        return bound_of(s, sums::checked_sub(left.x, n));
     }
-    bound_of(s, misc::checked_add(left.x, n))
+    bound_of(s, sums::checked_add(left.x, n))
 }
 
 // The bound that the two sides make, `original` being its text as written.
@@ -98,5 +98,5 @@ pub fn raised(u: ResultUsb, inclusive: bool) -> ResultUsb
         return u;
     };
     let s = e.s;
-    bound_of(s, misc::checked_add(e.x, misc::usize_to_i128(1)))
+    bound_of(s, sums::checked_add(e.x, misc::usize_to_i128(1)))
 }

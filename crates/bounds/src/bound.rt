@@ -33,7 +33,7 @@ pub fn simplify_usb(image: &[u8], text: usize, u: Usb) -> ResultUsb
     let OptionI128::Some(v) = parse_text(image, text, u.s) else {
         return ResultUsb::Ok(u);
     };
-    let OptionI128::Some(x) = misc::checked_add(u.x, v) else {
+    let OptionI128::Some(x) = sums::checked_add(u.x, v) else {
         return ResultUsb::Refused(errors::refuse(20));
     };
     ResultUsb::Ok(value(x))

@@ -39,7 +39,7 @@ fn has_size(x: I128, n: usize) -> bool
     if !misc::is_negative(x) {
         return is_count(x, n);
     }
-    let OptionI128::Some(y) = misc::checked_neg(x) else {
+    let OptionI128::Some(y) = sums::checked_neg(x) else {
         return false;
     };
     is_count(y, n)

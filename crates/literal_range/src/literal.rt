@@ -115,7 +115,7 @@ fn cut(w: usize, start: Usb, end: Usb) -> CutLiteral
     let OptionUsize::Some(from) = place_of(start) else {
         return kept(to, start, end);
     };
-    let OptionI128::Some(d) = misc::checked_sub(end.x, start.x) else {
+    let OptionI128::Some(d) = sums::checked_sub(end.x, start.x) else {
         return kept(to, start, end);
     };
     between(from, to, d)

@@ -2,5 +2,4 @@
 pub mod Halves
 pub mod Difference
 pub mod Words
-pub mod Sums
 pub mod Small

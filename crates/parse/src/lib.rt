@@ -120,7 +120,7 @@ fn negative(m: OptionU128) -> OptionI128
         return OptionI128::None;
     };
     if v.high < 0x8000_0000_0000_0000 {
-        return misc::checked_neg(I128 {
+        return sums::checked_neg(I128 {
             high: v.high,
             low: v.low,
         });
@@ -200,7 +200,7 @@ fn any_parse(s: &[u8]) -> OptionI128
     let OptionI128::Some(z) = unsigned_parse(&s[1..]) else {
         return OptionI128::None;
     };
-    misc::checked_neg(z)
+    sums::checked_neg(z)
 }
 
 // Most numbers are short decimals, and need no table and no halves.

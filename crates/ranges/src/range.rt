@@ -68,7 +68,7 @@ pub fn width(image: &[u8], text: usize, a: Usb, b: Usb) -> OptionI128
     ensures { λ r. ⌜ optionOf r ≡ widthOf (usbOf (now (image .entry)) text a) (usbOf (now (image .entry)) text b) ⌝ }
 {
     if same_text(image, text, a.s, b.s) {
-        return misc::checked_sub(b.x, a.x);
+        return sums::checked_sub(b.x, a.x);
     }
     OptionI128::None
 }

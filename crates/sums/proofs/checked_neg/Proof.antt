@@ -4,9 +4,9 @@ use mathlib.Core.Path.{_∙_, ap}
 use borrow.Author.Needs.{needs}
 use lib.IntN.{negℤ, +ℤ-idl}
 use Rattle.def_numbers.specs.Numbers.{narrow}
 use Rattle.misc.specs.Value.{valueOf}
-use Rattle.misc.proofs.checked_neg.Statement.{statement}
-use Rattle.misc.proofs.checked_neg.Tie as tie
+use Rattle.sums.proofs.checked_neg.Statement.{statement}
+use Rattle.sums.proofs.checked_neg.Tie as tie
 
 checked-sub-requires : tie.Need-checked-sub-requires
 checked-sub-requires c κs = search needs

@@ -3,9 +3,9 @@
 use Prim.Native.Nat.{_^_}
 use native.Mathlib.Omega.{arith}
 use borrow.Author.Needs.{needs}
 use Rattle.misc.proofs.Halves.{two-bits, borrowed}
-use Rattle.misc.proofs.sub_borrow.Statement.{statement}
-use Rattle.misc.proofs.sub_borrow.Tie as tie
+use Rattle.sums.proofs.sub_borrow.Statement.{statement}
+use Rattle.sums.proofs.sub_borrow.Tie as tie
 
 sub-half-requires : tie.Need-sub-half-requires
 sub-half-requires c κs = search needs

@@ -2,10 +2,10 @@
 -- Assumes nothing.
 use Prim.Native.Nat.{_^_}
 use borrow.Author.Needs.{needs}
 use Rattle.misc.proofs.Halves.{sum-whole}
 use Rattle.misc.proofs.Words.{wraps}
-use Rattle.misc.proofs.add_bits.Statement.{statement}
-use Rattle.misc.proofs.add_bits.Tie as tie
+use Rattle.sums.proofs.add_bits.Statement.{statement}
+use Rattle.sums.proofs.add_bits.Tie as tie
 
 add-half-requires : tie.Need-add-half-requires
 add-half-requires c κs = search needs

@@ -7,11 +7,11 @@ use borrow.Author.Needs.{needs}
 use lib.IntN.{_-ℤ_}
 use Rattle.def_numbers.specs.Basics.{if_then_else_}
 use Rattle.def_numbers.specs.Numbers.{narrow}
 use Rattle.misc.specs.Value.{bits, valueOf}
 use Rattle.misc.proofs.Words.{word}
-use Rattle.misc.proofs.Sums.{sub-told}
-use Rattle.misc.proofs.checked_sub.Statement.{statement}
-use Rattle.misc.proofs.checked_sub.Tie as tie
+use Rattle.sums.proofs.Sums.{sub-told}
+use Rattle.sums.proofs.checked_sub.Statement.{statement}
+use Rattle.sums.proofs.checked_sub.Tie as tie
 
 sub-bits-requires : tie.Need-sub-bits-requires
 sub-bits-requires c κs = search needs

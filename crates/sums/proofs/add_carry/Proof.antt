@@ -3,9 +3,9 @@
 use Prim.Native.Nat.{_^_}
 use native.Mathlib.Omega.{arith}
 use borrow.Author.Needs.{needs}
 use Rattle.misc.proofs.Halves.{two-bits, carried}
-use Rattle.misc.proofs.add_carry.Statement.{statement}
-use Rattle.misc.proofs.add_carry.Tie as tie
+use Rattle.sums.proofs.add_carry.Statement.{statement}
+use Rattle.sums.proofs.add_carry.Tie as tie
 
 add-half-requires : tie.Need-add-half-requires
 add-half-requires c κs = search needs

@@ -2,10 +2,10 @@
 -- Assumes nothing.
 use Prim.Native.Nat.{_^_}
 use borrow.Author.Needs.{needs}
 use Rattle.misc.proofs.Halves.{difference-whole}
 use Rattle.misc.proofs.Words.{wraps}
-use Rattle.misc.proofs.sub_bits.Statement.{statement}
-use Rattle.misc.proofs.sub_bits.Tie as tie
+use Rattle.sums.proofs.sub_bits.Statement.{statement}
+use Rattle.sums.proofs.sub_bits.Tie as tie
 
 sub-half-requires : tie.Need-sub-half-requires
 sub-half-requires c κs = search needs

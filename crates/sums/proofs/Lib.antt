@@ -1,0 +1,2 @@
+-- Laws over plain numbers that the functions' proofs cite.
+pub mod Sums
