@@ -1,4 +1,3 @@
 -- Laws that the proofs cite.
 pub mod Decimals
 pub mod Signs
-pub mod Texts

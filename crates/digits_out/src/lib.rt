@@ -1,7 +1,6 @@
-// Writing bytes, numbers and text into a lent buffer. Every function takes the place to write at, writes as much as fits, and gives
+// Writing bytes and numbers into a lent buffer. Every function takes the place to write at, writes as much as fits, and gives
 // the place after it; nothing is asked of a caller.
 pub mod decimal;
-pub mod shown;
 
 ghost use mathlib.Core.Path.{_≡_};
 ghost use mathlib.Core.List.{[], _∷_};

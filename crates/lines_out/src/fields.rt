@@ -2,8 +2,8 @@
 use digits_out::decimal::put_signed;
 use digits_out::put_byte;
 use digits_out::put_bytes;
-use digits_out::shown::put_number;
-use digits_out::shown::put_text;
+use text_out::put_number;
+use text_out::put_text;
 use token_tree::u32_at;
 ghost use mathlib.Core.Path.{_≡_};
 ghost use mathlib.Core.List.{[], _∷_};

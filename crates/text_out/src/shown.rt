@@ -1,5 +1,5 @@
 // Hex and text. A byte that is missing counts as 0.
-use crate::put_byte;
+use digits_out::put_byte;
 ghost use mathlib.Core.Path.{_≡_};
 ghost use mathlib.Core.Bool.{_&&_, not};
 ghost use mathlib.Core.List.{map, reverse};

@@ -2,8 +2,8 @@
 use native.Mathlib.Omega.{arith}
 use borrow.Author.Tests.{le-leb, lt-leb}
 use borrow.Author.Needs.{needs}
-use Rattle.digits_out.proofs.shown.is_plain.Statement.{statement}
-use Rattle.digits_out.proofs.shown.is_plain.Tie as tie
+use Rattle.text_out.proofs.shown.is_plain.Statement.{statement}
+use Rattle.text_out.proofs.shown.is_plain.Tie as tie
 
 returns : tie.Need-returns
 returns c = rw (lt-leb 33 (c .before .args .b) (omega arith))

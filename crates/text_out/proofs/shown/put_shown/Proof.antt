@@ -1,8 +1,8 @@
 -- `digits_out::shown::put_shown` meets its contract.
-use Rattle.digits_out.proofs.Texts.{put-plain, put-escape}
+use Rattle.text_out.proofs.Texts.{put-plain, put-escape}
 use borrow.Author.Needs.{needs}
-use Rattle.digits_out.proofs.shown.put_shown.Statement.{statement}
-use Rattle.digits_out.proofs.shown.put_shown.Tie as tie
+use Rattle.text_out.proofs.shown.put_shown.Statement.{statement}
+use Rattle.text_out.proofs.shown.put_shown.Tie as tie
 
 returns : tie.Need-returns
 returns c = put-plain (c .before .before .before .before .before .before .before .args .b) (c .before .before .before .before .before .is-plain .ensures) (c .before .before .before .before .if1 .taken) (c .before .before .put-byte .ensures)

@@ -5,11 +5,11 @@ use native.Mathlib.Omega.{arith}
 use denote.Ref.{now}
 use Rattle.def_image.specs.Image.{bytesAt}
 use Rattle.def_run.specs.Listing.{shown}
 use Rattle.digits_out.specs.Put.{Put, put-length}
-use Rattle.digits_out.proofs.Texts.{put-text-none, put-text-next, put-text-all}
+use Rattle.text_out.proofs.Texts.{put-text-none, put-text-next, put-text-all}
 use borrow.Author.Needs.{needs}
-use Rattle.digits_out.proofs.shown.put_text.Statement.{statement}
-use Rattle.digits_out.proofs.shown.put_text.Tie as tie
+use Rattle.text_out.proofs.shown.put_text.Statement.{statement}
+use Rattle.text_out.proofs.shown.put_text.Tie as tie
 
 abbrev Inv-loop : tie.InvT-loop
 Inv-loop out₀ at s from count place₀ i₀ out place i = (i ≤ count) × Put out₀ at (shown (bytesAt s from i)) out place

@@ -1,8 +1,8 @@
 -- `digits_out::shown::put_hex` meets its contract.
-use Rattle.digits_out.proofs.Texts.{put-two}
+use Rattle.text_out.proofs.Texts.{put-two}
 use borrow.Author.Needs.{needs}
-use Rattle.digits_out.proofs.shown.put_hex.Statement.{statement}
-use Rattle.digits_out.proofs.shown.put_hex.Tie as tie
+use Rattle.text_out.proofs.shown.put_hex.Statement.{statement}
+use Rattle.text_out.proofs.shown.put_hex.Tie as tie
 
 returns : tie.Need-returns
 returns c = put-two (c .before .before .before .before .before .before .before .before .before .before .before .args .b) (c .before .before .before .before .before .before .before .before .hex-digit .ensures) (c .before .before .before .hex-digit2 .ensures) (c .before .before .before .before .before .before .before .put-byte .ensures) (c .before .before .put-byte2 .ensures)

@@ -1,8 +1,8 @@
 -- `digits_out::shown::hex_digit` meets its contract.
 use borrow.Author.Tests.{lt-ltb, le-ltb}
 use borrow.Author.Needs.{needs}
-use Rattle.digits_out.proofs.shown.hex_digit.Statement.{statement}
-use Rattle.digits_out.proofs.shown.hex_digit.Tie as tie
+use Rattle.text_out.proofs.shown.hex_digit.Statement.{statement}
+use Rattle.text_out.proofs.shown.hex_digit.Tie as tie
 
 returns : tie.Need-returns
 returns c = rw (lt-ltb (c .before .args .d) 10 (c .if1 .taken))

@@ -2,11 +2,11 @@
 use Prim.Native.Nat.{_-_}
 use native.Mathlib.Omega.{arith}
 use denote.Ref.{now}
 use Rattle.digits_out.specs.Put.{Toward, toward, toward-length}
-use Rattle.digits_out.proofs.Texts.{hexes, hexes-start, hexes-next, hexes-all}
+use Rattle.text_out.proofs.Texts.{hexes, hexes-start, hexes-next, hexes-all}
 use borrow.Author.Needs.{needs}
-use Rattle.digits_out.proofs.shown.put_number.Statement.{statement}
-use Rattle.digits_out.proofs.shown.put_number.Tie as tie
+use Rattle.text_out.proofs.shown.put_number.Statement.{statement}
+use Rattle.text_out.proofs.shown.put_number.Tie as tie
 
 abbrev Inv-loop : tie.InvT-loop
 Inv-loop out₀ at s from count place₀ i₀ out place i = Toward out₀ at (hexes s from count) (hexes s from (count - i)) out place

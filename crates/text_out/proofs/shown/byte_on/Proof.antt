@@ -3,8 +3,8 @@ use mathlib.Core.Path.{sym}
 use native.Mathlib.Omega.{arith}
 use lib.ListN.{List·getD-eq-default}
 use borrow.Author.Needs.{needs}
-use Rattle.digits_out.proofs.shown.byte_on.Statement.{statement}
-use Rattle.digits_out.proofs.shown.byte_on.Tie as tie
+use Rattle.text_out.proofs.shown.byte_on.Statement.{statement}
+use Rattle.text_out.proofs.shown.byte_on.Tie as tie
 
 returns : tie.Need-returns
 returns c = sym (List·getD-eq-default (c .before .args .s .now) 0 (omega arith))
