@@ -22,7 +22,7 @@ use Rattle.answer.specs.declared.Fields.{Fields}
 use Rattle.answer.specs.declared.Kind.{Kind}
 use Rattle.answer.specs.declared.Kind.the-variants.{Literal, Variable, Filler}
 use Rattle.answer.specs.Kinds.{HasKind, fieldsOf}
-use Rattle.answer_words.specs.Numbers.{hasEnd, endOrZero}
+use Rattle.answer_numbers.specs.Numbers.{hasEnd, endOrZero}
 use Rattle.answer_words.specs.Sizes.{length-text}
 
 module _ (image : List ℕ) (text base : ℕ) where

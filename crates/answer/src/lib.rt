@@ -1,8 +1,8 @@
 // The answer area (document 01): writers of its blocks into a lent area. Each writes its bytes from a place on, those that lie
 // inside the area, and leaves all other bytes as they were.
-use answer_words::end_or_zero;
-use answer_words::flags;
-use answer_words::has_end;
+use answer_numbers::end_or_zero;
+use answer_numbers::flags;
+use answer_numbers::has_end;
 use answer_words::put_text;
 use answer_words::put_u32;
 use answer_words::put_usb;

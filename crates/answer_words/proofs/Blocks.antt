@@ -14,7 +14,7 @@ use Rattle.def_run.specs.Answer.{widthBytes, textBytes}
 use Rattle.usb.specs.Usb.{bytesOf}
 use Rattle.usb.specs.declared.Part as usb
 use Rattle.laws.specs.Tests.{eqb-false}
-use Rattle.answer_words.specs.Numbers.{numberOf, startOf}
+use Rattle.answer_numbers.specs.Numbers.{numberOf, startOf}
 
 pub wide-of : (o : Option ℕ) {n : ℕ} → n ≡ numberOf o → u32 (n % 2 ^ 32) ++ u32 (n / 2 ^ 32) ≡ widthBytes o
 wide-of none e = rw e
@@ -40,13 +40,6 @@ text-of base d {at} {len} {r} e p q = rw (e, ← p, ← q) (go (d .bytes))
     go : (s : List ℕ) → u32 (startOf base (d .at) (length s)) ++ u32 (length s % 2 ^ 32) ≡ textBytes base (record { at = d .at; bytes = s })
     go [] = refl
     go (b ∷ s) = rw (eqb-false (suc (length s)) 0 (λ e. omega arith)) (ap₂ (λ (x y : List ℕ). x ++ y) (u32-mod (base + d .at)) (u32-mod (length (b ∷ s))))
-
--- the start of a text, empty and not
-pub start-empty : (base at len : ℕ) → len ≡ 0 → 0 ≡ startOf base at len
-start-empty base at len h = rw h
-
-pub start-some : (base at len : ℕ) (s : ℕ) → (len ≡ 0 → ⊥) → s ≡ (base + at) % 2 ^ 64 → s % 2 ^ 32 ≡ startOf base at len
-start-some base at len s h e = rw (eqb-false len 0 h, e) (omega arith)
 
 -- as many bytes as a part names
 pub length-bytes : (image : List ℕ) (text : ℕ) (p : usb.Part) → length (bytesOf image text p) ≡ p .len

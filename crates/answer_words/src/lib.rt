@@ -1,16 +1,11 @@
 // The words of the answer area (document 01): numbers, texts and bounds, written into a lent area. Each writer writes its bytes from a
 // place on, those that lie inside the area, and leaves all other bytes as they were.
-mod values;
-
-pub use values::end_or_zero;
-pub use values::flags;
-pub use values::has_end;
+use answer_numbers::text_start;
+use answer_numbers::width_number;
 use misc::I128;
 use misc::OptionUsize;
 use usb::Part;
 use usb::Usb;
-use values::text_start;
-use values::width_number;
 ghost use mathlib.Core.Path.{_≡_};
 ghost use mathlib.Core.List.{List, [], _∷_, _++_};
 ghost use Prim.Native.Nat.{ℕ, _+_, _/_, _%_, _^_, _≤_, _<_};

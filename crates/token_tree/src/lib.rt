@@ -1,10 +1,11 @@
 // The prepared image and its tables (src/token_tree.rs, whose arena the image replaces). Nothing is asked of a caller: a byte that
 // is missing counts as 0.
+pub use image_words::byte_at;
+pub use image_words::join4;
+pub use image_words::stop_of;
 ghost use mathlib.Core.Path.{_≡_};
 ghost use Prim.Native.Nat.{_+_, _*_, _^_, _<_, _≤_};
-ghost use lib.Dec.{eqb};
 ghost use lib.ListN.{length, getD};
-ghost use Rattle.def_numbers.specs.Basics.{if_then_else_};
 ghost use Rattle.def_image.specs.Image.{u32At, counts, tablesFor, tables, componentCount, recordCount, literalWidth, startAt, entryAt};
 ghost use Rattle.token_tree.specs.Tables.{countsOf, tablesOf, entryOf, SameFrom, entryIn};
 
@@ -41,19 +42,6 @@ pub struct RecordEntry {
     pub stop: PText,
     pub skip: u32,
     pub byte: u8,
-}
-
-// Little-endian.
-pub fn join4(a: u8, b: u8, c: u8, d: u8) -> u32
-    ensures { λ r. ⌜ r ≡ a + 256 * b + 65536 * c + 16777216 * d ⌝ }
-{
-    (a as u32) + 256 * (b as u32) + 65536 * (c as u32) + 16777216 * (d as u32)
-}
-
-pub fn byte_at(s: &[u8], at: usize) -> u8
-    ensures { λ r. ⌜ r ≡ getD (now (s .entry)) at 0 ⌝ }
-{
-    if at < s.len() { s[at] } else { 0 }
 }
 
 // The byte n places on, whatever the two numbers.
@@ -194,16 +182,6 @@ fn no_further(s: &[u8], at: usize) -> usize
     ensures { λ p. ⌜ SameFrom (now (s .entry)) at p ⌝ }
 {
     if at < s.len() { at } else { s.len() }
-}
-
-// Where the text of record r of `count` stops: t, or the start that follows.
-pub fn stop_of(next: u32, count: u32, t: u32, r: u32) -> u32
-    ensures { λ n. ⌜ n ≡ (if eqb (r + 1) count then t else next) ⌝ }
-{
-    if (r as usize) + 1 == (count as usize) {
-        return t;
-    }
-    next
 }
 
 // A record of whose bytes, or of the start after it, some may be missing.

@@ -1,7 +1,7 @@
 use borrow.Author.Needs.{needs}
 use borrow.Author.Tests.{eq-eqb, ne-eqb}
-use Rattle.token_tree.proofs.stop_of.Statement.{statement}
-use Rattle.token_tree.proofs.stop_of.Tie as tie
+use Rattle.image_words.proofs.stop_of.Statement.{statement}
+use Rattle.image_words.proofs.stop_of.Tie as tie
 
 returns : tie.Need-returns
 returns c = simp (eq-eqb _ _ (c .if1 .taken))

@@ -1,8 +1,8 @@
 -- `answer::values::end_or_zero` meets its contract.
 -- Assumes nothing.
 use borrow.Author.Needs.{needs}
-use Rattle.answer_words.proofs.values.end_or_zero.Statement.{statement}
-use Rattle.answer_words.proofs.values.end_or_zero.Tie as tie
+use Rattle.answer_numbers.proofs.values.end_or_zero.Statement.{statement}
+use Rattle.answer_numbers.proofs.values.end_or_zero.Tie as tie
 
 returns-2 : tie.Need-returns-2
 returns-2 c = rw (c .enum-told .given .1)

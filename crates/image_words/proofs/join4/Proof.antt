@@ -1,8 +1,8 @@
 -- The lowest byte counts once.
 use native.Mathlib.Omega.{arith}
 use borrow.Author.Needs.{needs}
-use Rattle.token_tree.proofs.join4.Statement.{statement}
-use Rattle.token_tree.proofs.join4.Tie as tie
+use Rattle.image_words.proofs.join4.Statement.{statement}
+use Rattle.image_words.proofs.join4.Tie as tie
 
 returns : tie.Need-returns
 returns c = omega arith

@@ -1,9 +1,9 @@
 -- `answer::values::text_start` meets its contract.
 -- Assumes nothing.
 use borrow.Author.Needs.{needs}
-use Rattle.answer_words.proofs.Blocks.{start-empty, start-some}
-use Rattle.answer_words.proofs.values.text_start.Statement.{statement}
-use Rattle.answer_words.proofs.values.text_start.Tie as tie
+use Rattle.answer_numbers.proofs.Starts.{start-empty, start-some}
+use Rattle.answer_numbers.proofs.values.text_start.Statement.{statement}
+use Rattle.answer_numbers.proofs.values.text_start.Tie as tie
 
 returns : tie.Need-returns
 returns c = let a = c .before .before .args in start-empty (a .base) (a .p .at) (a .p .len) (c .if1 .taken)

@@ -8,7 +8,7 @@ ghost use mathlib.Core.Path.{_≡_};
 ghost use Prim.Native.Nat.{_+_, _≤_};
 ghost use Rattle.def_run.specs.Answer.{flag as flagOf};
 ghost use Rattle.misc.specs.Value.{optionUsize};
-ghost use Rattle.answer_words.specs.Numbers.{numberOf, startOf, hasEnd, endOrZero};
+ghost use Rattle.answer_numbers.specs.Numbers.{numberOf, startOf, hasEnd, endOrZero};
 
 // An absent width is 0.
 pub fn width_number(w: OptionUsize) -> u64

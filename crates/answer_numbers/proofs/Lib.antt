@@ -1,0 +1,2 @@
+-- Laws over plain variables that the functions' proofs cite.
+pub mod Starts

@@ -1,0 +1,2 @@
+-- The numbers that the blocks of the answer area hold.
+pub mod Numbers
