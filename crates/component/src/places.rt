@@ -1,9 +1,9 @@
 // A component in the image, and what stands before its records' range and after its starting value.
-use component_text::is_empty;
-use component_text::Split;
-use component_text::split_range;
 use component_text::Colon;
+use component_text::Split;
+use component_text::is_empty;
 use component_text::split_colon;
+use component_text::split_range;
 use errors::Refusal;
 use items::Run;
 use usb::Part;

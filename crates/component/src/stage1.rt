@@ -1,6 +1,4 @@
 // Stage 1 of a component: 11 to 17.
-use component_text::is_empty;
-use component_text::OptionRun;
 use super::places::Place;
 use super::places::middle;
 use super::places::parts_of;
@@ -10,6 +8,8 @@ use super::typed::unbounded;
 use super::values::Component;
 use super::values::ComponentResult;
 use super::values::ComponentType;
+use component_text::OptionRun;
+use component_text::is_empty;
 use items::Run;
 use range_parse::RangeResult;
 ghost use mathlib.Core.Path.{_≡_};

@@ -1,11 +1,11 @@
 // A component's type: "else a text beginning with `-` or a digit makes it a literal, any other a variable".
-use component_text::is_literal;
-use component_text::part_of;
 use super::places::Place;
 use super::values::Bits;
 use super::values::Component;
 use super::values::ComponentResult;
 use super::values::ComponentType;
+use component_text::is_literal;
+use component_text::part_of;
 use items::Run;
 use usb::OptionUsb;
 use usb::Part;

@@ -1,8 +1,8 @@
 // Stage 4: what the concatenations say together, over a summary of each.
 use alignment::FillerAlign;
-use alignment::join_align;
 use alignment::both;
 use alignment::either;
+use alignment::join_align;
 use errors::Checked;
 use errors::Refusal;
 use misc::OptionUsize;

@@ -1,8 +1,4 @@
 // Stage 4 over an array of summaries, of which the first n count (all 16 where n is larger).
-use alignment::FillerAlign;
-use alignment::is_align;
-use alignment::is_opposite;
-use alignment::both;
 use crate::overall::Overall;
 use crate::overall::OverallResult;
 use crate::overall::Place;
@@ -10,6 +6,10 @@ use crate::overall::Summary;
 use crate::overall::after;
 use crate::overall::join;
 use crate::overall::start;
+use alignment::FillerAlign;
+use alignment::both;
+use alignment::is_align;
+use alignment::is_opposite;
 use errors::Checked;
 use errors::Refusal;
 use misc::OptionUsize;

@@ -1,8 +1,6 @@
 -- A line of the listing in the parts that the code writes: its first word, the other words with a space before each, a newline.
-use mathlib.Core.Path.{_≡_, refl, sym, ap, _∙_}
-use mathlib.Core.List.{append-assoc, append-nil}
+use mathlib.Core.Path.{_≡_}
 use Rattle.laws.specs.Lists.{length-tab}
-use Rattle.laws.specs.Tests.{by-test}
 use Rattle.def_numbers.specs.Prelude.{ℕ, Bool, true, false, List, [], _∷_, _++_, map, reverse, eqb, _+_, Option, none, some}
 use Rattle.def_numbers.specs.Basics.{if_then_else_, joined, tab, ascii}
 use Rattle.def_image.specs.Image.{u32At, bytesAt, bytesFor}

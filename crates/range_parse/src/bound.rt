@@ -1,8 +1,8 @@
 // A bound: "It is written as one token or one `(` group."
+use crate::signs;
 use bound_steps::Sides;
 use bound_steps::Sign;
 use bound_steps::chosen;
-use crate::signs;
 use errors::refuse;
 use items::Next;
 use items::Run;

@@ -1,9 +1,9 @@
 // A range: "A range is cut at its one top-level `..` or `..=`."
-use bound_steps::raised;
 use crate::bound::parse_usb;
 use crate::scan;
 use crate::scan::Scan;
 use crate::scan::Scanned;
+use bound_steps::raised;
 use errors::Refusal;
 use errors::refuse;
 use items::Run;

@@ -1,8 +1,8 @@
 // The running check of a concatenation (Concatenation::check), by value.
 use alignment::FillerAlign;
+use alignment::both;
 use alignment::filler_align;
 use alignment::is_align;
-use alignment::both;
 use errors::Checked;
 use errors::Refusal;
 use misc::I128;
