@@ -1,5 +1,6 @@
 -- The listing of what a run leaves in its area is that of the definition's run, and an input's is the program's output. Assumes nothing.
 use mathlib.Core.Path.{_≡_, refl, ap, subst, _∙_}
+use mathlib.Core.Logic.{_⊎_, inl, inr}
 use native.Mathlib.Omega.{arith}
 use Prim.Native.Nat.{_≤_, _<_}
 use lib.Seq.{take-append-seam, take-all}
@@ -45,7 +46,7 @@ nothing-read [] area q h e =
 nothing-read (x ∷ input) area q h e = absurd (omega arith)
 
 -- "input above 51,306 bytes is judged on its first 51,306"
-pub read-whole : (input : List ℕ) → 0 < length input → length input ≤ maxInput
+read-whole : (input : List ℕ) → 0 < length input → length input ≤ maxInput
     → (part : List ℕ) → part ≡ take (length input - 1) (drop 1 input) → listing part (run part (getD input 0 0) programArea) ≡ output input
 unfolding output
 read-whole [] h le part e = absurd (omega arith)
@@ -53,11 +54,23 @@ read-whole (x ∷ input) h le part e =
     let whole : part ≡ input = e ∙ take-all (length (x ∷ input) - 1) input (omega arith) in
     rw (whole, take-all (maxInput - 1) input (omega arith)) refl
 
-pub read-part : (input : List ℕ) → 0 < length input
+read-part : (input : List ℕ) → 0 < length input
     → (part : List ℕ) → part ≡ take (maxInput - 1) (drop 1 input) → listing part (run part (getD input 0 0) programArea) ≡ output input
 unfolding output
 read-part [] h part e = absurd (omega arith)
 read-part (x ∷ input) h part e = rw e refl
+
+-- of an input that is not empty at least one byte is judged
+pub some-judged : (n stop : ℕ) → 0 < n → (stop ≡ n) ⊎ (stop ≡ maxInput) → 1 ≤ stop
+some-judged n stop h (inl e) = omega arith
+some-judged n stop h (inr e) = omega arith
+
+-- up to the length or the limit, whichever is less
+pub read-judged : (input : List ℕ) (stop : ℕ) → 0 < length input → stop ≤ maxInput → (stop ≡ length input) ⊎ (stop ≡ maxInput)
+    → (part : List ℕ) → part ≡ take (stop - 1) (drop 1 input) → listing part (run part (getD input 0 0) programArea) ≡ output input
+read-judged input stop h le (inl e) part p =
+    read-whole input h (subst (λ (n : ℕ). n ≤ maxInput) e le) part (p ∙ ap (λ (n : ℕ). take (n - 1) (drop 1 input)) e)
+read-judged input stop h le (inr e) part p = read-part input h part (p ∙ ap (λ (n : ℕ). take (n - 1) (drop 1 input)) e)
 
 -- a listing shown is any list equal to it shown
 pub shown-as : (out L L' out' : List ℕ) (w : Written) → L ≡ L' → Shown out L out' w → Shown out L' out' w

@@ -32,8 +32,6 @@ pub fn answer(input: &[u8], out: &mut [u8]) -> Written
         return listing::write_listing(input, input, Outcome::Refused(errors::refuse(2)), out);
     }
     let mode = input[0] as u32;
-    if input.len() <= 51306 {
-        return listed(&input[1..], mode, out);
-    }
-    listed(&input[1..51306], mode, out)
+    let stop = input_limit::judged(input.len());
+    listed(&input[1..stop], mode, out)
 }

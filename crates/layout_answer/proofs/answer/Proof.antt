@@ -1,8 +1,9 @@
--- `layout_answer::answer` meets its contract: nothing read, all read, or the first 51,306 bytes. Assumes nothing.
+-- `layout_answer::answer` meets its contract: nothing read, or all that is judged. Assumes nothing.
 use borrow.Author.Needs.{needs}
 use mathlib.Core.Path.{refl}
 use native.Mathlib.Omega.{arith}
-use Rattle.layout_answer.proofs.Listing.{shown-as, nothing-read, read-whole, read-part}
+use Prim.Native.Nat.{_≤_}
+use Rattle.layout_answer.proofs.Listing.{shown-as, nothing-read, some-judged, read-judged}
 use Rattle.layout_answer.proofs.answer.Statement.{statement}
 use Rattle.layout_answer.proofs.answer.Tie as tie
 
@@ -27,11 +28,17 @@ shared-slice-read-mode c = search needs
 cast-mode : tie.Need-cast-mode
 cast-mode c = omega (arith, c .shared-slice-known2 .given 0)
 
+judged-requires : tie.Need-judged-requires
+judged-requires c κs = search needs
+
 sub-listed : tie.Need-sub-listed
-sub-listed c = search needs
+sub-listed c = let (a, b, d) = c .judged .ensures in some-judged _ _ (search needs) d
 
 part-listed-start : tie.Need-part-listed-start
-part-listed-start c = search needs
+part-listed-start c =
+    let (a, b, d) = c .judged .ensures in
+    let h : 1 ≤ c .judged .result = some-judged _ _ (search needs) d in
+    search needs
 
 part-listed-end : tie.Need-part-listed-end
 part-listed-end c = search needs
@@ -44,30 +51,11 @@ same-length-2 c = search needs
 
 returns-2 : tie.Need-returns-2
 returns-2 c =
-    shown-as (c .before .before .before .before .before .before .before .before .before .before .args .out .now) _ _ (c .before .before .listed .last .1 .1 .0) (c .before .before .listed .result)
-    (read-whole (c .before .before .before .before .before .before .before .before .before .before .args .input .now) (search needs) (search needs) _ refl)
+    let j = c .before .before .before .before .before in
+    let (a, b, d) = j .judged .ensures in
+    shown-as (j .before .before .before .before .before .args .out .now) _ _ (c .before .before .listed .last .1 .1 .0) (c .before .before .listed .result)
+    (read-judged (j .before .before .before .before .before .args .input .now) (j .judged .result) (search needs) b d _ refl)
     (c .before .before .listed .ensures)
-
-sub-listed-2 : tie.Need-sub-listed-2
-sub-listed-2 c = search needs
-
-part-listed-start-2 : tie.Need-part-listed-start-2
-part-listed-start-2 c = search needs
-
-part-listed-end-2 : tie.Need-part-listed-end-2
-part-listed-end-2 c = search needs
-
-listed-requires-2 : tie.Need-listed-requires-2
-listed-requires-2 c κs = search needs
-
-same-length-3 : tie.Need-same-length-3
-same-length-3 c = search needs
-
-returns-3 : tie.Need-returns-3
-returns-3 c =
-    shown-as (c .before .before .before .before .before .before .before .before .before .before .args .out .now) _ _ (c .before .before .listed2 .last .1 .1 .0) (c .before .before .listed2 .result)
-    (read-part (c .before .before .before .before .before .before .before .before .before .before .args .input .now) (search needs) _ refl)
-    (c .before .before .listed2 .ensures)
 
 pub answer-spec : {M : Type 1} → statement M
 answer-spec =
@@ -79,15 +67,10 @@ answer-spec =
     returns
     shared-slice-read-mode
     cast-mode
+    judged-requires
     sub-listed
     part-listed-start
     part-listed-end
     listed-requires
     same-length-2
-    returns-2
-    sub-listed-2
-    part-listed-start-2
-    part-listed-end-2
-    listed-requires-2
-    same-length-3
-    returns-3)
+    returns-2)
