@@ -32,7 +32,10 @@ judged-requires : tie.Need-judged-requires
 judged-requires c κs = search needs
 
 sub-listed : tie.Need-sub-listed
-sub-listed c = let (a, b, d) = c .judged .ensures in some-judged _ _ (search needs) d
+sub-listed c =
+    let (a, b, d) = c .judged .ensures in
+    let h : 1 ≤ c .judged .result = some-judged _ _ (search needs) d in
+    search needs
 
 part-listed-start : tie.Need-part-listed-start
 part-listed-start c =
