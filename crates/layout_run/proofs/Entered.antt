@@ -22,7 +22,8 @@ use Rattle.tree.specs.declared.start.Start.{Start}
 use Rattle.tree.specs.declared.start.Start.the-variants as S
 use Rattle.usb.specs.declared.Part.{Part}
 use Rattle.layout_run.specs.Found.{Found, StageIs}
-use Rattle.layout_run.specs.Order.{admittedOf, stagesIn, bytesOf, cameTo, Admitted, run-after, admitted, stages-in}
+use Rattle.admission.specs.Asked.{admittedOf}
+use Rattle.layout_run.specs.Order.{stagesIn, bytesOf, cameTo, Admitted, run-after, admitted, stages-in}
 use Rattle.layout_run.specs.declared.concatenations.Stage3.{Stage3}
 
 -- ---- the checks before the stages

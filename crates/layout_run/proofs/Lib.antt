@@ -1,5 +1,4 @@
 -- The laws that the functions' proofs cite.
-pub mod Admission
 pub mod Components
 pub mod Entered
 pub mod Heads

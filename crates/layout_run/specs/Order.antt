@@ -13,6 +13,7 @@ use Rattle.def_run.specs.Answer.{Answer, answerBytes}
 use Rattle.def_run.specs.Run.{stages, run, areaAfter}
 use Rattle.laws.specs.Results.{bind-ok, need-ok, need-then}
 use Rattle.laws.specs.Tests.{leb-iff}
+use Rattle.admission.specs.Asked.{admittedOf}
 use Rattle.cut_stages.specs.Statement.{later}
 use Rattle.stages_read.specs.Statement.{both}
 use Rattle.stages_read.specs.Proved.{stages-read, read-first}
@@ -20,13 +21,6 @@ use Rattle.tree.specs.Pass.{passed, andThen}
 use Rattle.tree.specs.Stages.{stage1All}
 use Rattle.tree.specs.Read.{readAll, startAll}
 use Rattle.tree.specs.Checked.{example, example-checked, checked-parts, read-checked, stage1-checked, start-checked}
-
--- "Whole run: 1 mode above 2; the image check; 8 area shorter than 32 + 20·C + 72·N + B"
-unfoldable pub admittedOf : List ℕ → ℕ → ℕ → Result Unit
-admittedOf image mode area =
-    need (leb mode 2) mode-above-2 >>= λ _.
-    checkImage image >>= λ _.
-    need (leb (areaNeeded ((counts image) .c) ((counts image) .n) ((counts image) .b)) area) short-area
 
 -- a refusal of stage 3: "each over the whole tree before the next", so stage 1's comes first, then stage 2's
 abbrev pub inTurn : List ℕ → Result Unit → Result Unit

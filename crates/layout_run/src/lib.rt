@@ -1,10 +1,8 @@
 // The whole run (document 01): the mode, the image check, the area's length, and stages 1 to 5. The area is written only when
 // nothing can refuse any more.
-mod admit;
 mod concatenations;
 mod write;
 
-use admit::admitted;
 use answer::Init;
 use concatenation::OverallResult;
 use concatenations::Stage3;
@@ -80,7 +78,7 @@ fn staged(area: &mut [u8], image: &[u8], mode: u32) -> Outcome
 pub fn run(image: &[u8], mode: u32, area: &mut [u8]) -> Outcome
     ensures { λ o. ⌜ (outcomeOf o, now (area .exit)) ≡ ranOn (now (image .entry)) mode (now (area .entry)) ⌝ }
 {
-    match admitted(image, mode, area.len()) {
+    match admission::admitted(image, mode, area.len()) {
         Checked::Passed => staged(area, image, mode),
         Checked::Refused(q) => Outcome::Refused(q),
     }

@@ -14,7 +14,7 @@ use Rattle.errors.specs.declared.Checked.the-variants as C
 use Rattle.errors.specs.declared.Refusal.{Refusal}
 use Rattle.token_tree.specs.Tables.{countsOf}
 use Rattle.token_tree.specs.declared.Counts.{Counts}
-use Rattle.layout_run.specs.Order.{admittedOf}
+use Rattle.admission.specs.Asked.{admittedOf}
 
 module _ (image : List ℕ) (area : ℕ) where
   abbrev pub roomy : Bool

@@ -1,7 +1,7 @@
 use borrow.Author.Needs.{needs}
-use Rattle.layout_run.proofs.Admission.{mode-above, image-refused, all-passed, area-short}
-use Rattle.layout_run.proofs.admit.admitted.Statement.{statement}
-use Rattle.layout_run.proofs.admit.admitted.Tie as tie
+use Rattle.admission.proofs.Ways.{mode-above, image-refused, all-passed, area-short}
+use Rattle.admission.proofs.admitted.Statement.{statement}
+use Rattle.admission.proofs.admitted.Tie as tie
 
 returns : tie.Need-returns
 returns c =

@@ -1,7 +1,7 @@
 use borrow.Author.Needs.{needs}
-use Rattle.layout_run.proofs.Admission.{enough-is}
-use Rattle.layout_run.proofs.admit.enough.Statement.{statement}
-use Rattle.layout_run.proofs.admit.enough.Tie as tie
+use Rattle.admission.proofs.Ways.{enough-is}
+use Rattle.admission.proofs.enough.Statement.{statement}
+use Rattle.admission.proofs.enough.Tie as tie
 
 returns : tie.Need-returns
 returns c =

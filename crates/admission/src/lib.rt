@@ -5,7 +5,7 @@ ghost use lib.Dec.{leb};
 ghost use Rattle.def_numbers.specs.Limits.{areaNeeded};
 ghost use Rattle.def_image.specs.Image.{counts};
 ghost use Rattle.errors.specs.Refused.{resultOf};
-ghost use Rattle.layout_run.specs.Order.{admittedOf};
+ghost use Rattle.admission.specs.Asked.{admittedOf};
 
 // Whether an area of this length has room for the answer of any image with these counts: 32 + 20·C + 72·N + B.
 fn enough(image: &[u8], area: usize) -> bool
@@ -16,7 +16,7 @@ fn enough(image: &[u8], area: usize) -> bool
 }
 
 // 1, the image check, 8.
-pub(crate) fn admitted(image: &[u8], mode: u32, area: usize) -> Checked
+pub fn admitted(image: &[u8], mode: u32, area: usize) -> Checked
     ensures { λ r. ⌜ resultOf r ≡ admittedOf (now (image .entry)) mode area ⌝ }
 {
     if 2 < mode {
