@@ -31,7 +31,7 @@ use Rattle.answer.specs.Kinds.{HasKind}
 use Rattle.answer.proofs.Blocks.{u32-mod}
 use Rattle.stage5.specs.declared.Writing.{Writing}
 use Rattle.stage5.specs.declared.merging.Merging.{Merging}
-use Rattle.stage5.specs.Runs.{runBits, literalOf, longer}
+use Rattle.merge_runs.specs.Runs.{runBits, literalOf, longer}
 use Rattle.stage5.specs.Blocks.{putOne, writtenOne, Same, same-one, length-literals}
 use Rattle.stage5.specs.Literals.{AppendIs, fixedRange}
 use Rattle.stage5.specs.State.{Holds, LongerIs, FinishIs, CloseIs, Closes}

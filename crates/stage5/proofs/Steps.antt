@@ -31,7 +31,7 @@ use Rattle.tree.specs.declared.cursor.Spot.{Spot}
 use Rattle.stage5.specs.declared.Writing.{Writing}
 use Rattle.stage5.specs.declared.merging.Merging.{Merging}
 use Rattle.stage5.specs.Put.{Room}
-use Rattle.stage5.specs.Runs.{Run, runBits, literalOf, longer, closed, mergeFrom, from-end, from-static, from-other}
+use Rattle.merge_runs.specs.Runs.{Run, runBits, literalOf, longer, closed, mergeFrom, from-end, from-static, from-other}
 use Rattle.stage5.specs.Blocks.{putOne, Same, same-one, same-then, length-literals}
 use Rattle.stage5.specs.Literals.{Span, typeBits}
 use Rattle.stage5.specs.State.{Holds, LongerIs, FinishIs, CloseIs, Closes, OtherIs, Goes, StepIs, TurnIs}

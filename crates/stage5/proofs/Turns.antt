@@ -18,7 +18,7 @@ use Rattle.tree.specs.declared.cursor.Cursor.{Cursor}
 use Rattle.stage5.specs.declared.Writing.{Writing}
 use Rattle.stage5.specs.declared.merging.Merging.{Merging}
 use Rattle.stage5.specs.Put.{putAll, writtenTo, Room}
-use Rattle.stage5.specs.Runs.{closed, mergeFrom, merge-from, from-end}
+use Rattle.merge_runs.specs.Runs.{closed, mergeFrom, merge-from, from-end}
 use Rattle.stage5.specs.Blocks.{Same, same-then}
 use Rattle.stage5.specs.State.{CloseIs, Goes, StepIs, TurnIs, Midway}
 use Rattle.stage5.proofs.Closing.{holds-none, written-none}

@@ -22,7 +22,7 @@ use Rattle.tree.specs.declared.cursor.Cursor.{Cursor}
 use Rattle.stage5.specs.declared.Writing.{Writing}
 use Rattle.stage5.specs.declared.merging.Merging.{Merging}
 use Rattle.stage5.specs.Put.{Room}
-use Rattle.stage5.specs.Runs.{Run, runBits, longer, closed, mergeFrom}
+use Rattle.merge_runs.specs.Runs.{Run, runBits, longer, closed, mergeFrom}
 use Rattle.stage5.specs.Blocks.{putOne, writtenOne, Same}
 
 abbrev pub isOpen : Run → Bool

@@ -1,0 +1,2 @@
+-- Merging from left to right, as the code walks.
+pub mod Runs
