@@ -61,6 +61,12 @@ pub fn thirty() -> Image {
     Image::of_line("30 components", CARD)
 }
 
+/// The same with an unbounded filler, which is not read in one pass.
+pub fn open() -> Image {
+    let line = CARD.strip_suffix("..6").expect("its last component");
+    Image::of_line("30 components with an unbounded filler", &format!("{line}.."))
+}
+
 fn chars(text: &str) -> Item {
     Item::Chars(text.as_bytes().to_vec())
 }

@@ -29,6 +29,8 @@ fn main() {
     for image in &compared {
         compare(image);
     }
+    println!("\nnot read in one pass, but stage by stage");
+    compare(&images::open());
     println!("\ngrowth over components, ours");
     for count in [1, 4, 16, 64, 256] {
         grow(&images::variables(count), count, "component");
