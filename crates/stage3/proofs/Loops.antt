@@ -4,7 +4,7 @@ use Prim.Native.Nat.{_≤_, _<_}
 use native.Mathlib.Numerals.{add-one}
 use native.Mathlib.Omega.{arith}
 use Rattle.def_numbers.specs.Prelude.{ℕ, suc, _+_, _-_, Bool, true, false, _&&_, List, eqb}
-use Rattle.def_numbers.specs.Basics.{ok, _>>=_, placed}
+use Rattle.def_numbers.specs.Basics.{Result, ok, _>>=_, placed}
 use Rattle.def_stages.specs.Component.{Component}
 use Rattle.def_stages.specs.Concatenation.{isStaticLiteral}
 use Rattle.laws.specs.Results.{bind-ok}
@@ -46,18 +46,20 @@ module _ (image : List ℕ) (i : ℕ) where
   pub walk-end : (j : ℕ) (c : Cursor) (n : ℕ) (t : Tally) → n ≤ j → walk image i j c (n - j) t ≡ endOf i t
   walk-end j c n t h = let e : n - j ≡ 0 = omega arith in rw e (walk-none image i j c t)
 
-  module _ (j : ℕ) (c : Cursor) (n : ℕ) (t : Tally) (r : Turned) (h : j < n) (e : turnedOf r ≡ turnOf image i j (n - j - 1) c t) where
-    one-then : walk image i j c (n - j) t ≡ (turnedOf r >>= λ u. walk image i (j + 1) (nextIn image c) (n - (j + 1)) u)
-    one-then =
-        let m : n - j ≡ suc (n - j - 1) = omega arith in
-        let k : n - j - 1 ≡ n - (j + 1) = omega arith in
-        rw (m, walk-step image i j c (n - j - 1) t, ← e, k, add-one j)
+  -- one component, and then the others
+  pub walk-then : (j : ℕ) (c : Cursor) (n : ℕ) (t : Tally) (x : Result Tally) → j < n → x ≡ turnOf image i j (n - j - 1) c t
+      → walk image i j c (n - j) t ≡ (x >>= λ u. walk image i (j + 1) (nextIn image c) (n - (j + 1)) u)
+  walk-then j c n t x h e =
+      let m : n - j ≡ suc (n - j - 1) = omega arith in
+      let k : n - j - 1 ≡ n - (j + 1) = omega arith in
+      rw (m, walk-step image i j c (n - j - 1) t, ← e, k, add-one j)
 
+  module _ (j : ℕ) (c : Cursor) (n : ℕ) (t : Tally) (r : Turned) (h : j < n) (e : turnedOf r ≡ turnOf image i j (n - j - 1) c t) where
     pub walk-on : (s : State) (d : Cursor) → r ≡ T.Ok s → d ≡ nextIn image c → walk image i j c (n - j) t ≡ walk image i (j + 1) d (n - (j + 1)) (tallyOf s)
-    walk-on s d o f = one-then ∙ rw (o, f)
+    walk-on s d o f = walk-then j c n t (turnedOf r) h e ∙ rw (o, f)
 
     pub walk-off : (q : Refusal) → r ≡ T.Refused q → refusedAs q ≡ walk image i j c (n - j) t
-    walk-off q o = sym (one-then ∙ rw o)
+    walk-off q o = sym (walk-then j c n t (turnedOf r) h e ∙ rw o)
 
     pub next-merged : (s : State) → r ≡ T.Ok s → s .merged ≤ t .merged + 1
     next-merged s o = turn-merged j (n - j - 1) c t (tallyOf s) (sym e ∙ ap turnedOf o)
