@@ -1,29 +1,21 @@
 -- 6 and 7: what a table of records gives at the places that the code reads, and each way through the record checker's loop.
 use mathlib.Core.Path.{_≡_, refl, sym, ap, _∙_}
+use mathlib.Core.Bool.{and-true}
 use native.Mathlib.Nat.{add-zero, sub-zero, suc-add, add-suc}
 use native.Mathlib.Numerals.{add-one}
 use native.Mathlib.Omega.{arith}
-use borrow.Author.Tests.{lt-leb, le-leb, lt-ltb, eqb-true}
+use borrow.Author.Tests.{leb-true, le-leb, lt-ltb, le-ltb, ne-eqb}
 use Prim.Native.Nat.{_<_, _≤_, _-_}
-use Rattle.def_numbers.specs.Prelude.{ℕ, zero, suc, _+_, Bool, true, false, _&&_, List, _∷_, length, getD, take, drop, leb, ltb, eqb}
+use Rattle.def_numbers.specs.Prelude.{ℕ, zero, suc, _+_, Bool, true, false, _&&_, List, _∷_, length, take, drop, leb, ltb, eqb}
 use Rattle.def_numbers.specs.Basics.{Result, ok, refused, tab}
 use Rattle.def_numbers.specs.Limits.{limits}
 use Rattle.def_numbers.specs.Refusals.{need, bad-record, too-deep}
 use Rattle.def_image.specs.Image.{Entry, opens, delimiter}
 use Rattle.def_image.specs.Check.{noEntry, textRight, delimiterRight, wordRight, insideOf, closerOf, afterOf, openRight, closeRight, checkIn}
-use Rattle.image_check.specs.Parts.{firstOf, openerRight, opener, Says, Passes}
-use Rattle.image_check.proofs.Tests.{and-true, and-false, left-true, right-true, Stops}
-
-length-tab : (g : ℕ → Entry) (from n : ℕ) → length (tab g from n) ≡ n
-unfolding tab
-length-tab g from zero = refl
-length-tab g from (suc n) = ap suc (length-tab g (suc from) n)
-
-getD-tab : (g : ℕ → Entry) (from n i : ℕ) (d : Entry) → i < n → getD (tab g from n) i d ≡ g (from + i)
-unfolding tab
-getD-tab g from zero i d h = absurd (omega arith)
-getD-tab g from (suc n) zero d h = rw add-zero
-getD-tab g from (suc n) (suc i) d h = getD-tab g (suc from) n i d (omega arith) ∙ rw (suc-add, add-suc)
+use Rattle.laws.specs.Lists.{length-tab, getD-tab}
+use Rattle.laws.specs.Tests.{by-test, and-iff}
+use Rattle.image_check.specs.Parts.{skipRight, openerRight, answerOf, Says}
+use Rattle.image_check.proofs.Answers.{firstOf, answer-stops}
 
 take-tab : (g : ℕ → Entry) (from n i : ℕ) → i ≤ n → take i (tab g from n) ≡ tab g from i
 unfolding tab
@@ -40,160 +32,161 @@ drop-tab g from (suc n) (suc i) h =
     drop-tab g (suc from) n i (omega arith) ∙ rw (suc-add, add-suc, e)
 
 -- ---- the opener
-module _ (t : ℕ) (e : Entry) (rest : List Entry) where
+-- an opener whose skip stays in the records that are left
+pub record Opener (e : Entry) (left : ℕ) : Type 0 where
+  pub group : opens (e .kind) ≡ true
+  pub two : 2 ≤ e .skip
+  pub most : e .skip ≤ left
+
+pub skip-told : (e : Entry) (left : ℕ) → skipRight e left ≡ true → Opener e left
+skip-told e left h =
+    let q = and-iff (opens (e .kind) && leb 2 (e .skip)) (leb (e .skip) left) .0 h in
+    let p = and-iff (opens (e .kind)) (leb 2 (e .skip)) .0 (q .0) in
+    record { group = p .0; two = leb-true 2 (e .skip) (p .1); most = leb-true (e .skip) left (q .1) }
+
+skip-shut : (a b c d : Bool) → (b && c) ≡ false → (((a && b) && c) && d) ≡ false
+skip-shut true true true d h = cc
+skip-shut true true false d h = refl
+skip-shut true false c d h = refl
+skip-shut false b c d h = refl
+
+no-word : (a b : Bool) → ((a && false) && b) ≡ false
+no-word true b = refl
+no-word false b = refl
+
+module _ (t : ℕ) (g : ℕ → Entry) (e : Entry) (k left : ℕ) where
   abbrev text : Bool
   text = textRight t e && delimiterRight ((delimiter (e .kind)) .opening) e
 
-  pub short-skip : e .skip < 2 → openRight t e rest ≡ false
-  short-skip h = rw (lt-leb 2 (e .skip) h, and-false text)
+  abbrev closes : Bool
+  closes = eqb ((closerOf e (tab g (k + 1) (left - 1))) .kind) 5
 
-  pub long-skip : suc (length rest) < e .skip → openRight t e rest ≡ false
-  long-skip h = rw (lt-leb (e .skip) (1 + length rest) (omega arith), and-false (text && leb 2 (e .skip)))
+  opener-tab : 0 < left → openRight t e (tab g (k + 1) (left - 1)) ≡ (((text && leb 2 (e .skip)) && leb (e .skip) left) && closes)
+  opener-tab some =
+      let n : 1 + length (tab g (k + 1) (left - 1)) ≡ left = omega (arith, length-tab g (k + 1) (left - 1)) in
+      ap (λ n. ((text && leb 2 (e .skip)) && leb (e .skip) n) && closes) n
 
-  pub right-skip : 2 ≤ e .skip → e .skip ≤ suc (length rest) → openRight t e rest ≡ openerRight t e (closerOf e rest)
-  right-skip h l = rw (le-leb 2 (e .skip) h, le-leb (e .skip) (1 + length rest) (omega arith), and-true text, and-true text)
+  opener-shut : 0 < left → (leb 2 (e .skip) && leb (e .skip) left) ≡ false → openRight t e (tab g (k + 1) (left - 1)) ≡ false
+  opener-shut some h = opener-tab some ∙ skip-shut text (leb 2 (e .skip)) (leb (e .skip) left) closes h
 
-closer-tab : (g : ℕ → Entry) (e : Entry) (k left : ℕ) → 2 ≤ e .skip → e .skip ≤ left → closerOf e (tab g (k + 1) (left - 1)) ≡ g (k + (e .skip - 1))
-closer-tab g e k left h l =
-    let q : k + 1 + (e .skip - 2) ≡ k + (e .skip - 1) = omega arith in
-    getD-tab g (k + 1) (left - 1) (e .skip - 2) noEntry (omega arith) ∙ ap g q
+  closer-tab : Opener e left → closerOf e (tab g (k + 1) (left - 1)) ≡ g (k + (e .skip - 1))
+  closer-tab o =
+      let two = o .two in
+      let most = o .most in
+      let q : k + 1 + (e .skip - 2) ≡ k + (e .skip - 1) = omega arith in
+      getD-tab g (k + 1) (left - 1) (e .skip - 2) noEntry (omega arith) ∙ ap g q
 
-pub opener-here : (t : ℕ) (g : ℕ → Entry) (e : Entry) (k left : ℕ) → 2 ≤ e .skip → e .skip ≤ left
-    → openRight t e (tab g (k + 1) (left - 1)) ≡ openerRight t e (g (k + (e .skip - 1)))
-opener-here t g e k left h l =
-    let n = length-tab g (k + 1) (left - 1) in
-    right-skip t e (tab g (k + 1) (left - 1)) h (omega arith) ∙ ap (openerRight t e) (closer-tab g e k left h l)
-
-pub opener-long : (t : ℕ) (g : ℕ → Entry) (e : Entry) (k left : ℕ) → 2 ≤ e .skip → left < e .skip → openRight t e (tab g (k + 1) (left - 1)) ≡ false
-opener-long t g e k left h l =
-    let n = length-tab g (k + 1) (left - 1) in
-    long-skip t e (tab g (k + 1) (left - 1)) (omega arith)
+  opener-here : Opener e left → openRight t e (tab g (k + 1) (left - 1)) ≡ openerRight t e (g (k + (e .skip - 1)))
+  opener-here o =
+      let two = o .two in
+      let most = o .most in
+      opener-tab (omega arith)
+      ∙ rw (le-leb 2 (e .skip) two, le-leb (e .skip) left most, and-true text, and-true text) (ap (openerRight t e) (closer-tab o))
 
 -- ---- the loop: a word or a group is refused, or passed with what is left after it
+abbrev opener : ℕ → Entry → List Entry → ℕ → Result Unit
+opener t e rest depth = firstOf (need (openRight t e rest) bad-record) (need (ltb depth (limits .depth)) too-deep)
+
 five : (a b c d e : Result Unit) → firstOf a (firstOf b (firstOf c (firstOf d e))) ≡ firstOf (firstOf a b) (firstOf (firstOf c d) e)
 five (ok u) (ok v) (ok w) d e = refl
 five (ok u) (ok v) (refused n i j) d e = refl
 five (ok u) (refused n i j) c d e = refl
 five (refused n i j) b c d e = refl
 
-module _ (t : ℕ) (g : ℕ → Entry) (depth k : ℕ) where
-  step-word : (m f : ℕ) → opens ((g k) .kind) ≡ false
-      → checkIn t (suc f) (tab g k (suc m)) depth ≡ firstOf (need (wordRight t (g k)) bad-record) (checkIn t f (tab g (suc k) m) depth)
-  unfolding checkIn tab
-  step-word m f o = rw (o, checkIn)
+check-word : (t f : ℕ) (e : Entry) (rest : List Entry) (depth : ℕ) → opens (e .kind) ≡ false
+    → checkIn t (suc f) (e ∷ rest) depth ≡ firstOf (need (wordRight t e) bad-record) (checkIn t f rest depth)
+unfolding checkIn
+check-word t f e rest depth o = rw (o, checkIn)
 
-  word-stops' : (left : ℕ) (y : Result Unit) → 0 < left → opens ((g k) .kind) ≡ false → y ≡ need (wordRight t (g k)) bad-record → Stops y → Says t g depth k left y
-  word-stops' zero y l o e s f h = absurd (omega arith)
-  word-stops' (suc m) y l o e s zero h = absurd (omega arith)
-  word-stops' (suc m) y l o e s (suc f) h = rw (step-word m f o, ← e) (sym (s (checkIn t f (tab g (suc k) m) depth)))
+check-group : (t f : ℕ) (e : Entry) (rest : List Entry) (depth : ℕ) → opens (e .kind) ≡ true
+    → checkIn t (suc f) (e ∷ rest) depth
+    ≡ firstOf (opener t e rest depth)
+    (firstOf (firstOf (checkIn t f (insideOf e rest) (suc depth)) (need (closeRight t e (closerOf e rest)) bad-record)) (checkIn t f (afterOf e rest) depth))
+unfolding checkIn
+check-group t f e rest depth o =
+    rw (o, checkIn)
+    (five (need (openRight t e rest) bad-record) (need (ltb depth (limits .depth)) too-deep) (checkIn t f (insideOf e rest) (suc depth))
+    (need (closeRight t e (closerOf e rest)) bad-record) (checkIn t f (afterOf e rest) depth))
 
-  word-goes' : (left : ℕ) (x : Result Unit) → 0 < left → opens ((g k) .kind) ≡ false → ok tt ≡ need (wordRight t (g k)) bad-record
-      → Says t g depth (k + 1) (left - 1) x → Says t g depth k left x
-  word-goes' zero x l o e says f h = absurd (omega arith)
-  word-goes' (suc m) x l o e says zero h = absurd (omega arith)
-  word-goes' (suc m) x l o e says (suc f) h =
-      let q : suc m - 1 ≡ m = omega arith in
-      rw (step-word m f o, ← e) (rw (add-one k, q) at (says f (omega arith)))
+-- record k is e, and `left` records are left from it on
+module _ (t : ℕ) (g : ℕ → Entry) (depth k left : ℕ) (some : 0 < left) (e : Entry) (q : e ≡ g k) where
+  abbrev after : List Entry
+  after = tab g (k + 1) (left - 1)
 
-  abbrev inside : ℕ → ℕ → Result Unit
-  inside m f = checkIn t f (insideOf (g k) (tab g (suc k) m)) (suc depth)
+  -- it is enough to look at e and what follows it
+  says-by : (x : Result Unit) → ((f : ℕ) → left - 1 ≤ f → x ≡ checkIn t (suc f) (e ∷ after) depth) → Says t g depth k left x
+  unfolding tab
+  says-by x s zero h = absurd (omega arith)
+  says-by x s (suc f) h =
+      let n : left ≡ suc (left - 1) = omega arith in
+      let l : tab g k left ≡ e ∷ after = ap (tab g k) n ∙ rw (q, add-one k) in
+      rw l (s f (omega arith))
 
-  abbrev close : Entry → Result Unit
-  close c = need (closeRight t (g k) c) bad-record
+  word-stops : opens (e .kind) ≡ false → wordRight t e ≡ false → Says t g depth k left (answerOf 6)
+  word-stops o r = says-by (answerOf 6) λ f h. rw (check-word t f e after depth o, r)
 
-  abbrev done : ℕ → ℕ → Result Unit
-  done m f = firstOf (firstOf (inside m f) (close (closerOf (g k) (tab g (suc k) m)))) (checkIn t f (afterOf (g k) (tab g (suc k) m)) depth)
+  pub word-refused : e .kind ≡ 0 → wordRight t e ≡ false → Says t g depth k left (answerOf 6)
+  word-refused z = word-stops (rw z)
 
-  step-group : (m f : ℕ) → opens ((g k) .kind) ≡ true
-      → checkIn t (suc f) (tab g k (suc m)) depth
-      ≡ firstOf (opener t (g k) (tab g (suc k) m) depth) (done m f)
-  unfolding checkIn tab
-  step-group m f o =
-      rw (o, checkIn)
-      (five (need (openRight t (g k) (tab g (suc k) m)) bad-record) (need (ltb depth (limits .depth)) too-deep) (inside m f) (close (closerOf (g k) (tab g (suc k) m)))
-      (checkIn t f (afterOf (g k) (tab g (suc k) m)) depth))
+  pub word-goes : e .kind ≡ 0 → wordRight t e ≡ true → (x : Result Unit) → Says t g depth (k + 1) (left - 1) x → Says t g depth k left x
+  word-goes z r x says = says-by x λ f h. rw (check-word t f e after depth (rw z), r) (says f h)
 
-  group-stops' : (left : ℕ) (y : Result Unit) → 0 < left → opens ((g k) .kind) ≡ true → y ≡ opener t (g k) (tab g (k + 1) (left - 1)) depth → Stops y → Says t g depth k left y
-  group-stops' zero y l o e s f h = absurd (omega arith)
-  group-stops' (suc m) y l o e s zero h = absurd (omega arith)
-  group-stops' (suc m) y l o e s (suc f) h =
-      let q : suc m - 1 ≡ m = omega arith in
-      let e' : y ≡ opener t (g k) (tab g (suc k) m) depth = rw (add-one k, q) at e in
-      rw (step-group m f o, ← e') (sym (s (done m f)))
+  group-stops : (n : ℕ) → (n ≡ 0 → ⊥) → opens (e .kind) ≡ true → answerOf n ≡ opener t e after depth → Says t g depth k left (answerOf n)
+  group-stops n a o p = says-by (answerOf n) λ f h. rw (check-group t f e after depth o, ← p) (sym (answer-stops n a _))
 
-  -- a group that was opened, with what its inside says
-  module _ (i : Result Unit) (o : opens ((g k) .kind) ≡ true) (two : 2 ≤ (g k) .skip) (says : Says t g (depth + 1) (k + 1) ((g k) .skip - 2) i) where
-    abbrev closed : Result Unit
-    closed = firstOf i (close (g (k + ((g k) .skip - 1))))
+  -- neither a word nor a group that stays in what is left
+  pub skip-refused : (e .kind ≡ 0 → ⊥) → skipRight e left ≡ false → Says t g depth k left (answerOf 6)
+  skip-refused a h =
+      by-test (opens (e .kind))
+      (λ o.
+      let s : (leb 2 (e .skip) && leb (e .skip) left) ≡ false = rw o at h in
+      group-stops 6 (λ z. absurd (omega arith)) o (rw (opener-shut t g e k left some s)))
+      (λ o. word-stops o (rw (ne-eqb (e .kind) 0 a) (no-word (textRight t e) (eqb (e .skip) 1))))
 
-    step-opened : (m f : ℕ) → (g k) .skip ≤ suc m → m ≤ f → ok tt ≡ opener t (g k) (tab g (k + 1) (suc m - 1)) depth
-        → checkIn t (suc f) (tab g k (suc m)) depth ≡ firstOf closed (checkIn t f (tab g (k + (g k) .skip) (suc m - (g k) .skip)) depth)
-    step-opened m f l h e =
-        let q : suc m - 1 ≡ m = omega arith in
-        let e' : ok tt ≡ opener t (g k) (tab g (suc k) m) depth = rw (add-one k, q) at e in
-        let c : closerOf (g k) (tab g (suc k) m) ≡ g (k + ((g k) .skip - 1)) = rw (add-one k, q) at (closer-tab g (g k) k (suc m) two l) in
-        let n : take ((g k) .skip - 2) (tab g (suc k) m) ≡ tab g (suc k) ((g k) .skip - 2) = take-tab g (suc k) m ((g k) .skip - 2) (omega arith) in
-        let d : drop ((g k) .skip - 1) (tab g (suc k) m) ≡ tab g (suc k + ((g k) .skip - 1)) (m - ((g k) .skip - 1)) = drop-tab g (suc k) m ((g k) .skip - 1) (omega arith) in
-        let a : suc k + ((g k) .skip - 1) ≡ k + (g k) .skip = omega arith in
-        let b : m - ((g k) .skip - 1) ≡ suc m - (g k) .skip = omega arith in
-        let s : i ≡ checkIn t f (tab g (suc k) ((g k) .skip - 2)) (suc depth) = rw (add-one k, add-one depth) at (says f (omega arith)) in
-        step-group m f o ∙ rw (← e', c, n, ← s, d, a, b)
+  -- a group that stays, c its closer
+  module _ (o : Opener e left) (c : Entry) (p : c ≡ g (k + (e .skip - 1))) where
+    opened : openRight t e after ≡ openerRight t e c
+    opened = opener-here t g e k left o ∙ ap (openerRight t e) (sym p)
 
-    inside-stops' : (left : ℕ) (y : Result Unit) → (g k) .skip ≤ left → ok tt ≡ opener t (g k) (tab g (k + 1) (left - 1)) depth → y ≡ closed → Stops y → Says t g depth k left y
-    inside-stops' zero y l e q s f h = absurd (omega arith)
-    inside-stops' (suc m) y l e q s zero h = absurd (omega arith)
-    inside-stops' (suc m) y l e q s (suc f) h =
-        rw (step-opened m f l (omega arith) e, ← q) (sym (s (checkIn t f (tab g (k + (g k) .skip) (suc m - (g k) .skip)) depth)))
+    pub opener-refused : openerRight t e c ≡ false → Says t g depth k left (answerOf 6)
+    opener-refused h = group-stops 6 (λ z. absurd (omega arith)) (o .group) (rw (opened ∙ h))
 
-    group-goes' : (left : ℕ) (x : Result Unit) → (g k) .skip ≤ left → ok tt ≡ opener t (g k) (tab g (k + 1) (left - 1)) depth → ok tt ≡ closed
-        → Says t g depth (k + (g k) .skip) (left - (g k) .skip) x → Says t g depth k left x
-    group-goes' zero x l e q rest f h = absurd (omega arith)
-    group-goes' (suc m) x l e q rest zero h = absurd (omega arith)
-    group-goes' (suc m) x l e q rest (suc f) h = rw (step-opened m f l (omega arith) e, ← q) (rest f (omega arith))
+    pub deep-refused : openerRight t e c ≡ true → 32 ≤ depth → Says t g depth k left (answerOf 7)
+    deep-refused h d = group-stops 7 (λ z. absurd (omega arith)) (o .group) (rw (opened ∙ h, le-ltb depth 32 d))
 
--- a word opens nothing, so that a record known to be a right word is passed
-word-shut : (t : ℕ) (e : Entry) → wordRight t e ≡ true → opens (e .kind) ≡ false
-word-shut t e h =
-    let kind : e .kind ≡ 0 = eqb-true (e .kind) 0 (right-true (textRight t e) (eqb (e .kind) 0) (left-true (textRight t e && eqb (e .kind) 0) (eqb (e .skip) 1) h)) in
-    rw kind
+    -- its inside answered i
+    module _ (r : openerRight t e c ≡ true) (d : depth < 32) (i : ℕ) (says : Says t g (depth + 1) (k + 1) (e .skip - 2) (answerOf i)) where
+      abbrev closed : Result Unit
+      closed = firstOf (answerOf i) (need (closeRight t e c) bad-record)
 
-pub plain-goes : (t : ℕ) (g : ℕ → Entry) (depth k left : ℕ) (x : Result Unit) → 0 < left → wordRight t (g k) ≡ true
-    → Says t g depth (k + 1) (left - 1) x → Says t g depth k left x
-plain-goes t g depth k left x l h = word-goes' t g depth k left x l (word-shut t (g k) h) (rw h)
+      check-opened : (f : ℕ) → left - 1 ≤ f
+          → checkIn t (suc f) (e ∷ after) depth ≡ firstOf closed (checkIn t f (tab g (k + e .skip) (left - e .skip)) depth)
+      check-opened f h =
+          let two = o .two in
+          let most = o .most in
+          let inner : checkIn t f (insideOf e after) (suc depth) ≡ answerOf i =
+          rw (take-tab g (k + 1) (left - 1) (e .skip - 2) (omega arith), ← add-one depth) (sym (says f (omega arith))) in
+          let j : k + 1 + (e .skip - 1) ≡ k + e .skip = omega arith in
+          let n : left - 1 - (e .skip - 1) ≡ left - e .skip = omega arith in
+          check-group t f e after depth (o .group)
+          ∙ rw (opened ∙ r, lt-ltb depth 32 d, inner, closer-tab t g e k left o, ← p, drop-tab g (k + 1) (left - 1) (e .skip - 1) (omega arith), j, n)
 
--- the same of the entry e that was read
-module _ (t : ℕ) (g : ℕ → Entry) (depth k left : ℕ) (e : Entry) (q : e ≡ g k) where
-  pub word-stops : (y : Result Unit) → 0 < left → opens (e .kind) ≡ false → y ≡ need (wordRight t e) bad-record → Stops y → Says t g depth k left y
-  word-stops = rw q (word-stops' t g depth k left)
+      inside-stops : (n : ℕ) → (n ≡ 0 → ⊥) → answerOf n ≡ closed → Says t g depth k left (answerOf n)
+      inside-stops n a s = says-by (answerOf n) λ f h. rw (check-opened f h, ← s) (sym (answer-stops n a _))
 
-  pub word-goes : (x : Result Unit) → 0 < left → opens (e .kind) ≡ false → ok tt ≡ need (wordRight t e) bad-record
-      → Says t g depth (k + 1) (left - 1) x → Says t g depth k left x
-  word-goes = rw q (word-goes' t g depth k left)
+      pub inside-refused : (i ≡ 0 → ⊥) → Says t g depth k left (answerOf i)
+      inside-refused a = inside-stops i a (sym (answer-stops i a (need (closeRight t e c) bad-record)))
 
-  pub group-stops : (y : Result Unit) → 0 < left → opens (e .kind) ≡ true → y ≡ opener t e (tab g (k + 1) (left - 1)) depth → Stops y → Says t g depth k left y
-  group-stops = rw q (group-stops' t g depth k left)
+      pub close-refused : i ≡ 0 → closeRight t e c ≡ false → Says t g depth k left (answerOf 6)
+      close-refused z s = inside-stops 6 (λ y. absurd (omega arith)) (rw (z, s))
 
-  pub inside-stops : (i y : Result Unit) → opens (e .kind) ≡ true → 2 ≤ e .skip → e .skip ≤ left → Says t g (depth + 1) (k + 1) (e .skip - 2) i
-      → ok tt ≡ opener t e (tab g (k + 1) (left - 1)) depth → y ≡ firstOf i (need (closeRight t e (g (k + (e .skip - 1)))) bad-record) → Stops y → Says t g depth k left y
-  inside-stops = rw q (λ i y o two l says. inside-stops' t g depth k i o two says left y l)
-
-  pub group-goes : (i x : Result Unit) → opens (e .kind) ≡ true → 2 ≤ e .skip → e .skip ≤ left → Says t g (depth + 1) (k + 1) (e .skip - 2) i
-      → ok tt ≡ opener t e (tab g (k + 1) (left - 1)) depth → ok tt ≡ firstOf i (need (closeRight t e (g (k + (e .skip - 1)))) bad-record)
-      → Says t g depth (k + e .skip) (left - e .skip) x → Says t g depth k left x
-  group-goes = rw q (λ i x o two l says. group-goes' t g depth k i o two says left x l)
+      pub group-goes : i ≡ 0 → closeRight t e c ≡ true → (x : Result Unit) → Says t g depth (k + e .skip) (left - e .skip) x → Says t g depth k left x
+      group-goes z s x rest =
+          let two = o .two in
+          says-by x λ f h. rw (check-opened f h, z, s) (rest f (omega arith))
 
 pub says-end : (t : ℕ) (g : ℕ → Entry) (depth k left : ℕ) → left ≤ 0 → Says t g depth k left (ok tt)
 unfolding checkIn tab
 says-end t g depth k zero l zero h = refl
 says-end t g depth k zero l (suc f) h = refl
 says-end t g depth k (suc m) l f h = absurd (omega arith)
-
--- a group that holds words only, c its closer
-pub words-group : (t : ℕ) (g : ℕ → Entry) (depth k left : ℕ) (e c : Entry) → e ≡ g k → c ≡ g (k + (e .skip - 1)) → opens (e .kind) ≡ true → 2 ≤ e .skip
-    → e .skip ≤ left → depth < 32 → openerRight t e c ≡ true → ok tt ≡ need (closeRight t e c) bad-record
-    → Says t g (depth + 1) (k + 1) (e .skip - 2) (ok tt) → Passes t g depth k left (e .skip)
-words-group t g depth k left e c q h o two l d r closes says some =
-    let right : openRight t e (tab g (k + 1) (left - 1)) ≡ true = opener-here t g e k left two l ∙ ap (openerRight t e) (sym h) ∙ r in
-    let opened : ok tt ≡ opener t e (tab g (k + 1) (left - 1)) depth = rw (right, lt-ltb depth 32 d) in
-    let closed : ok tt ≡ need (closeRight t e (g (k + (e .skip - 1)))) bad-record = closes ∙ ap (λ x. need (closeRight t e x) bad-record) h in
-    (l, λ x rest. group-goes t g depth k left e q (ok tt) x o two l says opened closed rest)

@@ -1,6 +1,5 @@
 -- Laws of the image check's parts over plain variables, which the functions' proofs cite.
-mod Tests
+mod Answers
 mod Sums
 mod Groups
-mod Plain
 mod Whole

@@ -1,14 +1,14 @@
 -- 5: entries one by one, each law one turn of a loop: what is still to come, after what was seen.
 use mathlib.Core.Path.{_≡_, refl, sym, ap, _∙_}
-use native.Mathlib.Nat.{add-zero, zero-add, add-assoc, mul-suc, one-mul, mod-eq-of-lt, pow-le-pow-right}
+use native.Mathlib.Nat.{add-zero, zero-add, add-assoc, mul-suc, mul-le-mul-left, pow-le-pow-right}
 use native.Mathlib.Numerals.{add-one}
 use native.Mathlib.Omega.{arith}
 use Prim.Native.Nat.{_<_, _≤_, _-_}
-use Rattle.def_numbers.specs.Prelude.{ℕ, suc, _+_, _*_, _%_, _^_, Bool, true, false, _&&_, List, [], _∷_, map, leb, eqb}
+use Rattle.def_numbers.specs.Prelude.{ℕ, suc, _+_, _*_, _^_, Bool, true, false, _&&_, List, [], _∷_, map, leb, ltb, eqb}
 use Rattle.def_numbers.specs.Basics.{sum, all, tab}
 use Rattle.def_image.specs.Image.{u32At, bytesFor, counts, tables, componentCount, recordCount, literalWidth}
 use Rattle.def_image.specs.Check.{sparesZero, entriesRight}
-use Rattle.image_check.proofs.Tests.{and-assoc, and-true}
+use mathlib.Core.Bool.{and-assoc, and-true}
 use Rattle.image_check.specs.Parts.{sizesRight, widthsRight, spareZero}
 
 -- the first of a table, and what is still to come
@@ -46,6 +46,10 @@ sizes-again right right' g s k n size total whole l e q inv =
 pub place-next : (from step k at : ℕ) → at ≡ from + step * k → at + step ≡ from + step * (k + 1)
 place-next from step k at e = rw (e, add-one k, mul-suc) (add-assoc from (step * k) step)
 
+-- what is stepped over ends no later than the last step
+pub step-fits : (step k n : ℕ) → k < n → step * k + step ≤ step * n
+step-fits step k n l = rw (← mul-suc step k) (mul-le-mul-left step (omega arith))
+
 spares-next : (a p q e s z : Bool) → (a && (((p && q) && e) && (s && z))) ≡ ((a && (p && s)) && ((q && e) && z))
 spares-next false p q e s z = refl
 spares-next true false q e s z = refl
@@ -74,11 +78,12 @@ widths-again right right' spare inner image g l k n w literals total whole h e t
     let cons = widths-cons right image l (g k) (tab g (k + 1) (n - (k + 1))) total in
     rw (q, i, s, t, e) (sym (ap (λ (ws : List ℕ). right && widthsRight image l ws total) (tab-next g k n h) ∙ cons) ∙ inv)
 
--- one bit for each of k places
-pub one-shifted : (k : ℕ) → k < 8 → (1 * 2 ^ k) % 4294967296 ≡ 2 ^ k
-one-shifted k l =
-    let m : 2 ^ k ≤ 2 ^ 8 = pow-le-pow-right (omega arith) {i = k} {j = 8} (omega arith) in
-    rw one-mul (mod-eq-of-lt (omega arith))
+-- a bit in one of eight places does not wrap
+pub in-byte : (k : ℕ) → k < 8 → 2 ^ k ≤ 256
+in-byte k l = pow-le-pow-right (omega arith) {i = k} {j = 8} (omega arith)
+
+pub below-same : (b : ℕ) {m n : ℕ} → m ≡ n → ltb b m ≡ ltb b n
+below-same b e = rw e
 
 regroup : (a b c d e f g : Bool) → (((a && b) && (c && d)) && ((e && f) && g)) ≡ ((((((a && b) && c) && d) && e) && f) && g)
 regroup a b c d e f g = rw (← and-assoc (a && b) c d, ← and-assoc ((a && b) && c && d) (e && f) g, ← and-assoc ((a && b) && c && d) e f)

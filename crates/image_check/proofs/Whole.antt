@@ -1,17 +1,20 @@
--- Component after component, and the whole check in its three parts.
+-- Component after component, the places in an image that passed 2 to 4, and the whole check in its parts.
 use mathlib.Core.Path.{_≡_, refl, sym, ap, _∙_}
 use Prim.Native.Nat.{_<_, _≤_, _-_}
 use native.Mathlib.Omega.{arith}
-use borrow.Author.Tests.{eqb-true}
+use borrow.Author.Tests.{lt-leb, le-leb, ne-eqb}
 use Rattle.def_numbers.specs.Prelude.{ℕ, _+_, Bool, true, false, _&&_, List, map, length, leb, eqb}
 use Rattle.def_numbers.specs.Basics.{Result, ok, refused, sum, all, tab}
-use Rattle.def_numbers.specs.Refusals.{need, short-image, bad-count, bad-offset, bad-entry}
-use Rattle.def_image.specs.Image.{bytesFor, counts, tables, componentCount, recordCount, literalWidth, entryAt}
+use Rattle.def_numbers.specs.Refusals.{need, short-image, bad-count, bad-offset, bad-entry, bad-record}
+use Rattle.def_image.specs.Image.{u32At, bytesFor, counts, tablesFor, tables, componentCount, recordCount, literalWidth, startAt, entryAt}
 use Rattle.def_image.specs.Check.{countsRight, offsetsRight, sparesZero, entriesRight, checkIn, checkComponents, checkImage}
-use Rattle.token_tree.specs.Tables.{entryIn}
+use Rattle.laws.specs.Tests.{tested}
+use Rattle.token_tree.specs.declared.Counts.{Counts}
+use Rattle.token_tree.specs.declared.Tables.{Tables}
+use Rattle.token_tree.specs.Tables.{countsOf, tablesOf, entryIn}
 use Rattle.image_check.specs.declared.records.Places.{Places}
-use Rattle.image_check.specs.Parts.{firstOf, header, Small, entryOn, placesOf, Says, records}
-use Rattle.image_check.proofs.Tests.{left-true, right-true, small, Stops}
+use Rattle.image_check.specs.Parts.{countsIn, offsetsIn, Laid, entryOn, placesOf, Says, records}
+use Rattle.image_check.proofs.Answers.{firstOf, Stops}
 use Rattle.image_check.proofs.Sums.{tab-next, tab-end}
 
 -- ---- components
@@ -21,8 +24,8 @@ unfolding entryIn
 own image p from count x e = rw e (λ says. says count (omega arith))
 
 module _ (g : ℕ → ℕ) (from k n count : ℕ) (l : k < n) (e : count ≡ g k) where
-  pub sum-goes : (total bound : ℕ) → from + sum (tab g k (n - k)) ≡ total → total < bound
-      → (from + count < bound) × (from + count + sum (tab g (k + 1) (n - (k + 1))) ≡ total)
+  pub sum-goes : (total bound : ℕ) → from + sum (tab g k (n - k)) ≡ total → total ≤ bound
+      → (from + count ≤ bound) × (from + count + sum (tab g (k + 1) (n - (k + 1))) ≡ total)
   unfolding sum
   sum-goes total bound s b =
       let q : from + (g k + sum (tab g (k + 1) (n - (k + 1)))) ≡ total = rw (tab-next g k n l) at s in
@@ -44,44 +47,89 @@ pub components-end : (image : List ℕ) (g : ℕ → ℕ) (from k n : ℕ) (whol
 unfolding checkComponents
 components-end image g from k n whole l e = rw (tab-end g k n l) at e
 
-pub places-own : (image : List ℕ) (h : record { c : ℕ; n : ℕ; r : ℕ; t : ℕ; b : ℕ })
+-- ---- an image that passed 2 to 4
+places-by : (image : List ℕ) (h : record { c : ℕ; n : ℕ; r : ℕ; t : ℕ; b : ℕ })
     (at : record { concatenations : ℕ; components : ℕ; records : ℕ; text : ℕ; literals : ℕ; stop : ℕ }) → h ≡ counts image → at ≡ tables image
     → _≡_ {A = Places} (record { records = at .records; text = at .text; count = h .r; t = h .t }) (placesOf image)
-places-own image h at e q = rw (e, q)
+places-by image h at e q = rw (e, q)
 
--- ---- the whole
-four : (a b c d : Result Unit) → firstOf a (firstOf b (firstOf c d)) ≡ firstOf (firstOf a (firstOf b c)) d
-four (ok u) (ok v) c d = refl
-four (ok u) (refused n i k) c d = refl
-four (refused n i k) b c d = refl
+module _ (image : List ℕ) (h : Counts) (at : Tables) (l : Laid image h at) where
+  -- the tables by the counts that were read
+  pub tables-told : tablesOf at ≡ tablesFor (h .c) (h .n) (h .r) (h .t) (h .b)
+  tables-told = l .placed ∙ sym (ap (λ x. tablesFor (x .c) (x .n) (x .r) (x .t) (x .b)) (l .counted))
 
-pub parts : (image : List ℕ) → checkImage image ≡ firstOf (header image) (firstOf (need (entriesRight image) bad-entry) (records image))
-unfolding checkImage header records
-parts image =
-    four (need (leb 40 (length image)) short-image) (need (countsRight image) bad-count) (need (offsetsRight image) bad-offset)
-    (firstOf (need (entriesRight image) bad-entry) (records image))
+  pub places-own : _≡_ {A = Places} (record { records = at .records; text = at .text; count = h .r; t = h .t }) (placesOf image)
+  places-own =
+      places-by image (countsOf h) (tablesOf at) (l .counted) (l .placed)
 
-middle : (a b c : Bool) → ok tt ≡ firstOf (need a short-image) (firstOf (need b bad-count) (need c bad-offset)) → b ≡ true
-middle true true c e = refl
-middle true false c e = cc
-middle false b c e = cc
+pub some-records : (h : record { c : ℕ; n : ℕ; r : ℕ; t : ℕ; b : ℕ }) → countsIn h ≡ true → 1 ≤ h .r
+some-records h e = let q = simp tested at e in omega arith
 
-pub header-small : (image : List ℕ) → ok tt ≡ header image → Small (counts image)
-unfolding header
-header-small image e = small (counts image) (middle (leb 40 (length image)) (countsRight image) (offsetsRight image) e)
+pub image-ends : (image : List ℕ) (at : record { concatenations : ℕ; components : ℕ; records : ℕ; text : ℕ; literals : ℕ; stop : ℕ })
+    → offsetsIn image at ≡ true → length image ≡ at .stop
+image-ends image at e = let q = simp tested at e in q .1
 
-fourth : (a b c d e f g : Bool) → (a && b && c && d && e && f && g) ≡ true → d ≡ true
-fourth a b c d e f g h =
-    right-true (a && b && c) d (left-true (a && b && c && d) e (left-true (a && b && c && d && e) f (left-true (a && b && c && d && e && f) g h)))
+second-sum : (a d f g : Bool) (x n y r z b : ℕ) → (a && eqb x n && d && eqb y r && f && eqb z b && g) ≡ true → y ≤ r
+second-sum a d f g x n y r z b h = let q = simp tested at h in omega arith
 
-pub few-records : (image : List ℕ) → Small (counts image) → entriesRight image ≡ true → sum (tab (recordCount image) 0 ((counts image) .n)) < 4294967296
-few-records image few h =
+pub records-sum : (image : List ℕ) (h : Counts) → countsOf h ≡ counts image → entriesRight image ≡ true → sum (tab (recordCount image) 0 (h .n)) ≤ h .r
+records-sum image h e r =
     let k = counts image in
     let sizes = tab (componentCount image) 0 (k .c) in
     let lengths = tab (recordCount image) 0 (k .n) in
     let widths = tab (literalWidth image) 0 (k .n) in
-    let d = fourth (all (leb 1) sizes) (eqb (sum sizes) (k .n)) (all (leb 1) lengths) (eqb (sum lengths) (k .r)) (all (λ w. leb w 4096) widths) (eqb (sum (map bytesFor widths)) (k .b))
-    (sparesZero image 0 widths) h in
-    let r = few .r in
-    let e : sum lengths ≡ k .r = eqb-true (sum lengths) (k .r) d in
-    rw e (omega arith)
+    let s : sum lengths ≤ k .r = second-sum (all (leb 1) sizes) (all (leb 1) lengths) (all (λ w. leb w 4096) widths) (sparesZero image 0 widths) (sum sizes) (k .n) (sum lengths) (k .r)
+    (sum (map bytesFor widths)) (k .b) r in
+    rw (ap (λ x. x .n) e, ap (λ x. x .r) e) s
+
+-- ---- the records: the first start is looked at before them
+start-stops : (n : ℕ) (x : Result Unit) → (n ≡ 0 → ⊥) → refused 6 0 0 ≡ firstOf (need (eqb n 0) bad-record) x
+start-stops n x h = rw (ne-eqb n 0 h)
+
+start-goes : (n : ℕ) (x : Result Unit) → n ≡ 0 → x ≡ firstOf (need (eqb n 0) bad-record) x
+start-goes n x h = rw h
+
+module _ (image : List ℕ) (h : Counts) (at : Tables) (l : Laid image h at) (start : ℕ) (s : start ≡ u32At image (at .records + 4)) where
+  first-start : start ≡ startAt image 0
+  first-start = s ∙ ap (u32At image) (omega (arith, ap (λ t. t .records) (l .placed)))
+
+  abbrev all-components : Result Unit
+  all-components = checkComponents image 0 (tab (recordCount image) 0 ((counts image) .n))
+
+  pub start-refused : (start ≡ 0 → ⊥) → refused 6 0 0 ≡ records image
+  unfolding records
+  start-refused a = start-stops (startAt image 0) all-components λ z. a (first-start ∙ z)
+
+  pub components-said : (x : Result Unit) → start ≡ 0 → x ≡ checkComponents image 0 (tab (recordCount image) 0 (h .n)) → x ≡ records image
+  unfolding records
+  components-said x z e =
+      e ∙ ap (λ n. checkComponents image 0 (tab (recordCount image) 0 n)) (ap (λ y. y .n) (l .counted))
+      ∙ start-goes (startAt image 0) all-components (sym first-start ∙ z)
+
+-- ---- the whole: the first test that fails refuses
+abbrev inTurn : Bool → Bool → Bool → Bool → Result Unit → Result Unit
+inTurn a b c d x = firstOf (need a short-image) (firstOf (need b bad-count) (firstOf (need c bad-offset) (firstOf (need d bad-entry) x)))
+
+module _ (image : List ℕ) where
+  parts : checkImage image ≡ inTurn (leb 40 (length image)) (countsRight image) (offsetsRight image) (entriesRight image) (records image)
+  unfolding checkImage records
+  parts = refl
+
+  pub too-short : length image < 40 → checkImage image ≡ refused 2 0 0
+  too-short h = parts ∙ rw (lt-leb 40 (length image) h)
+
+  module _ (long : 40 ≤ length image) where
+    at-least : leb 40 (length image) ≡ true
+    at-least = le-leb 40 (length image) long
+
+    pub miscounted : countsRight image ≡ false → checkImage image ≡ refused 3 0 0
+    miscounted h = parts ∙ rw (at-least, h)
+
+    pub misplaced : countsRight image ≡ true → offsetsRight image ≡ false → checkImage image ≡ refused 4 0 0
+    misplaced h p = parts ∙ rw (at-least, h, p)
+
+    pub wrong-entry : countsRight image ≡ true → offsetsRight image ≡ true → entriesRight image ≡ false → checkImage image ≡ refused 5 0 0
+    wrong-entry h p e = parts ∙ rw (at-least, h, p, e)
+
+    pub all-but-records : countsRight image ≡ true → offsetsRight image ≡ true → entriesRight image ≡ true → checkImage image ≡ records image
+    all-but-records h p e = parts ∙ rw (at-least, h, p, e)

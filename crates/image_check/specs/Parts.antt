@@ -1,43 +1,36 @@
 -- The parts of the image check, over numbers that were read already. Each is the definition's own where it is given what the image says.
 use mathlib.Core.Path.{_≡_}
-use Prim.Native.Nat.{_-_, _≤_, _<_}
-use Rattle.def_numbers.specs.Prelude.{ℕ, _+_, _/_, _%_, _^_, Bool, true, _&&_, List, map, length, getD, leb, ltb, eqb}
-use Rattle.def_numbers.specs.Basics.{Result, _>>=_, if_then_else_, within, sum, all, tab}
+use Prim.Native.Nat.{_≤_, _<_}
+use Rattle.def_numbers.specs.Prelude.{ℕ, _+_, _*_, _/_, _%_, _^_, Bool, true, _&&_, List, map, length, getD, leb, ltb, eqb}
+use Rattle.def_numbers.specs.Basics.{Result, ok, refused, _>>=_, if_then_else_, within, sum, all, tab}
 use Rattle.def_numbers.specs.Limits.{limits}
-use Rattle.def_numbers.specs.Refusals.{need, short-image, bad-count, bad-offset, bad-record, too-deep}
-use Rattle.def_image.specs.Image.{u32At, bytesFor, counts, tables, recordCount, startAt, Entry, kinds, delimiter}
-use Rattle.def_image.specs.Check.{countsRight, offsetsRight, sparesZero, textRight, delimiterRight, openRight, checkIn, checkComponents}
-use Rattle.token_tree.specs.Tables.{entryIn}
+use Rattle.def_numbers.specs.Refusals.{need, bad-record}
+use Rattle.def_image.specs.Image.{u32At, bytesFor, counts, tables, recordCount, startAt, Entry, kinds, opens, delimiter}
+use Rattle.def_image.specs.Check.{sparesZero, textRight, delimiterRight, checkIn, checkComponents}
+use Rattle.token_tree.specs.declared.Counts.{Counts}
+use Rattle.token_tree.specs.declared.Tables.{Tables}
+use Rattle.token_tree.specs.Tables.{countsOf, tablesOf, entryIn}
 use Rattle.image_check.specs.declared.records.Places.{Places}
+use Rattle.image_check.specs.declared.records.Numbers.{Numbers}
 use Rattle.image_check.specs.declared.records.Delimiter.{Delimiter}
 
--- the first refusal of two
-abbrev pub firstOf : Result Unit → Result Unit → Result Unit
-firstOf a b = a >>= λ _. b
-
--- 2 to 4
-unfoldable pub header : List ℕ → Result Unit
-header image = do
-  _ ← need (leb 40 (length image)) short-image
-  _ ← need (countsRight image) bad-count
-  need (offsetsRight image) bad-offset
-
+-- 3 and 4
 abbrev pub countsIn : record { c : ℕ; n : ℕ; r : ℕ; t : ℕ; b : ℕ } → Bool
 countsIn h =
     within 1 (limits .concatenations) (h .c) && within 1 (limits .components) (h .n) && within 1 (limits .records) (h .r)
     && within 1 (limits .text) (h .t) && leb (h .b) (limits .literal-bytes)
 
--- what the counts of an image that passed 3 are at most, so that no place in it wraps
-pub record Small (h : record { c : ℕ; n : ℕ; r : ℕ; t : ℕ; b : ℕ }) : Type 0 where
-  pub c : h .c ≤ 16
-  pub n : h .n ≤ 256
-  pub r : h .r ≤ 2048
-  pub t : h .t ≤ 16384
-
 abbrev pub offsetsIn : List ℕ → record { concatenations : ℕ; components : ℕ; records : ℕ; text : ℕ; literals : ℕ; stop : ℕ } → Bool
 offsetsIn image at =
     eqb (u32At image 20) (at .concatenations) && eqb (u32At image 24) (at .components) && eqb (u32At image 28) (at .records)
     && eqb (u32At image 32) (at .text) && eqb (u32At image 36) (at .literals) && eqb (length image) (at .stop)
+
+-- an image that passed 2 to 4, its counts and tables: there are records, and the last table ends where the image ends
+pub record Laid (image : List ℕ) (h : Counts) (at : Tables) : Type 0 where
+  pub counted : countsOf h ≡ counts image
+  pub placed : tablesOf at ≡ tables image
+  pub some : 1 ≤ h .r
+  pub ends : length image ≡ at .stop
 
 -- 5: numbers of at least 1, which with s make up the total
 abbrev pub sizesRight : ℕ → List ℕ → ℕ → Bool
@@ -58,25 +51,36 @@ entryOn image p k = entryIn image (p .records) (p .text) (p .count) (p .t) k
 abbrev pub placesOf : List ℕ → Places
 placesOf image = record { records = (tables image) .records; text = (tables image) .text; count = (counts image) .r; t = (counts image) .t }
 
+-- every record stands in the image, and neither a record's number nor a place in the text wraps
+pub record Fits (image : List ℕ) (p : Places) : Type 0 where
+  pub count : p .count < 2 ^ 32
+  pub records : p .records + 12 * p .count ≤ length image
+  pub text : p .text ≤ 2 ^ 40
+
+-- a record's numbers with the first byte of its text, and with the one that stands in the image
+abbrev pub entryWith : Numbers → ℕ → Entry
+entryWith e byte = record { kind = e .kind; start = e .start; stop = e .stop; skip = e .skip; byte = byte }
+
+abbrev pub entryFrom : List ℕ → Places → Numbers → Entry
+entryFrom image p e = entryWith e (getD image (p .text + e .start) 0)
+
 abbrev pub delimiterOf : Delimiter → record { opening : ℕ; closing : ℕ }
 delimiterOf d = record { opening = d .opening; closing = d .closing }
 
--- an opener whose skip stays in its group, with its closer; and any opener, with what follows it, at a depth
+-- an opener whose skip stays in the records that are left; and then its text, with its closer's kind
+abbrev pub skipRight : Entry → ℕ → Bool
+skipRight e left = opens (e .kind) && leb 2 (e .skip) && leb (e .skip) left
+
 abbrev pub openerRight : ℕ → Entry → Entry → Bool
 openerRight t e closer = textRight t e && delimiterRight ((delimiter (e .kind)) .opening) e && eqb (closer .kind) (kinds .closer)
 
-abbrev pub opener : ℕ → Entry → List Entry → ℕ → Result Unit
-opener t e rest depth = do
-  _ ← need (openRight t e rest) bad-record
-  need (ltb depth (limits .depth)) too-deep
+-- an answer as a number: 0 passed, any other refuses
+abbrev pub answerOf : ℕ → Result Unit
+answerOf n = if eqb n 0 then ok tt else refused n 0 0
 
 -- x is the answer of the check of `count` records from record `from` on, whatever fuel is enough
 abbrev pub Says : ℕ → (ℕ → Entry) → ℕ → ℕ → ℕ → Result Unit → Type 0
 Says t g depth from count x = (f : ℕ) → count ≤ f → x ≡ checkIn t f (tab g from count) depth
-
--- n records from record k on pass, where n is not 0: what the rest says, all of them say
-abbrev pub Passes : ℕ → (ℕ → Entry) → ℕ → ℕ → ℕ → ℕ → Type 0
-Passes t g depth k left n = 0 < n → (n ≤ left) × ((x : Result Unit) → Says t g depth (k + n) (left - n) x → Says t g depth k left x)
 
 -- 6 and 7 of all components
 unfoldable pub records : List ℕ → Result Unit

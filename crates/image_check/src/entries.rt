@@ -1,15 +1,19 @@
 // 5: concatenation and component entries, their sums, and the literals' spare bits.
 use crate::both;
+use crate::four_at;
+use token_tree::Counts;
+use token_tree::Tables;
 ghost use mathlib.Core.Path.{_≡_};
 ghost use Prim.Native.Nat.{_+_, _*_, _^_, _≤_};
+ghost use lib.ListN.{length};
 ghost use Rattle.def_numbers.specs.Basics.{tab};
-ghost use Rattle.def_image.specs.Image.{u32At, counts, tables};
+ghost use Rattle.def_image.specs.Image.{u32At, tables};
 ghost use Rattle.def_image.specs.Check.{entriesRight};
-ghost use Rattle.image_check.specs.Parts.{Small, sizesRight, widthsRight, spareZero};
+ghost use Rattle.image_check.specs.Parts.{Laid, sizesRight, widthsRight, spareZero};
 
 // Whether n numbers, `step` bytes apart, are each at least 1 and have this sum.
 fn sizes_right(image: &[u8], from: usize, step: usize, n: u32, total: u32) -> bool
-    requires { ⌜ (from ≤ 2 ^ 40) × (step ≤ 8) ⌝ }
+    requires { ⌜ (4 ≤ step) × (from + step * n ≤ length (now image)) ⌝ }
     ensures { λ r. ⌜ r ≡ sizesRight 0 (tab (λ i. u32At (now (image .entry)) (from + step * i)) 0 n) total ⌝ }
 {
     let mut right = true;
@@ -17,7 +21,7 @@ fn sizes_right(image: &[u8], from: usize, step: usize, n: u32, total: u32) -> bo
     let mut at = from;
     let mut k: u32 = 0;
     while k < n {
-        let size = token_tree::u32_at(image, at);
+        let size = four_at(image, at);
         right = both(right, 1 <= size);
         sum += size as u64;
         at += step;
@@ -39,14 +43,14 @@ fn spare_right(image: &[u8], at: usize, w: u32) -> bool
 }
 
 fn widths_right(image: &[u8], components: usize, literals: usize, n: u32, total: u32) -> bool
-    requires { ⌜ (literals ≡ (tables (now image)) .literals) × (components ≤ 2 ^ 40) × (literals ≤ 2 ^ 40) ⌝ }
+    requires { ⌜ (literals ≡ (tables (now image)) .literals) × (components + 8 * n ≤ length (now image)) × (literals ≤ 2 ^ 40) ⌝ }
     ensures { λ r. ⌜ r ≡ widthsRight (now (image .entry)) 0 (tab (λ i. u32At (now (image .entry)) (components + 8 * i + 4)) 0 n) total ⌝ }
 {
     let mut right = true;
     let mut l: usize = 0;
     let mut k: u32 = 0;
     while k < n {
-        let w = token_tree::u32_at(image, components + 8 * (k as usize) + 4);
+        let w = four_at(image, components + 8 * (k as usize) + 4);
         let spare = spare_right(image, literals + l, w);
         right = both(right, both(w <= 4096, spare));
         l += ((w as usize) + 7) / 8;
@@ -55,12 +59,10 @@ fn widths_right(image: &[u8], components: usize, literals: usize, n: u32, total:
     both(right, l == (total as usize))
 }
 
-pub(crate) fn entries_right(image: &[u8]) -> bool
-    requires { ⌜ Small (counts (now image)) ⌝ }
+pub(crate) fn entries_right(image: &[u8], h: Counts, at: Tables) -> bool
+    requires { ⌜ Laid (now image) h at ⌝ }
     ensures { λ r. ⌜ r ≡ entriesRight (now (image .entry)) ⌝ }
 {
-    let h = token_tree::counts_of(image);
-    let at = token_tree::tables_of(image);
     let sizes = both(
         sizes_right(image, 40, 4, h.c, h.n),
         sizes_right(image, at.components, 8, h.n, h.r),

@@ -1,21 +1,22 @@
-// Document 01's image check: 2 to 7 in the document's order, for every byte string.
+// Document 01's image check: 2 to 7 in the document's order, for every byte string. After 2 to 4 every table lies in the image, and
+// numbers are read directly.
 mod entries;
 mod records;
-mod words;
 
 use errors::Checked;
 use token_tree::Counts;
 use token_tree::Tables;
 ghost use mathlib.Core.Path.{_≡_};
 ghost use mathlib.Core.Bool.{_&&_};
+ghost use Prim.Native.Nat.{_+_, _≤_};
 ghost use lib.Dec.{eqb};
+ghost use lib.ListN.{length};
 ghost use Rattle.def_numbers.specs.Basics.{within};
-ghost use Rattle.def_numbers.specs.Refusals.{Reason, numberOf, need};
 ghost use Rattle.def_image.specs.Image.{u32At};
 ghost use Rattle.def_image.specs.Check.{checkImage};
 ghost use Rattle.errors.specs.Refused.{resultOf};
 ghost use Rattle.token_tree.specs.Tables.{countsOf, tablesOf};
-ghost use Rattle.image_check.specs.Parts.{firstOf, header, countsIn, offsetsIn};
+ghost use Rattle.image_check.specs.Parts.{countsIn, offsetsIn};
 
 fn both(a: bool, b: bool) -> bool
     ensures { λ r. ⌜ r ≡ (a && b) ⌝ }
@@ -29,24 +30,12 @@ fn between(lo: u32, hi: u32, n: u32) -> bool
     both(lo <= n, n <= hi)
 }
 
-// Passed where the test holds, else refused with document 01's number.
-fn needed(test: bool, number: u32) -> Checked
-    ensures { λ r. ⌜ ((w : Reason) → numberOf w ≡ number → resultOf r ≡ need test w) ⌝ }
+// Four bytes that are all there.
+fn four_at(s: &[u8], at: usize) -> u32
+    requires { ⌜ at + 4 ≤ length (now s) ⌝ }
+    ensures { λ r. ⌜ r ≡ u32At (now (s .entry)) at ⌝ }
 {
-    if test {
-        return Checked::Passed;
-    }
-    Checked::Refused(errors::refuse(number))
-}
-
-// The first refusal of two.
-fn first(a: Checked, b: Checked) -> Checked
-    ensures { λ r. ⌜ resultOf r ≡ firstOf (resultOf a) (resultOf b) ⌝ }
-{
-    match a {
-        Checked::Passed => b,
-        Checked::Refused(r) => Checked::Refused(r),
-    }
+    token_tree::join4(s[at], s[at + 1], s[at + 2], s[at + 3])
 }
 
 fn counts_right(h: Counts) -> bool
@@ -58,12 +47,14 @@ fn counts_right(h: Counts) -> bool
 }
 
 fn number_is(image: &[u8], at: usize, n: usize) -> bool
+    requires { ⌜ at + 4 ≤ length (now image) ⌝ }
     ensures { λ r. ⌜ r ≡ eqb (u32At (now (image .entry)) at) n ⌝ }
 {
-    (token_tree::u32_at(image, at) as usize) == n
+    (four_at(image, at) as usize) == n
 }
 
 fn offsets_right(image: &[u8], at: Tables) -> bool
+    requires { ⌜ 40 ≤ length (now image) ⌝ }
     ensures { λ r. ⌜ r ≡ offsetsIn (now (image .entry)) (tablesOf at) ⌝ }
 {
     let entries = both(
@@ -80,32 +71,23 @@ fn offsets_right(image: &[u8], at: Tables) -> bool
     )
 }
 
-// 2 to 4.
-fn header_check(image: &[u8]) -> Checked
-    ensures { λ r. ⌜ resultOf r ≡ header (now (image .entry)) ⌝ }
-{
-    let h = token_tree::counts_of(image);
-    let at = token_tree::tables_of(image);
-    first(
-        needed(40 <= image.len(), 2),
-        first(
-            needed(counts_right(h), 3),
-            needed(offsets_right(image, at), 4),
-        ),
-    )
-}
-
 // Document 01's whole image check.
 pub fn check_image(image: &[u8]) -> Checked
     ensures { λ r. ⌜ resultOf r ≡ checkImage (now (image .entry)) ⌝ }
 {
-    let header = header_check(image);
-    let Checked::Passed = header else {
-        return header;
-    };
-    let entries = needed(entries::entries_right(image), 5);
-    let Checked::Passed = entries else {
-        return entries;
-    };
-    records::records_check(image)
+    if image.len() < 40 {
+        return Checked::Refused(errors::refuse(2));
+    }
+    let h = token_tree::counts_of(image);
+    if !counts_right(h) {
+        return Checked::Refused(errors::refuse(3));
+    }
+    let at = token_tree::tables_of(image);
+    if !offsets_right(image, at) {
+        return Checked::Refused(errors::refuse(4));
+    }
+    if !entries::entries_right(image, h, at) {
+        return Checked::Refused(errors::refuse(5));
+    }
+    records::records_check(image, h, at)
 }

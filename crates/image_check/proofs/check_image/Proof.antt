@@ -1,72 +1,83 @@
--- The definition's check in its three parts: a refusal of one is the whole's, and a part that passed leaves the next.
-use mathlib.Core.Path.{refl, sym, _∙_}
+-- Test after test: the first that fails refuses, and what passed 2 to 4 is laid out as the numbers that were read say.
+use mathlib.Core.Path.{_≡_, sym, ap, _∙_}
 use borrow.Author.Needs.{needs}
-use Rattle.def_numbers.specs.Refusals.{need, bad-entry}
-use Rattle.def_image.specs.Check.{entriesRight}
-use Rattle.errors.specs.Refused.{resultOf}
-use Rattle.image_check.specs.Parts.{firstOf, header, records}
-use Rattle.image_check.proofs.Tests.{stops, passed, need-true, first-stops, first-goes}
-use Rattle.image_check.proofs.Whole.{parts, header-small, few-records}
+use borrow.Author.Tests.{not-true, not-false}
+use Rattle.def_image.specs.Check.{countsRight, offsetsRight}
+use Rattle.token_tree.specs.Tables.{countsOf, tablesOf}
+use Rattle.image_check.specs.Parts.{countsIn, offsetsIn, Laid}
+use Rattle.image_check.proofs.Whole.{some-records, image-ends, records-sum, too-short, miscounted, misplaced, wrong-entry, all-but-records}
 use Rattle.image_check.proofs.check_image.Statement.{statement}
 use Rattle.image_check.proofs.check_image.Tie as tie
 
-returns : tie.Need-returns
-returns c =
-    let h = c .before .before in
-    let image = h .before .before .args .image .now in
-    first-stops (resultOf (h .header-check .result)) (header image) (firstOf (need (entriesRight image) bad-entry) (records image)) (h .header-check .ensures)
-    (stops (h .header-check .result) _ (c .enum-told2 .given .1))
-    ∙ sym (parts image)
+counts-read : (c : tie.After-counts-right) → countsRight (c .before .before .before .before .args .image .now) ≡ c .counts-right .result
+counts-read c = sym (c .counts-right .ensures ∙ ap countsIn (c .before .counts-of .ensures))
 
-entries-right-requires : tie.Need-entries-right-requires
-entries-right-requires c κs =
-    let h = c .before .before in
-    header-small (h .before .before .args .image .now) (passed (h .header-check .result) _ (h .header-check .ensures) (c .enum-told .given .1))
+offsets-read : (c : tie.After-offsets-right) → offsetsRight (c .before .before .before .before .before .before .before .args .image .now) ≡ c .offsets-right .result
+offsets-read c =
+    let image = c .before .before .before .before .before .before .before .args .image .now in
+    sym (c .offsets-right .ensures ∙ ap (offsetsIn image) (c .before .tables-of .ensures))
+
+laid : (c : tie.Else3) → Laid (c .before .before .before .before .before .before .before .before .args .image .now) (c .before .before .before .before .before .counts-of .result) (c .before .before .tables-of .result)
+laid c =
+    let p = c .before in
+    let n = p .before .before .before in
+    record {
+      counted = n .before .counts-of .ensures;
+      placed = p .before .tables-of .ensures;
+      some = some-records (countsOf (n .before .counts-of .result)) (sym (n .counts-right .ensures) ∙ not-false (n .counts-right .result) (p .before .before .if2 .left));
+      ends = image-ends (n .before .before .before .before .args .image .now) (tablesOf (p .before .tables-of .result)) (sym (p .offsets-right .ensures) ∙ not-false (p .offsets-right .result) (c .if3 .left));
+    }
+
+returns : tie.Need-returns
+returns c = c .refuse .ensures ∙ sym (too-short (c .before .before .before .args .image .now) (c .before .if1 .taken))
 
 returns-2 : tie.Need-returns-2
 returns-2 c =
-    let e = c .before .before in
-    let h = e .before .before .before .before in
-    let image = h .before .before .args .image .now in
-    let y = resultOf (e .needed .result) in
-    first-goes y (header image) (firstOf (need (entriesRight image) bad-entry) (records image))
-    (passed (h .header-check .result) _ (h .header-check .ensures) (e .before .before .enum-told .given .1))
-    (first-stops y (need (entriesRight image) bad-entry) (records image) (rw (e .before .entries-right .ensures) at (e .needed .ensures bad-entry refl)) (stops (e .needed .result) _ (c .enum-told4 .given .1)))
-    ∙ sym (parts image)
-
-records-check-requires : tie.Need-records-check-requires
-records-check-requires c κs =
-    let e = c .before .before in
-    let h = e .before .before .before .before in
-    let image = h .before .before .args .image .now in
-    few-records image (header-small image (passed (h .header-check .result) _ (h .header-check .ensures) (e .before .before .enum-told .given .1)))
-    (need-true (entriesRight image) bad-entry (passed (e .needed .result) _ (rw (e .before .entries-right .ensures) at (e .needed .ensures bad-entry refl)) (c .enum-told3 .given .1)))
+    let n = c .before .before in
+    let start = n .before .before .before .before in
+    c .refuse2 .ensures ∙ sym (miscounted (start .args .image .now) (n .before .before .if1 .left) (counts-read n ∙ not-true (n .counts-right .result) (c .before .if2 .taken)))
 
 returns-3 : tie.Need-returns-3
 returns-3 c =
-    let p = c .before in
-    let e = p .before .before in
-    let h = e .before .before .before .before in
-    let image = h .before .before .args .image .now in
-    let y = resultOf (c .records-check .result) in
-    first-goes y (header image) (firstOf (need (entriesRight image) bad-entry) (records image))
-    (passed (h .header-check .result) _ (h .header-check .ensures) (e .before .before .enum-told .given .1))
-    (first-goes y (need (entriesRight image) bad-entry) (records image)
-    (passed (e .needed .result) _ (rw (e .before .entries-right .ensures) at (e .needed .ensures bad-entry refl)) (p .enum-told3 .given .1)) (c .records-check .ensures))
-    ∙ sym (parts image)
+    let p = c .before .before in
+    let n = p .before .before .before in
+    let start = n .before .before .before .before in
+    c .refuse3 .ensures
+    ∙ sym (misplaced (start .args .image .now) (n .before .before .if1 .left) (counts-read n ∙ not-false (n .counts-right .result) (p .before .before .if2 .left))
+    (offsets-read p ∙ not-true (p .offsets-right .result) (c .before .if3 .taken)))
+
+returns-4 : tie.Need-returns-4
+returns-4 c =
+    let e = c .before .before in
+    let p = e .before .before in
+    let n = p .before .before .before in
+    let start = n .before .before .before .before in
+    c .refuse4 .ensures
+    ∙ sym (wrong-entry (start .args .image .now) (n .before .before .if1 .left) (counts-read n ∙ not-false (n .counts-right .result) (p .before .before .if2 .left))
+    (offsets-read p ∙ not-false (p .offsets-right .result) (e .before .if3 .left)) (sym (e .entries-right .ensures) ∙ not-true (e .entries-right .result) (c .before .if4 .taken)))
+
+records-check-requires : tie.Need-records-check-requires
+records-check-requires c κs =
+    let e = c .before in
+    let n = e .before .before .before .before .before in (
+      laid (e .before),
+      records-sum (n .before .before .before .before .args .image .now) (n .before .counts-of .result) (n .before .counts-of .ensures)
+          (sym (e .entries-right .ensures) ∙ not-false (e .entries-right .result) (c .if4 .left)),
+    )
+
+returns-5 : tie.Need-returns-5
+returns-5 c =
+    let e = c .before .before in
+    let p = e .before .before in
+    let n = p .before .before .before in
+    let start = n .before .before .before .before in
+    c .records-check .ensures
+    ∙ sym (all-but-records (start .args .image .now) (n .before .before .if1 .left) (counts-read n ∙ not-false (n .counts-right .result) (p .before .before .if2 .left))
+    (offsets-read p ∙ not-false (p .offsets-right .result) (e .before .if3 .left)) (sym (e .entries-right .ensures) ∙ not-false (e .entries-right .result) (c .before .if4 .left)))
 
 pub check-image-spec : {M : Type 1} → statement M
 check-image-spec =
     tie.close
-    (tie.spec
-    (λ c κs. search needs)
-    (λ c. search needs)
-    (λ c. search needs)
-    returns
-    entries-right-requires
-    (λ c κs. search needs)
-    (λ c. search needs)
-    (λ c. search needs)
-    returns-2
-    records-check-requires
-    returns-3)
+    (tie.spec (λ c κs. search needs) returns (λ c κs. search needs) (λ c κs. search needs) (λ c κs. search needs) returns-2
+    (λ c κs. search needs) (λ c κs. search needs) (λ c κs. search needs) returns-3 (λ c κs. laid c) (λ c κs. search needs) returns-4
+    records-check-requires returns-5)

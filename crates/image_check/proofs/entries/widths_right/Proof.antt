@@ -34,7 +34,7 @@ loop-again c =
       omega arith,
       omega arith,
       widths-again (v .right) (c .both2 .result) (c .before .before .spare-right .result) (c .before .both .result) (a .image .now) (width (a .image .now) (a .components))
-          (v .l) (v .k) (a .n) (c .before .before .before .u32-at .result) (a .literals) (a .total) _ (c .before .before .before .before .loop-test .taken) (c .before .before .before .u32-at .ensures)
+          (v .l) (v .k) (a .n) (c .before .before .before .four-at .result) (a .literals) (a .total) _ (c .before .before .before .before .loop-test .taken) (c .before .before .before .four-at .ensures)
           (c .before .before .before .before .before .before .before .pre .0) (c .before .before .spare-right .ensures) (c .before .both .ensures) (c .both2 .ensures) (v .inv .2),
     )
 

@@ -1,71 +1,75 @@
 -- The loop's invariant: what the components that are left say, from record `from` on, all of them say.
-use mathlib.Core.Path.{_≡_, refl}
-use Prim.Native.Nat.{_+_, _-_, _≤_}
+use mathlib.Core.Path.{_≡_, ap, _∙_}
+use Prim.Native.Nat.{_+_, _*_, _-_, _≤_}
 use native.Mathlib.Nat.{sub-zero, zero-add}
 use native.Mathlib.Omega.{arith}
 use borrow.Author.Needs.{needs}
 use Rattle.def_numbers.specs.Basics.{sum, tab}
-use Rattle.def_image.specs.Image.{recordCount}
+use Rattle.def_image.specs.Image.{u32At, recordCount}
 use Rattle.def_image.specs.Check.{checkComponents}
-use Rattle.errors.specs.Refused.{resultOf}
-use Rattle.image_check.proofs.Tests.{stops, passed}
+use Rattle.image_check.specs.Parts.{answerOf}
+use Rattle.image_check.proofs.Answers.{answer-stops, answer-refused}
 use Rattle.image_check.proofs.Whole.{own, sum-goes, component-stops, component-goes, components-end}
 use Rattle.image_check.proofs.records.components_check.Statement.{statement}
 use Rattle.image_check.proofs.records.components_check.Tie as tie
 
 abbrev Inv-loop : tie.InvT-loop
-Inv-loop image p n from₀ k₀ from k =
+Inv-loop image p at n from₀ k₀ from k =
     (k ≤ n) × (from + sum (tab (recordCount image) k (n - k)) ≡ sum (tab (recordCount image) 0 n))
     × (checkComponents image from (tab (recordCount image) k (n - k)) ≡ checkComponents image 0 (tab (recordCount image) 0 n))
 
 abbrev μ-loop : tie.MeasureT-loop
-μ-loop image p n from₀ k₀ from k = n - k
+μ-loop image p at n from₀ k₀ from k = n - k
 
 loop-holds : tie.Need-loop-holds Inv-loop μ-loop
 loop-holds c = (omega arith, rw (sub-zero, zero-add), rw sub-zero)
 
-check-in-requires : tie.Need-check-in-requires Inv-loop μ-loop
-check-in-requires c κs =
+-- the count that was read is the component's, and its records are among the table's
+counted : (c : tie.After-four-at Inv-loop μ-loop) → c .four-at .result ≡ recordCount (c .before .before .before .before .args .image .now) (c .before .before .loop .k)
+counted c =
     let start = c .before .before .before .before in
-    let a = start .args in
-    let v = c .before .before .loop in (
-      sum-goes (recordCount (a .image .now)) (v .from) (v .k) (a .n) (c .record-count .result) (c .before .loop-test .taken) (c .record-count .ensures) _ 4294967296 (v .inv .1) (start .pre .1) .0,
-      search needs,
-    )
+    c .four-at .ensures ∙ ap (λ x. u32At (start .args .image .now) (x + 8 * c .before .before .loop .k)) (start .pre .2)
+
+goes : (c : tie.After-four-at Inv-loop μ-loop)
+    → let start = c .before .before .before .before in
+    let g = recordCount (start .args .image .now) in
+    let v = c .before .before .loop in
+    (v .from + c .four-at .result ≤ start .args .p .count)
+    × (v .from + c .four-at .result + sum (tab g (v .k + 1) (start .args .n - (v .k + 1))) ≡ sum (tab g 0 (start .args .n)))
+goes c =
+    let start = c .before .before .before .before in
+    let v = c .before .before .loop in
+    sum-goes (recordCount (start .args .image .now)) (v .from) (v .k) (start .args .n) (c .four-at .result) (c .before .loop-test .taken) (counted c) _ (start .args .p .count) (v .inv .1) (start .pre .4)
+
+check-in-requires : tie.Need-check-in-requires Inv-loop μ-loop
+check-in-requires c κs = (c .before .before .before .before .pre .0, goes c .0, search needs)
 
 returns : tie.Need-returns Inv-loop μ-loop
 returns c =
-    let b = c .before .before in
-    let start = b .before .before .before .before .before in
+    let i = c .before .before in
+    let f = i .before in
+    let start = f .before .before .before .before in
     let a = start .args in
-    let v = b .before .before .before .loop in
-    component-stops (recordCount (a .image .now)) (v .from) (v .k) (a .n) (b .before .record-count .result) (b .before .before .loop-test .taken) (b .before .record-count .ensures)
-    (a .image .now) (resultOf (b .check-in .result)) _
-    (own (a .image .now) (a .p) (v .from) (b .before .record-count .result) (resultOf (b .check-in .result)) (start .pre .0) (b .check-in .ensures)) (v .inv .2)
-    (stops (b .check-in .result) _ (c .enum-told2 .given .1))
+    let v = f .before .before .loop in
+    c .refuse .ensures ∙ answer-refused (i .check-in .result) (c .before .if1 .taken)
+    ∙ component-stops (recordCount (a .image .now)) (v .from) (v .k) (a .n) (f .four-at .result) (f .before .loop-test .taken) (counted f) (a .image .now) (answerOf (i .check-in .result)) _
+    (own (a .image .now) (a .p) (v .from) (f .four-at .result) (answerOf (i .check-in .result)) (start .pre .1) (i .check-in .ensures)) (v .inv .2)
+    (answer-stops (i .check-in .result) (c .before .if1 .taken))
 
 add-from : tie.Need-add-from Inv-loop μ-loop
-add-from c =
-    let b = c .before .before .before in
-    let start = b .before .before .before .before in
-    let a = start .args in
-    let v = b .before .before .loop in
-    let fits = sum-goes (recordCount (a .image .now)) (v .from) (v .k) (a .n) (b .record-count .result) (b .before .loop-test .taken) (b .record-count .ensures) _ 4294967296 (v .inv .1) (start .pre .1) .0 in
-    record { fits = fits }
+add-from c = omega (arith, goes (c .before .before) .0, c .before .before .before .before .before .before .pre .0)
 
 loop-again : tie.Need-loop-again Inv-loop μ-loop
 loop-again c =
-    let b = c .before .before in
-    let start = b .before .before .before .before .before in
+    let i = c .before in
+    let f = i .before in
+    let start = f .before .before .before .before in
     let a = start .args in
-    let v = b .before .before .before .loop in
-    let n = b .before .record-count in
-    let taken = b .before .before .loop-test .taken in
-    let said = own (a .image .now) (a .p) (v .from) (n .result) (resultOf (b .check-in .result)) (start .pre .0) (b .check-in .ensures) in (
+    let v = f .before .before .loop in (
       omega arith,
-      sum-goes (recordCount (a .image .now)) (v .from) (v .k) (a .n) (n .result) taken (n .ensures) _ 4294967296 (v .inv .1) (start .pre .1) .1,
-      component-goes (recordCount (a .image .now)) (v .from) (v .k) (a .n) (n .result) taken (n .ensures) (a .image .now) (resultOf (b .check-in .result)) _ said (v .inv .2)
-          (passed (b .check-in .result) _ refl (c .enum-told .given .1)),
+      goes f .1,
+      component-goes (recordCount (a .image .now)) (v .from) (v .k) (a .n) (f .four-at .result) (f .before .loop-test .taken) (counted f) (a .image .now) (answerOf (i .check-in .result)) _
+          (own (a .image .now) (a .p) (v .from) (f .four-at .result) (answerOf (i .check-in .result)) (start .pre .1) (i .check-in .ensures)) (v .inv .2) (rw (c .if1 .left)),
     )
 
 returns-2 : tie.Need-returns-2 Inv-loop μ-loop
@@ -81,10 +85,12 @@ components-check-spec =
     Inv-loop
     μ-loop
     loop-holds
-    (λ c κs. search needs)
+    (λ c. search needs)
+    (λ c. omega arith)
+    (λ c. omega arith)
+    (λ c κs. omega arith)
     check-in-requires
-    (λ c. search needs)
-    (λ c. search needs)
+    (λ c κs. search needs)
     returns
     add-from
     (λ c. omega arith)

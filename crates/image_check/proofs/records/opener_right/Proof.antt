@@ -1,7 +1,5 @@
-use mathlib.Core.Path.{ap, _∙_}
+use mathlib.Core.Path.{ap}
 use borrow.Author.Needs.{needs}
-use Rattle.def_image.specs.Check.{delimiterRight}
-use Rattle.token_tree.specs.Tables.{entryOf}
 use Rattle.image_check.proofs.records.opener_right.Statement.{statement}
 use Rattle.image_check.proofs.records.opener_right.Tie as tie
 
@@ -9,13 +7,12 @@ returns : tie.Need-returns
 returns c =
     let b = c .before .before in
     let d = b .before .before .before in
+    let whole = c .both2 .ensures in
+    let text = b .both .ensures in
+    let starts = b .before .before .text-right .ensures in
+    let delimiter = b .before .delimited .ensures in
     let byte = ap (λ x. x .opening) (d .delimiter-of .ensures) in
-    rw (
-      c .both2 .ensures,
-      b .both .ensures,
-      b .before .before .text-right .ensures,
-      b .before .delimited .ensures ∙ ap (λ x. delimiterRight x (entryOf (d .before .args .e))) byte,
-    )
+    cc
 
 pub opener-right-spec : {M : Type 1} → statement M
 opener-right-spec =

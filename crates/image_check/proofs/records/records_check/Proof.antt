@@ -1,46 +1,54 @@
-use mathlib.Core.Path.{refl, ap, _∙_}
+use mathlib.Core.Path.{ap, _∙_}
+use native.Mathlib.Omega.{arith}
 use borrow.Author.Needs.{needs}
-use Rattle.def_numbers.specs.Basics.{tab}
-use Rattle.def_numbers.specs.Refusals.{bad-record}
-use Rattle.def_image.specs.Image.{recordCount}
-use Rattle.def_image.specs.Check.{checkComponents}
-use Rattle.token_tree.specs.Tables.{countsOf, tablesOf}
-use Rattle.image_check.specs.Parts.{records}
-use Rattle.image_check.proofs.Whole.{places-own}
+use Rattle.errors.specs.Refused.{resultOf}
+use Rattle.image_check.proofs.Whole.{tables-told, places-own, start-refused, components-said}
 use Rattle.image_check.proofs.records.records_check.Statement.{statement}
 use Rattle.image_check.proofs.records.records_check.Tie as tie
 
-components-check-requires : tie.Need-components-check-requires
-components-check-requires c κs =
-    let b = c .before .before .before in
-    let h = b .before .counts-of in
-    let start = b .before .before .before in
-    let image = start .args .image .now in (
-      places-own image (countsOf (h .result)) (tablesOf (b .tables-of .result)) (h .ensures) (b .tables-of .ensures),
-      rw (ap (λ x. x .n) (h .ensures)) (start .pre),
-    )
+four-at-requires : tie.Need-four-at-requires
+four-at-requires c κs =
+    let a = c .before .before .args in
+    let l = c .before .before .pre .0 in
+    let at = tables-told (a .image .now) (a .h) (a .at) l in
+    omega (arith, ap (λ t. t .records) at, ap (λ t. t .stop) at, l .some, l .ends)
+
+add-four-at : tie.Need-add-four-at
+add-four-at c =
+    let a = c .before .before .args in
+    omega (arith, ap (λ t. t .records) (tables-told (a .image .now) (a .h) (a .at) (c .before .before .pre .0)))
 
 returns : tie.Need-returns
-unfolding records
 returns c =
-    let b = c .before .before in
-    let h = b .before .before .before .before .counts-of in
-    let image = b .before .before .before .before .before .before .args .image .now in
-    rw (
-      c .first .ensures,
-      b .needed .ensures bad-record refl,
-      b .before .before .start-at .ensures,
-      c .before .components-check .ensures ∙ ap (λ x. checkComponents image 0 (tab (recordCount image) 0 (x .n))) (h .ensures),
+    let f = c .before .before in
+    let start = f .before .before .before in
+    let a = start .args in
+    c .refuse .ensures ∙ start-refused (a .image .now) (a .h) (a .at) (start .pre .0) (f .four-at .result) (f .four-at .ensures) (c .before .if1 .taken)
+
+components-check-requires : tie.Need-components-check-requires
+components-check-requires c κs =
+    let start = c .before .before .before .before in
+    let a = start .args in
+    let l = start .pre .0 in
+    let at = tables-told (a .image .now) (a .h) (a .at) l in (
+      record {
+        count = omega arith;
+        records = omega (arith, ap (λ t. t .records) at, ap (λ t. t .stop) at, l .ends);
+        text = omega (arith, ap (λ t. t .text) at);
+      },
+      places-own (a .image .now) (a .h) (a .at) l,
+      ap (λ t. t .components) (l .placed),
+      omega (arith, ap (λ t. t .components) at, ap (λ t. t .stop) at, l .ends),
+      start .pre .1,
     )
 
+returns-2 : tie.Need-returns-2
+returns-2 c =
+    let f = c .before .before in
+    let start = f .before .before .before in
+    let a = start .args in
+    components-said (a .image .now) (a .h) (a .at) (start .pre .0) (f .four-at .result) (f .four-at .ensures) (resultOf (c .components-check .result)) (c .before .if1 .left)
+    (c .components-check .ensures)
+
 pub records-check-spec : {M : Type 1} → statement M
-records-check-spec =
-    tie.close
-    (tie.spec
-    (λ c κs. search needs)
-    (λ c κs. search needs)
-    (λ c κs. search needs)
-    (λ c κs. search needs)
-    components-check-requires
-    (λ c κs. search needs)
-    returns)
+records-check-spec = tie.close (tie.spec add-four-at four-at-requires (λ c κs. search needs) returns components-check-requires returns-2)

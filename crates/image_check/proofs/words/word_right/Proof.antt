@@ -1,9 +1,0 @@
-use borrow.Author.Needs.{needs}
-use Rattle.image_check.proofs.words.word_right.Statement.{statement}
-use Rattle.image_check.proofs.words.word_right.Tie as tie
-
-returns : tie.Need-returns
-returns c = rw (c .both3 .ensures, c .before .both2 .ensures, c .before .before .both .ensures)
-
-pub word-right-spec : {M : Type 1} → statement M
-word-right-spec = tie.close (tie.spec (λ c κs. search needs) (λ c κs. search needs) (λ c κs. search needs) returns)
