@@ -5,14 +5,14 @@ use Prim.Native.Nat.{_≤_, _<_}
 use native.Mathlib.Nat.{add-zero}
 use native.Mathlib.Omega.{arith}
 use lib.ListN.{length-append}
-use Rattle.def_numbers.specs.Prelude.{ℕ, _+_, _-_, List, [], _∷_, _++_, map, length}
+use Rattle.def_numbers.specs.Prelude.{ℕ, _+_, _-_, _*_, List, [], _∷_, _++_, map, length}
 use Rattle.def_numbers.specs.Basics.{ok, joined}
 use Rattle.def_image.specs.Image.{Placed, componentCount}
 use Rattle.def_stages.specs.Component.{Component}
 use Rattle.def_stages.specs.Concatenation.{merge}
 use Rattle.def_run.specs.Answer.{componentsBytes, literalBytes}
 use Rattle.laws.specs.Lists.{joined-append}
-use Rattle.laws.specs.Results.{bind-ok}
+use Rattle.laws.specs.Results.{bind-ok, ok-same}
 use Rattle.answer_fits.specs.Fixed.{AllFixed, none-left, one-more}
 use Rattle.answer_fits.specs.Statement.{literalsOf}
 use Rattle.tree.specs.Chain.{atMost}
@@ -88,28 +88,56 @@ module _ (image : List ℕ) (count : ℕ) (before : List ℕ) (w : Writing) wher
       }
 
   module _ (i : ℕ) (c : Cursor) (left : ℕ) (ms : List (Placed Component)) (area : List ℕ) (at : Writing) (p : Placing image count i c left before w ms area at) where
-    pub placing-next : (m : ℕ) (r : Writing) (after : List ℕ) → i < count → m ≡ atMost (componentCount image i) left → PutIs image i c m at r area after
-        → Placing image count (i + 1) (advance image c m) (left - m) before w ms after r
-    placing-next m r after h e put =
-        let (bs, a, g) = bind-ok (readIn image i 0 c m) _ (sym (read-step image i c left count m h e) ∙ p .reads) in
-        let (v, b, d) = bind-ok (readFrom image (i + 1) (advance image c m) (left - m) (count - (i + 1))) (λ t. ok (bs ∷ t)) g in
-        go bs v a b (let z : p .rest ≡ bs ∷ v = cc in z)
-      where
-        go : (bs : List (Placed Component)) (v : List (List (Placed Component))) → readIn image i 0 c m ≡ ok bs
-            → readFrom image (i + 1) (advance image c m) (left - m) (count - (i + 1)) ≡ ok v → p .rest ≡ bs ∷ v
-            → Placing image count (i + 1) (advance image c m) (left - m) before w ms after r
-        go bs v a b z =
-            let f = fixed-first bs v (rw z at (p .fixed)) in
-            let same : Same before w ms area at (merge bs ++ mergedAll v) = rw (merged-first bs v) at (rw z at (p .same)) in
-            let (x, y) = put bs a (f .0) (room-first area at (merge bs) (mergedAll v) (same .room)) in
-            record {
-              rest = v;
-              reads = b;
-              fixed = f .1;
-              same = rw (x, y)
-                  (same-then before area (putAll area at (merge bs)) w at (writtenTo at (merge bs)) ms (merge bs ++ mergedAll v) (mergedAll v) same
-                  (same-many area at (merge bs) (mergedAll v) (same .room)));
-            }
+    module _ (m : ℕ) (r : Writing) (after : List ℕ) (h : i < count) (e : m ≡ atMost (componentCount image i) left) (put : PutIs image i c m at r area after) where
+      -- what stages 1 and 2 read of this turn's concatenation and of the later ones, and what is written
+      record Turn : Type 0 where
+        pub bs : List (Placed Component)
+        pub later : List (List (Placed Component))
+        pub is-read : readIn image i 0 c m ≡ ok bs
+        pub others : readFrom image (i + 1) (advance image c m) (left - m) (count - (i + 1)) ≡ ok later
+        pub fixed : AllFixed (joined later)
+        pub same : Same before w ms area at (merge bs ++ mergedAll later)
+        pub bytes : after ≡ putAll area at (merge bs)
+        pub place : r ≡ writtenTo at (merge bs)
+
+      turn : Turn
+      turn =
+          let (bs, a, g) = bind-ok (readIn image i 0 c m) _ (sym (read-step image i c left count m h e) ∙ p .reads) in
+          let (v, b, d) = bind-ok (readFrom image (i + 1) (advance image c m) (left - m) (count - (i + 1))) (λ t. ok (bs ∷ t)) g in
+          go bs v a b (let z : p .rest ≡ bs ∷ v = cc in z)
+        where
+          go : (bs : List (Placed Component)) (v : List (List (Placed Component))) → readIn image i 0 c m ≡ ok bs
+              → readFrom image (i + 1) (advance image c m) (left - m) (count - (i + 1)) ≡ ok v → p .rest ≡ bs ∷ v → Turn
+          go bs v a b z =
+              let f = fixed-first bs v (rw z at (p .fixed)) in
+              let s : Same before w ms area at (merge bs ++ mergedAll v) = rw (merged-first bs v) at (rw z at (p .same)) in
+              let (x, y) = put bs a (f .0) (room-first area at (merge bs) (mergedAll v) (s .room)) in
+              record { bs = bs; later = v; is-read = a; others = b; fixed = f .1; same = s; bytes = x; place = y }
+
+      pub placing-next : Placing image count (i + 1) (advance image c m) (left - m) before w ms after r
+      placing-next = go turn
+        where
+          go : Turn → Placing image count (i + 1) (advance image c m) (left - m) before w ms after r
+          go t =
+              record {
+                rest = t .later;
+                reads = t .others;
+                fixed = t .fixed;
+                same = rw (t .bytes, t .place)
+                    (same-then before area (putAll area at (merge (t .bs))) w at (writtenTo at (merge (t .bs))) ms (merge (t .bs) ++ mergedAll (t .later)) (mergedAll (t .later)) (t .same)
+                    (same-many area at (merge (t .bs)) (mergedAll (t .later)) (t .same .room)));
+              }
+
+      -- the blocks of this turn, which all stand before the literal block
+      pub placing-size : (bs : List (Placed Component)) → readIn image i 0 c m ≡ ok bs
+          → (r .at ≡ at .at + 72 * length (merge bs)) × (72 * length (merge bs) ≤ w .literals)
+      placing-size bs a = go turn (let z : turn .bs ≡ bs = ok-same (turn .is-read) a in z)
+        where
+          go : (t : Turn) → t .bs ≡ bs → (r .at ≡ at .at + 72 * length (merge bs)) × (72 * length (merge bs) ≤ w .literals)
+          go t z =
+              let l = ap (λ (x : Writing). x .literals) (t .same .place) in
+              let q = room-first area at (merge (t .bs)) (mergedAll (t .later)) (t .same .room) .blocks in
+              rw (← z) (ap (λ (x : Writing). x .at) (t .place), omega arith)
 
     pub placing-end : count ≤ i → (area ≡ putAll before w ms) × (at ≡ writtenTo w ms)
     unfolding joined

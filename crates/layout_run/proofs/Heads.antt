@@ -36,7 +36,7 @@ within (one-more {c = d} h t) (suc i) s₀ k =
     let r = within t i s₀ (le-of-suc-le-suc k) in
     record { c = r .c; here = ap (λ (x : List Concatenation). d ∷ x) (r .here); has = r .has; is-size = r .is-size }
 
-same-length : {l : List Concatenation} {ss : List Summary} → Summarised l ss → length l ≡ length ss
+pub same-length : {l : List Concatenation} {ss : List Summary} → Summarised l ss → length l ≡ length ss
 same-length none-left = refl
 same-length (one-more h t) = ap suc (same-length t)
 
@@ -58,6 +58,25 @@ length-blocks (c ∷ l) =
     let a = length-blocks l in
     let b = length-concatenation (merged c) in
     rw (length-append (concatenationBytes (merged c)) (blocks l)) (omega arith)
+
+-- a concatenation more, at its place
+pub block-next : (before entry after : List ℕ) (at i : ℕ) (l : List Concatenation) (c : Concatenation) → length l ≡ i → entry ≡ sets before at (blocks l)
+    → after ≡ sets entry (at + 20 * i) (concatenationBytes (merged c)) → after ≡ sets before at (blocks (l ++ (c ∷ [])))
+block-next before entry after at i l c len o p =
+    and-then before at (20 * i) (blocks l) (concatenationBytes (merged c)) o (length-blocks l ∙ ap (λ x. 20 * x) len) p
+    ∙ ap (λ x. sets before at x) (sym (blocks-more l c))
+
+-- its numbers and flags are its summary's
+pub is-block : (c : Concatenation) (s : Summary) (size align : ℕ) → HasSummary c s → mergedSize c ≡ size → align ≡ alignNumber (alignOf (s .align))
+    → IsConcatenation size align (s .deterministic) (s .nonzero) (optionUsize (s .width)) (merged c)
+is-block c s size align h e f =
+    record {
+      size = e;
+      align = ap alignNumber (sym (h .align-is)) ∙ sym f;
+      deterministic = sym (h .deterministic-is);
+      nonzero = sym (h .nonzero-is);
+      width = sym (h .width-is);
+    }
 
 -- the array, of which the first n count
 module _ (cs : List Summary) (ns : List ℕ) (n : ℕ) (few : n ≤ 16) (full : length cs ≡ 16) (l : List Concatenation) (h : Summarised l (take n cs))
@@ -89,16 +108,8 @@ module _ (cs : List Summary) (ns : List ℕ) (n : ℕ) (few : n ≤ 16) (full : 
       go : At l i (getD cs i s₀) (getD ns i 0) → after ≡ sets before 32 (blocks (take (i + 1) l))
       go t =
           let len : length (take i l) ≡ i = length-take-le i l (omega (arith, count-is)) in
-          let is : IsConcatenation size align ((getD cs i s₀) .deterministic) ((getD cs i s₀) .nonzero) (optionUsize ((getD cs i s₀) .width)) (merged (t .c)) =
-          record {
-            size = t .is-size ∙ sym e;
-            align = ap alignNumber (sym (t .has .align-is)) ∙ sym f;
-            deterministic = sym (t .has .deterministic-is);
-            nonzero = sym (t .has .nonzero-is);
-            width = sym (t .has .width-is);
-          } in
-          and-then before 32 (20 * i) (blocks (take i l)) (concatenationBytes (merged (t .c))) o (length-blocks (take i l) ∙ ap (λ x. 20 * x) len) (p (merged (t .c)) is)
-          ∙ ap (λ x. sets before 32 x) (sym (blocks-more (take i l) (t .c)) ∙ ap blocks (sym (t .here) ∙ ap (λ x. take x l) (sym (add-one i))))
+          block-next before entry after 32 i (take i l) (t .c) len o (p (merged (t .c)) (is-block (t .c) (getD cs i s₀) size align (t .has) (t .is-size ∙ sym e) f))
+          ∙ ap (λ x. sets before 32 x) (ap blocks (sym (t .here) ∙ ap (λ x. take x l) (sym (add-one i))))
 
   pub heads-end : (before after : List ℕ) (i : ℕ) → n ≤ i → after ≡ sets before 32 (blocks (take i l)) → after ≡ sets before 32 (blocks l)
   heads-end before after i k e = rw (take-all i l (omega (arith, count-is))) at e

@@ -97,10 +97,10 @@ module _ (image : List ℕ) (mode : ℕ) (before : List ℕ) where
       accepted : stagesIn image mode ≡ ok a
       accepted = said ∙ rw is
 
-      fits : Fits image a
+      pub fits : Fits image a
       fits = answer-fits image (ad .checked) mode a (stages-in image bytes (ad .checked) mode ∙ accepted)
 
-      fitting : Fitting count (length before) a
+      pub fitting : Fitting count (length before) a
       fitting =
           let h = few-counts image (ad .checked) in
           let m = fits .merged in
@@ -109,11 +109,13 @@ module _ (image : List ℕ) (mode : ℕ) (before : List ℕ) where
           let w = ad .room in
           record { concatenations = fits .concatenations ∙ sym c; merged = omega arith; literals = omega arith; size = fits .size; room = omega arith }
 
-      fixed : AllFixed (joined (f .read))
+      pub fixed : AllFixed (joined (f .read))
       fixed = read-fixed image (ad .checked) (f .read) (sym (reads-in image bytes (ad .checked)) ∙ all-read)
+
+      pub written-accepted : (r : ℕ) (after : List ℕ) → after ≡ sets before 0 (answerBytes a) → r ≡ length (answerBytes a)
+          → (ok r, after) ≡ cameTo before (bytesOf (stagesIn image mode))
+      written-accepted r after x y = came-accepted before after (stagesIn image mode) a r accepted (fitting .room) x y
 
       pub judged-accepted : (r : ℕ) (after : List ℕ) → WriteIs image count n t o init r before after
           → (ok r, after) ≡ cameTo before (bytesOf (stagesIn image mode))
-      judged-accepted r after w =
-          let (x, y) = w f text fixed fitting in
-          came-accepted before after (stagesIn image mode) a r accepted (fitting .room) x y
+      judged-accepted r after w = let (x, y) = w f text fixed fitting in written-accepted r after x y

@@ -50,13 +50,13 @@ unfolding answerBytes
 answer-parts a ms e = ap (λ x. headBytes a ++ joined (map concatenationBytes (a .cc)) ++ componentsBytes 0 x ++ literalsOf x) e
 
 -- four parts from the front
-parts : (before m₁ m₂ after h b c l : List ℕ) (count total : ℕ) → length h ≡ 32 → length b ≡ 20 * count → length c ≡ 72 * total
-    → m₁ ≡ sets before 0 h → m₂ ≡ sets m₁ 32 b → after ≡ sets (sets m₂ (32 + 20 * count) c) (32 + 20 * count + 72 * total + 0) l
+pub parts : (before m₁ m₂ m₃ after h b c l : List ℕ) (count total : ℕ) → length h ≡ 32 → length b ≡ 20 * count → length c ≡ 72 * total
+    → m₁ ≡ sets before 0 h → m₂ ≡ sets m₁ 32 b → m₃ ≡ sets m₂ (32 + 20 * count) c → after ≡ sets m₃ (32 + 20 * count + 72 * total) l
     → after ≡ sets before 0 (h ++ b ++ c ++ l)
-parts before m₁ m₂ after h b c l count total lh lb lc p₁ p₂ p₃ =
+parts before m₁ m₂ m₃ after h b c l count total lh lb lc p₁ p₂ p₃ p₄ =
     four-blocks before 0 32 (32 + 20 * count) (32 + 20 * count + 72 * total) h b c l p₁ lh p₂ (ap (λ x. 32 + x) lb)
-    (ap (λ x. sets m₂ x c) (sym (zero-add (32 + 20 * count)))) (ap (λ x. 32 + 20 * count + x) lc)
-    (p₃ ∙ ap (λ x. sets (sets m₂ (32 + 20 * count) c) x l) (add-zero (32 + 20 * count + 72 * total) ∙ sym (zero-add (32 + 20 * count + 72 * total))))
+    (p₃ ∙ ap (λ x. sets m₂ x c) (sym (zero-add (32 + 20 * count)))) (ap (λ x. 32 + 20 * count + x) lc)
+    (p₄ ∙ ap (λ x. sets m₃ x l) (sym (zero-add (32 + 20 * count + 72 * total))))
 
 -- the answer's length does not wrap
 wrapped : (r literals offset count total lits size : ℕ) → count ≤ 16 → total ≤ 256 → lits ≤ 8192 → r ≡ (literals + offset) % 2 ^ 64
@@ -71,8 +71,11 @@ module _ (image : List ℕ) (count n : ℕ) (cs : List Summary) (ns : List ℕ) 
   abbrev ms : List (Placed Component)
   ms = mergedAll (f .read)
 
-  are-read : components a ≡ ms
+  pub are-read : components a ≡ ms
   are-read = read-merged (f .read) (f .con) (f .checks)
+
+  pub answer-is : answerBytes a ≡ headBytes a ++ blocks (f .con) ++ componentsBytes 0 ms ++ literalsOf ms
+  answer-is = answer-parts a ms are-read
 
   module _ (area : ℕ) (fit : Fitting count area a) where
     total-is : length (components a) ≡ total
@@ -95,7 +98,16 @@ module _ (image : List ℕ) (count n : ℕ) (cs : List Summary) (ns : List ℕ) 
           init = refl;
         }
 
-    sized : length (answerBytes a) ≡ 32 + 20 * count + 72 * total + length (literalsOf ms)
+    pub long-merged : length ms ≡ total
+    long-merged = ap length (sym are-read) ∙ total-is
+
+    pub heads-long : length (blocks (f .con)) ≡ 20 * count
+    heads-long = length-heads (f .con) ∙ ap (λ x. 20 * x) (sym (length-map (f .con) merged) ∙ fit .concatenations)
+
+    pub comps-long : length (componentsBytes 0 ms) ≡ 72 * total
+    comps-long = length-blocks 0 ms ∙ ap (λ x. 72 * x) long-merged
+
+    pub sized : length (answerBytes a) ≡ 32 + 20 * count + 72 * total + length (literalsOf ms)
     sized =
         fit .size ∙ ap (λ x. 32 + 20 * x + 72 * length (components a) + length (literalsOf (components a))) (fit .concatenations)
         ∙ ap (λ x. 32 + 20 * count + 72 * x + length (literalsOf (components a))) total-is
@@ -103,7 +115,7 @@ module _ (image : List ℕ) (count n : ℕ) (cs : List Summary) (ns : List ℕ) 
 
     room : (area₁ : List ℕ) → length area₁ ≡ area → count ≤ 16 → Room area₁ (from count total) ms
     room area₁ same few =
-        let long : length ms ≡ total = ap length (sym are-read) ∙ total-is in
+        let long = long-merged in
         let lits : length (literalsOf ms) ≤ 8192 = rw are-read at (fit .literals) in
         let total-few : total ≤ 256 = rw total-is at (fit .merged) in
         let size = sized in
@@ -117,18 +129,14 @@ module _ (image : List ℕ) (count n : ℕ) (cs : List Summary) (ns : List ℕ) 
         → (after ≡ sets before 0 (answerBytes a)) × (r ≡ length (answerBytes a))
     written before m₁ m₂ after w r few len p₁ heads comps e = go (heads (f .con) (f .summarised) (f .sized))
       where
-        heads-long : length (blocks (f .con)) ≡ 20 * count
-        heads-long = length-heads (f .con) ∙ ap (λ x. 20 * x) (sym (length-map (f .con) merged) ∙ fit .concatenations)
-
-        comps-long : length (componentsBytes 0 ms) ≡ 72 * total
-        comps-long = length-blocks 0 ms ∙ ap (λ x. 72 * x) (ap length (sym are-read) ∙ total-is)
-
         go : m₂ ≡ sets m₁ 32 (blocks (f .con)) → (after ≡ sets before 0 (answerBytes a)) × (r ≡ length (answerBytes a))
         go p₂ =
             let same : length m₂ ≡ area = ap length p₂ ∙ length-sets m₁ 32 (blocks (f .con)) ∙ ap length p₁ ∙ length-sets before 0 (headBytes a) ∙ len in
             let (x, y) = comps (f .read) (f .reads) fixed (room m₂ same few) in (
-              parts before m₁ m₂ after (headBytes a) (blocks (f .con)) (componentsBytes 0 ms) (literalsOf ms) count total (length-head a) heads-long comps-long p₁ p₂ x
-                  ∙ ap (sets before 0) (sym (answer-parts a ms are-read)),
+              parts before m₁ m₂ (sets m₂ (32 + 20 * count) (componentsBytes 0 ms)) after (headBytes a) (blocks (f .con)) (componentsBytes 0 ms) (literalsOf ms) count total
+                  (length-head a) heads-long comps-long p₁ p₂ refl
+                  (x ∙ ap (λ i. sets (sets m₂ (32 + 20 * count) (componentsBytes 0 ms)) i (literalsOf ms)) (add-zero (32 + 20 * count + 72 * total)))
+                  ∙ ap (sets before 0) (sym answer-is),
               wrapped r (w .literals) (w .offset) count total (length (literalsOf ms)) (length (answerBytes a)) few (rw total-is at (fit .merged)) (rw are-read at (fit .literals)) e
                   (ap (λ v. v .literals) y) (ap (λ v. v .offset) y) sized,
             )

@@ -34,7 +34,8 @@ use Rattle.stage5.specs.declared.merging.Merging.{Merging}
 use Rattle.merge_runs.specs.Runs.{runBits, literalOf, longer}
 use Rattle.stage5.specs.Blocks.{putOne, writtenOne, Same, same-one, length-literals}
 use Rattle.stage5.specs.Literals.{AppendIs, fixedRange}
-use Rattle.stage5.specs.State.{Holds, LongerIs, FinishIs, CloseIs, Closes}
+use Rattle.stage5.specs.Put.{Room}
+use Rattle.stage5.specs.State.{Holds, LongerIs, BlockIs, FinishIs, CloseIs}
 
 pub fixed-is : (n : ℕ) (image : List ℕ) (text : ℕ)
     → fixedRange n ≡ usbrOf image text (record {
@@ -108,28 +109,41 @@ lengthened image entry after place b s k at count long order k-is at-is app coun
 
 -- ---- a block
 
+-- written at its place, where there is room for it
+pub block-put : (entry after : List ℕ) (m : Placed Component) (w : Writing) (next bytes offset : ℕ) → length entry < 2 ^ 64
+    → (w .at + 72 ≤ length entry → w .offset + bytesFor (length (bitsOf (m .value))) < 2 ^ 32 → after ≡ sets entry (w .at) (componentBytes (w .offset) m))
+    → next ≡ (w .at + 72) % 2 ^ 64 → bytes ≡ bytesFor (length (bitsOf (m .value))) → offset ≡ (w .offset + bytes) % 2 ^ 64
+    → BlockIs m w (record { at = next; literals = w .literals; offset = offset }) entry after
+block-put entry after m w next bytes offset long put next-is bytes-is offset-is area ms e room =
+    let r₁ = room .blocks in
+    let r₂ = room .offsets in
+    let r₃ = room .literal-block in
+    let whole : length entry ≡ length area = ap length e ∙ length-sets area (w .literals + w .offset) (packed (bitsOf (m .value))) in
+    let l = length-literals m ms in
+    let p = length-packed (bitsOf (m .value)) in
+    let a : next ≡ w .at + 72 = omega arith in
+    let b : offset ≡ w .offset + length (packed (bitsOf (m .value))) = omega arith in
+    (put (omega arith) (omega arith) ∙ ap (λ (x : List ℕ). sets x (w .at) (componentBytes (w .offset) m)) e, cc (a, b))
+
 pub finished : (entry after : List ℕ) (base : ℕ) (kind : Kind) (range : Usbr) (count : ℕ) (w : Writing) (next bytes offset : ℕ) → length entry < 2 ^ 64
     → ((image : List ℕ) (text : ℕ) (c : Component) → HasKind image text kind (c .c-type) → c .range ≡ usbrOf image text range
     → after ≡ sets entry (w .at) (componentBytes (w .offset % 2 ^ 32) (record { base = base; value = c })))
     → next ≡ (w .at + 72) % 2 ^ 64 → bytes ≡ bytesFor count → offset ≡ (w .offset + bytes) % 2 ^ 64
     → FinishIs base kind range count w (record { at = next; literals = w .literals; offset = offset }) entry after
-finished entry after base kind range count w next bytes offset long put next-is bytes-is offset-is image text k c hk hr same len area ms e room =
-    let m : Placed Component = record { base = base; value = c } in
-    let r₁ = room .blocks in
-    let r₂ = room .offsets in
-    let r₃ = room .literal-block in
-    let whole : length entry ≡ length area = ap length e ∙ length-sets area (w .literals + w .offset) (packed (bitsOf c)) in
-    let l = length-literals m ms in
-    let p = length-packed (bitsOf c) in
-    let o : w .offset % 2 ^ 32 ≡ w .offset = omega arith in
-    let a : next ≡ w .at + 72 = omega arith in
-    let b : offset ≡ w .offset + length (packed (bitsOf c)) = omega arith in (
-      put image text k hk hr
-          ∙ ap (λ (x : ℕ). sets entry (w .at) (componentBytes x (record { base = base; value = k }))) o
-          ∙ ap (sets entry (w .at)) same
-          ∙ ap (λ (x : List ℕ). sets x (w .at) (componentBytes (w .offset) m)) e,
-      cc (a, b),
-    )
+finished entry after base kind range count w next bytes offset long put next-is bytes-is offset-is image text k c hk hr same len =
+    block-put entry after (record { base = base; value = c }) w next bytes offset long
+    (λ _ low. let o : w .offset % 2 ^ 32 ≡ w .offset = omega arith in
+    put image text k hk hr
+    ∙ ap (λ (x : ℕ). sets entry (w .at) (componentBytes x (record { base = base; value = k }))) o
+    ∙ ap (sets entry (w .at)) same)
+    next-is (bytes-is ∙ ap bytesFor (sym len)) offset-is
+
+-- what is left behind a block
+pub block-first : (base : List ℕ) (w : Writing) (m : Placed Component) (ms : List (Placed Component)) (after : List ℕ) (v : Writing) → Room base w (m ∷ ms)
+    → after ≡ putOne base w m → v ≡ writtenOne w m → Same base w (m ∷ ms) after v ms
+block-first base w m ms after v room p q =
+    subst (λ (x : List ℕ). Same base w (m ∷ ms) x v ms) (sym p)
+    (subst (λ (u : Writing). Same base w (m ∷ ms) (putOne base w m) u ms) (sym q) (same-one base w m ms room))
 
 -- ---- the end of a run
 
@@ -147,25 +161,20 @@ pub close-none : (s : Merging) (area : List ℕ) → not (s .running) ≡ true �
 close-none s area t base none ms h room = record { area = base; holds = h; same = record { bytes = refl; place = refl; room = room } }
 close-none s area t base (some b) ms h room = absurd (true≢false (sym t ∙ ap not (h .is-open)))
 
+pub close-block : (s : Merging) (entry after : List ℕ) (w : Writing) → not (s .running) ≡ false
+    → ((b : Placed (List ℕ)) → length (b .value) ≡ s .bits → BlockIs (literalOf b) (s .w) w entry after)
+    → CloseIs s (record { w = w; running = false; bits = 0 }) entry after
+close-block s entry after w t block base none ms h room = absurd (true≢false (ap not (sym (h .is-open)) ∙ t))
+close-block s entry after w t block base (some b) ms h room =
+    let (f, g) = block b (sym (h .count)) base ms (h .written) room in
+    record { area = after; holds = holds-none after w; same = block-first base (s .w) (literalOf b) ms after w room f g }
+
 pub close-some : (s : Merging) (entry after : List ℕ) (range : Usbr) (w : Writing) → not (s .running) ≡ false
     → ((image : List ℕ) (text : ℕ) → fixedRange (s .bits) ≡ usbrOf image text range)
     → FinishIs 0 (K.Literal (s .bits % 2 ^ 32)) range (s .bits) (s .w) w entry after
     → CloseIs s (record { w = w; running = false; bits = 0 }) entry after
-close-some s entry after range w t fixed fin base none ms h room = absurd (true≢false (ap not (sym (h .is-open)) ∙ t))
-close-some s entry after range w t fixed fin base (some b) ms h room =
-    let c = h .count in
-    let (f, g) = fin [] 0 (shown (s .bits)) (fixedLiteral (b .value)) (replicate (s .bits % 2 ^ 32) 0, refl, length-replicate (s .bits % 2 ^ 32) 0) (fixed [] 0)
-    (ap (λ (n : ℕ). componentBytes (s .w .offset) (record { base = 0; value = shown n })) c ∙ shown-as (s .w .offset) (b .value)) (sym c) base ms (h .written)
-    (record { blocks = room .blocks; literal-block = room .literal-block; offsets = room .offsets }) in
-    go f g
-  where
-    go : after ≡ putOne base (s .w) (literalOf b) → w ≡ writtenOne (s .w) (literalOf b)
-        → Closes base (s .w) (literalOf b ∷ ms) ms after (record { w = w; running = false; bits = 0 })
-    go f g =
-        record {
-          area = after;
-          holds = holds-none after w;
-          same = subst (λ (x : List ℕ). Same base (s .w) (literalOf b ∷ ms) x w ms) (sym f)
-              (subst (λ (v : Writing). Same base (s .w) (literalOf b ∷ ms) (putOne base (s .w) (literalOf b)) v ms) (sym g)
-              (same-one base (s .w) (literalOf b) ms room));
-        }
+close-some s entry after range w t fixed fin =
+    close-block s entry after w t
+    (λ b l base ms e room. fin [] 0 (shown (s .bits)) (fixedLiteral (b .value)) (replicate (s .bits % 2 ^ 32) 0, refl, length-replicate (s .bits % 2 ^ 32) 0)
+    (fixed [] 0) (ap (λ (n : ℕ). componentBytes (s .w .offset) (record { base = 0; value = shown n })) (sym l) ∙ shown-as (s .w .offset) (b .value)) l base ms e
+    (record { blocks = room .blocks; literal-block = room .literal-block; offsets = room .offsets }))

@@ -1,9 +1,9 @@
 -- A component that is no static literal, a component of either kind, and the component at a cursor.
 use mathlib.Core.Path.{_≡_, refl, sym, ap, subst, _∙_}
-use Prim.Native.Nat.{_≤_}
+use Prim.Native.Nat.{_≤_, _<_}
 use native.Mathlib.Omega.{arith}
 use lib.ListN.{length-append}
-use Rattle.def_numbers.specs.Prelude.{ℕ, _+_, _-_, Bool, true, false, not, none, some, List, [], _∷_, _++_, length}
+use Rattle.def_numbers.specs.Prelude.{ℕ, _+_, _-_, _^_, Bool, true, false, not, none, some, List, [], _∷_, _++_, length, drop}
 use Rattle.def_numbers.specs.Basics.{ok, _>>=_}
 use Rattle.def_image.specs.Image.{Placed, bytesFor}
 use Rattle.def_image.specs.Tree.{packed}
@@ -12,12 +12,13 @@ use Rattle.def_stages.specs.Concatenation.{bitsOf, isStaticLiteral}
 use Rattle.answer_fits.specs.Statement.{literalsOf}
 use Rattle.laws.specs.Tests.{by-test}
 use Rattle.laws.specs.Results.{ok-same}
+use Rattle.prepared.specs.Bits as Prepared
 use Rattle.prepared.specs.Bits.{length-packed}
+use Rattle.literal_bits.specs.Put.{bitsFrom}
 use Rattle.errors.specs.Refused.{refusedAs}
 use Rattle.errors.specs.declared.Refusal.{Refusal}
 use Rattle.component.specs.Places.{unparsedIn}
 use Rattle.component.specs.Values.{typeOf, componentOf, resultIn}
-use Rattle.component.specs.declared.places.Place.{Place}
 use Rattle.component.specs.declared.values.Bits.{Bits}
 use Rattle.component.specs.declared.values.Component as code
 use Rattle.component.specs.declared.values.ComponentResult.{ComponentResult}
@@ -32,16 +33,16 @@ use Rattle.stage5.specs.declared.Writing.{Writing}
 use Rattle.stage5.specs.declared.merging.Merging.{Merging}
 use Rattle.stage5.specs.Put.{Room}
 use Rattle.merge_runs.specs.Runs.{Run, runBits, literalOf, longer, closed, mergeFrom, from-end, from-static, from-other}
-use Rattle.stage5.specs.Blocks.{putOne, Same, same-one, same-then, length-literals}
+use Rattle.stage5.specs.Blocks.{putOne, writtenOne, Same, same-then, length-literals}
 use Rattle.stage5.specs.Literals.{Span, typeBits}
 use Rattle.stage5.specs.State.{Holds, LongerIs, FinishIs, CloseIs, Closes, OtherIs, Goes, StepIs, TurnIs}
-use Rattle.stage5.proofs.Closing.{holds-none}
+use Rattle.stage5.proofs.Closing.{holds-none, block-first}
 
-not-true : (t : Bool) → not t ≡ true → t ≡ false
+pub not-true : (t : Bool) → not t ≡ true → t ≡ false
 not-true true n = sym n
 not-true false n = refl
 
-not-false : (t : Bool) → not t ≡ false → t ≡ true
+pub not-false : (t : Bool) → not t ≡ false → t ≡ true
 not-false true n = refl
 not-false false n = sym n
 
@@ -59,80 +60,85 @@ run-first (some b) (c ∷ cs) =
     rw (from-static (some b) c cs t) (omega arith))
     (λ t. let l = length-literals (literalOf b) (c ∷ mergeFrom none cs) in rw (from-other (some b) c cs t) (omega arith))
 
+module _ (entry : List ℕ) (d : Placed Component) (s : Merging) where
+  -- ---- its own block
+
+  pub other-one : (closing : Merging) (area₁ : List ℕ) (w : Writing) (after : List ℕ) → CloseIs s closing entry area₁
+      → ((area : List ℕ) (ms : List (Placed Component)) → Holds area area₁ closing none → Prepared.Bits (bitsOf (d .value)) → Room area (closing .w) (d ∷ ms)
+      → (after ≡ putOne area (closing .w) d) × (w ≡ writtenOne (closing .w) d))
+      → OtherIs d s (record { w = w; running = false; bits = 0 }) entry after
+  other-one closing area₁ w after close block base o ms h bits room =
+      let cl = close base o (d ∷ ms) h room in
+      let (p, q) = block (cl .area) ms (cl .holds) bits (cl .same .room) in
+      record {
+        area = after;
+        holds = holds-none after w;
+        same = same-then base (cl .area) after (s .w) (closing .w) w (closed o (d ∷ ms)) (d ∷ ms) ms (cl .same)
+            (block-first (cl .area) (closing .w) d ms after w (cl .same .room) p q);
+      }
+
+  -- ---- one of either kind
+
+  pub other-step : (r : Merging) (after : List ℕ) → isStaticLiteral (d .value) ≡ false → OtherIs d s r entry after → StepIs d s r entry after
+  other-step r after t other base o cs h bits room =
+      let e : mergeFrom o (d ∷ cs) ≡ closed o (d ∷ mergeFrom none cs) = from-other o d cs t in
+      let cl = other base o (mergeFrom none cs) h bits (subst (λ (ms : List (Placed Component)). Room base (s .w) ms) e room) in
+      record {
+        area = cl .area;
+        run = none;
+        holds = cl .holds;
+        same = subst (λ (ms : List (Placed Component)). Same base (s .w) ms (cl .area) (r .w) (mergeFrom none cs)) (sym e) (cl .same);
+      }
+
+  pub static-step : (image : List ℕ) (at : ℕ) (b : Bits) (r : Merging) (after : List ℕ) → isStaticLiteral (d .value) ≡ true → b .to < 2 ^ 32
+      → bitsOf (d .value) ≡ bitsFrom (drop at image) (b .from) (b .to - b .from) → LongerIs image at b s r entry after → StepIs d s r entry after
+  static-step image at b r after t last same more base o cs h bits room =
+      let e : mergeFrom o (d ∷ cs) ≡ mergeFrom (some (longer o d)) cs = from-static o d cs t in
+      let room₁ : Room base (s .w) (mergeFrom (some (longer o d)) cs) = subst (λ (ms : List (Placed Component)). Room base (s .w) ms) e room in
+      let f = room₁ .literal-block in
+      let g = room₁ .offsets in
+      let l = run-first (some (longer o d)) cs in
+      let (held, w-is) = more base o d h bits last same (omega arith) (omega arith) in
+      go e room₁ held w-is
+    where
+      go : mergeFrom o (d ∷ cs) ≡ mergeFrom (some (longer o d)) cs → Room base (s .w) (mergeFrom (some (longer o d)) cs)
+          → Holds base after r (some (longer o d)) → r .w ≡ s .w → Goes base (s .w) (mergeFrom o (d ∷ cs)) cs after r
+      go e room₁ held w-is =
+          record {
+            area = base;
+            run = some (longer o d);
+            holds = held;
+            same = subst (λ (ms : List (Placed Component)). Same base (s .w) ms base (r .w) (mergeFrom (some (longer o d)) cs)) (sym e)
+                (subst (λ (u : Writing). Same base (s .w) (mergeFrom (some (longer o d)) cs) base u (mergeFrom (some (longer o d)) cs)) (sym w-is)
+                (record { bytes = refl; place = refl; room = room₁ }));
+          }
+
 -- the component in code at a place, as the definition's
 abbrev pub placedAs : List ℕ → Spot → code.Component → Placed Component
 placedAs image spot x = record { base = spot .base; value = componentOf image (spot .place) x }
 
-module _ (image entry : List ℕ) (spot : Spot) (x : code.Component) (s : Merging) where
-  abbrev d : Placed Component
-  d = placedAs image spot x
+pub other-put : (image entry : List ℕ) (spot : Spot) (x : code.Component) (s : Merging)
+    (closing : Merging) (area₁ : List ℕ) (b : Bits) (r : Merging) (area₂ : List ℕ) (k : Kind) (w : Writing) (after : List ℕ)
+    → CloseIs s closing entry area₁ → Span (spot .place) (λ image. typeBits (typeOf image (spot .place) (x .«c_type»))) b
+    → LongerIs image (spot .place .literal) b closing r area₁ area₂
+    → ((image : List ℕ) → HasKind image (spot .place .text) k (typeOf image (spot .place) (x .«c_type»)))
+    → FinishIs (spot .base) k (x .range) (r .bits) (r .w) w area₂ after
+    → OtherIs (placedAs image spot x) s (record { w = w; running = false; bits = 0 }) entry after
+other-put image entry spot x s closing area₁ b r area₂ k w after close span more kind finish = other-one entry d s closing area₁ w after close put
+  where
+    d : Placed Component
+    d = placedAs image spot x
 
-  -- ---- its own block
-
-  pub other-put : (closing : Merging) (area₁ : List ℕ) (b : Bits) (r : Merging) (area₂ : List ℕ) (k : Kind) (w : Writing) (after : List ℕ)
-      → CloseIs s closing entry area₁ → Span (spot .place) (λ image. typeBits (typeOf image (spot .place) (x .«c_type»))) b
-      → LongerIs image (spot .place .literal) b closing r area₁ area₂
-      → ((image : List ℕ) → HasKind image (spot .place .text) k (typeOf image (spot .place) (x .«c_type»)))
-      → FinishIs (spot .base) k (x .range) (r .bits) (r .w) w area₂ after
-      → OtherIs d s (record { w = w; running = false; bits = 0 }) entry after
-  other-put closing area₁ b r area₂ k w after close span more kind finish base o ms h bits room =
-      let cl = close base o (d ∷ ms) h room in
-      let room₁ = cl .same .room in
-      let l = length-literals d ms in
-      let f = room₁ .literal-block in
-      let g = room₁ .offsets in
-      let (held, w-is) = more (cl .area) none d (cl .holds) bits (span .last) (span .same image) (omega arith) (omega arith) in
-      go (cl .area) (r .w) w-is (cl .same) held refl
-    where
-      go : (area : List ℕ) (v : Writing) → v ≡ closing .w → Same base (s .w) (closed o (d ∷ ms)) area (closing .w) (d ∷ ms)
-          → Holds area area₂ r (some (longer none d)) → v ≡ r .w
-          → Closes base (s .w) (closed o (d ∷ ms)) ms after (record { w = w; running = false; bits = 0 })
-      go area v e same held v-is =
-          let same₁ : Same base (s .w) (closed o (d ∷ ms)) area (r .w) (d ∷ ms) =
-          subst (λ (u : Writing). Same base (s .w) (closed o (d ∷ ms)) area u (d ∷ ms)) (sym (sym v-is ∙ e)) same in
-          let (p, q) = finish image (spot .place .text) (d .value) (d .value) (kind image) refl refl (sym (held .count)) area ms (held .written) (same₁ .room) in
-          let last : Same area (r .w) (d ∷ ms) after w ms =
-          subst (λ (y : List ℕ). Same area (r .w) (d ∷ ms) y w ms) (sym p)
-          (subst (λ (u : Writing). Same area (r .w) (d ∷ ms) (putOne area (r .w) d) u ms) (sym q) (same-one area (r .w) d ms (same₁ .room))) in
-          record { area = after; holds = holds-none after w; same = same-then base area after (s .w) (r .w) w (closed o (d ∷ ms)) (d ∷ ms) ms same₁ last }
-
-  -- ---- one of either kind
-
-  module _ (t : Bool) (t-is : (image : List ℕ) (place : Place) → t ≡ isStaticLiteral (componentOf image place x)) where
-    pub other-step : (r : Merging) (after : List ℕ) → not t ≡ true → OtherIs d s r entry after → StepIs d s r entry after
-    other-step r after n other base o cs h bits room =
-        let e : mergeFrom o (d ∷ cs) ≡ closed o (d ∷ mergeFrom none cs) = from-other o d cs (sym (t-is image (spot .place)) ∙ not-true t n) in
-        let cl = other base o (mergeFrom none cs) h bits (subst (λ (ms : List (Placed Component)). Room base (s .w) ms) e room) in
-        record {
-          area = cl .area;
-          run = none;
-          holds = cl .holds;
-          same = subst (λ (ms : List (Placed Component)). Same base (s .w) ms (cl .area) (r .w) (mergeFrom none cs)) (sym e) (cl .same);
-        }
-
-    pub static-step : (b : Bits) (r : Merging) (after : List ℕ) → not t ≡ false
-        → Span (spot .place) (λ image. typeBits (typeOf image (spot .place) (x .«c_type»))) b
-        → LongerIs image (spot .place .literal) b s r entry after → StepIs d s r entry after
-    static-step b r after n span more base o cs h bits room =
-        let e : mergeFrom o (d ∷ cs) ≡ mergeFrom (some (longer o d)) cs = from-static o d cs (sym (t-is image (spot .place)) ∙ not-false t n) in
-        let room₁ : Room base (s .w) (mergeFrom (some (longer o d)) cs) = subst (λ (ms : List (Placed Component)). Room base (s .w) ms) e room in
-        let f = room₁ .literal-block in
-        let g = room₁ .offsets in
-        let l = run-first (some (longer o d)) cs in
-        let (held, w-is) = more base o d h bits (span .last) (span .same image) (omega arith) (omega arith) in
-        go e room₁ held w-is
-      where
-        go : mergeFrom o (d ∷ cs) ≡ mergeFrom (some (longer o d)) cs → Room base (s .w) (mergeFrom (some (longer o d)) cs)
-            → Holds base after r (some (longer o d)) → r .w ≡ s .w → Goes base (s .w) (mergeFrom o (d ∷ cs)) cs after r
-        go e room₁ held w-is =
-            record {
-              area = base;
-              run = some (longer o d);
-              holds = held;
-              same = subst (λ (ms : List (Placed Component)). Same base (s .w) ms base (r .w) (mergeFrom (some (longer o d)) cs)) (sym e)
-                  (subst (λ (u : Writing). Same base (s .w) (mergeFrom (some (longer o d)) cs) base u (mergeFrom (some (longer o d)) cs)) (sym w-is)
-                  (record { bytes = refl; place = refl; room = room₁ }));
-            }
+    put : (area : List ℕ) (ms : List (Placed Component)) → Holds area area₁ closing none → Prepared.Bits (bitsOf (d .value)) → Room area (closing .w) (d ∷ ms)
+        → (after ≡ putOne area (closing .w) d) × (w ≡ writtenOne (closing .w) d)
+    put area ms h bits room =
+        let l = length-literals d ms in
+        let f = room .literal-block in
+        let g = room .offsets in
+        let (held, w-is) = more area none d h bits (span .last) (span .same image) (omega arith) (omega arith) in
+        let (p, q) = finish image (spot .place .text) (d .value) (d .value) (kind image) refl refl (sym (held .count)) area ms (held .written)
+        (subst (λ (u : Writing). Room area u (d ∷ ms)) (sym w-is) room) in
+        (p ∙ ap (λ (u : Writing). putOne area u d) w-is, q ∙ ap (λ (u : Writing). writtenOne u d) w-is)
 
 -- ---- the component at a cursor
 

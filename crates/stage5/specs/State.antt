@@ -44,14 +44,18 @@ LongerIs image at b s r before after =
     → length (packed (longer o d .value)) < 2 ^ 32
     → Holds base after r (some (longer o d)) × (r .w ≡ s .w)
 
--- a component whose bits stand in the literal block gets its own block, that of a component of this kind and this range
+-- a component whose bits stand in the literal block gets its own block
+abbrev pub BlockIs : Placed Component → Writing → Writing → List ℕ → List ℕ → Type 0
+BlockIs m w r before after =
+    (base : List ℕ) (ms : List (Placed Component)) → before ≡ sets base (w .literals + w .offset) (packed (bitsOf (m .value)))
+    → Room base w (m ∷ ms) → (after ≡ putOne base w m) × (r ≡ writtenOne w m)
+
+-- it is the block of a component of this kind and this range
 abbrev pub FinishIs : ℕ → Kind → Usbr → ℕ → Writing → Writing → List ℕ → List ℕ → Type 0
 FinishIs at kind range count w r before after =
     (image : List ℕ) (text : ℕ) (k c : Component) → HasKind image text kind (k .c-type) → k .range ≡ usbrOf image text range
     → componentBytes (w .offset) (record { base = at; value = k }) ≡ componentBytes (w .offset) (record { base = at; value = c }) → length (bitsOf c) ≡ count
-    → (base : List ℕ) (ms : List (Placed Component)) → before ≡ sets base (w .literals + w .offset) (packed (bitsOf c))
-    → Room base w (record { base = at; value = c } ∷ ms)
-    → (after ≡ putOne base w (record { base = at; value = c })) × (r ≡ writtenOne w (record { base = at; value = c }))
+    → BlockIs (record { base = at; value = c }) w r before after
 
 -- an open run becomes a literal
 pub record Closes (base : List ℕ) (w : Writing) (os ms : List (Placed Component)) (after : List ℕ) (r : Merging) : Type 0 where

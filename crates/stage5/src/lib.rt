@@ -4,7 +4,9 @@ mod bits;
 mod merging;
 mod span;
 
-use merging::Merging;
+pub use bits::append_bits;
+pub use bits::bytes_for;
+pub use merging::Merging;
 use merging::close;
 use merging::turn;
 use tree::Cursor;

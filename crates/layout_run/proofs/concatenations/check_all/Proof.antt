@@ -1,7 +1,7 @@
 -- `layout_run::concatenations::check_all` meets its contract. The invariant: what the concatenations before i gave. The measure is what is left.
 use borrow.Author.Needs.{needs}
 use mathlib.Core.Path.{_≡_, refl, ap, _∙_}
-use Prim.Native.Nat.{_<_, _-_, _^_}
+use Prim.Native.Nat.{_≤_, _<_, _-_, _*_, _^_}
 use native.Mathlib.Omega.{arith}
 use lib.ListN.{length, length-set}
 use Rattle.tree.specs.Chain.{atMost}
@@ -12,13 +12,13 @@ use Rattle.layout_run.proofs.concatenations.check_all.Tie as tie
 
 abbrev Inv-loop : tie.InvT-loop
 Inv-loop image count n cs₀ sizes₀ merged₀ c₀ left₀ i₀ cs sizes merged c left i =
-    (length cs ≡ 16) × (length sizes ≡ 16) × Walked image count n i c left cs sizes merged
+    (length cs ≡ 16) × (length sizes ≡ 16) × (merged ≤ i * 2 ^ 32) × Walked image count n i c left cs sizes merged
 
 abbrev μ-loop : tie.MeasureT-loop
 μ-loop image count n cs₀ sizes₀ merged₀ c₀ left₀ i₀ cs sizes merged c left i = count - i
 
 loop-holds : tie.Need-loop-holds Inv-loop μ-loop
-loop-holds c = let a = c .before .before .before .args in rw (c .first .ensures) (refl, refl, walk-start (a .image .now) (a .count) (a .n) _ _)
+loop-holds c = let a = c .before .before .before .args in rw (c .first .ensures) (refl, refl, omega arith, walk-start (a .image .now) (a .count) (a .n) _ _)
 
 array-set-from-cs : tie.Need-array-set-from-cs Inv-loop μ-loop
 array-set-from-cs c = omega (arith, c .before .before .before .before .before .before .before .loop-test .taken, c .before .before .before .before .before .before .before .before .before .before .before .before .pre)
@@ -29,7 +29,7 @@ array-write-sizes c = omega (arith, c .before .before .before .before .before .b
 add-merged : tie.Need-add-merged Inv-loop μ-loop
 add-merged c =
     let l = c .before .before .before .before .before .before .before .before .before .loop in
-    record { fits = omega (arith, c .before .before .before .before .before .before .before .before .loop-test .taken, c .before .before .before .before .before .before .before .before .before .before .before .before .before .pre, l .inv .2 .small, c .struct-known) }
+    record { fits = omega (arith, c .before .before .before .before .before .before .before .before .loop-test .taken, c .before .before .before .before .before .before .before .before .before .before .before .before .before .pre, l .inv .2, c .struct-known) }
 
 returns : tie.Need-returns Inv-loop μ-loop
 returns c =
@@ -38,7 +38,7 @@ returns c =
     let m = c .before .before .before .before .at-most in
     let r = c .before .before .before .check in
     walk-refused (a .image .now) (a .count) (a .n) (l .i) (l .c) (l .left) (l .cs) (l .sizes) (l .merged) (m .result) (c .before .before .before .before .before .before .loop-test .taken)
-    (m .ensures .0 ∙ ap (λ x. atMost x (l .left)) (c .before .before .before .before .before .component-count .ensures)) (l .inv .2) (r .result) (check-is (a .image .now) (l .i) (l .c) (m .result) (r .result) (r .ensures)) _ (c .before .q .given .1)
+    (m .ensures .0 ∙ ap (λ x. atMost x (l .left)) (c .before .before .before .before .before .component-count .ensures)) (l .inv .3) (r .result) (check-is (a .image .now) (l .i) (l .c) (m .result) (r .result) (r .ensures)) _ (c .before .q .given .1)
 
 sub-left : tie.Need-sub-left Inv-loop μ-loop
 sub-left c = c .before .before .before .before .before .before .before .at-most .ensures .1
@@ -56,8 +56,9 @@ loop-again c =
     let b : f .merged < 2 ^ 32 = omega (arith, c .before .struct-known) in (
       simp length-set (l .inv .0),
       simp length-set (l .inv .1),
+      omega (arith, l .inv .2, b),
       rw (c .advanced .ensures) (walk-next (a .image .now) (a .count) (a .n) (l .i) (l .c) (l .left) (l .cs) (l .sizes) (l .merged) (m .result) (c .before .before .before .before .before .before .before .before .before .loop-test .taken)
-          (m .ensures .0 ∙ ap (λ x. atMost x (l .left)) (c .before .before .before .before .before .before .before .before .component-count .ensures)) (l .inv .2) (r .result) (check-is (a .image .now) (l .i) (l .c) (m .result) (r .result) (r .ensures)) f (c .before .before .before .before .f .given .1) b p q),
+          (m .ensures .0 ∙ ap (λ x. atMost x (l .left)) (c .before .before .before .before .before .before .before .before .component-count .ensures)) (l .inv .3) (r .result) (check-is (a .image .now) (l .i) (l .c) (m .result) (r .result) (r .ensures)) f (c .before .before .before .before .f .given .1) p q),
     )
 
 cast-t30 : tie.Need-cast-t30 Inv-loop μ-loop
@@ -67,7 +68,7 @@ returns-2 : tie.Need-returns-2 Inv-loop μ-loop
 returns-2 c =
     let a = c .before .before .before .before .before .args in
     let l = c .before .loop in
-    walk-end (a .image .now) (a .count) (a .n) (l .i) (l .c) (l .left) (l .cs) (l .sizes) (l .merged) (omega arith) (l .inv .2)
+    (walk-end (a .image .now) (a .count) (a .n) (l .i) (l .c) (l .left) (l .cs) (l .sizes) (l .merged) (omega arith) (l .inv .3)) .0
 
 pub check-all-spec : {M : Type 1} → statement M
 check-all-spec =

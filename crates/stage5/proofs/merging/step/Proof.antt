@@ -1,5 +1,6 @@
+use mathlib.Core.Path.{sym, _∙_}
 use borrow.Author.Needs.{needs}
-use Rattle.stage5.proofs.Steps.{other-step, static-step}
+use Rattle.stage5.proofs.Steps.{not-true, not-false, other-step, static-step, placedAs}
 use Rattle.stage5.proofs.merging.step.Statement.{statement}
 use Rattle.stage5.proofs.merging.step.Tie as tie
 
@@ -8,8 +9,9 @@ returns c =
     let p = c .before .before in
     let i = p .before .before in
     let a = i .before .before .before .before .args in
-    other-step (a .image .now) (a .area .now) (a .spot) (a .x) (a .s) (i .before .is-static-literal .result) (i .before .is-static-literal .ensures)
-    (p .put-other .result) _ (i .if1 .taken) (p .put-other .ensures)
+    let t = i .before .is-static-literal in
+    other-step (a .area .now) (placedAs (a .image .now) (a .spot) (a .x)) (a .s) (p .put-other .result) _
+    (sym (t .ensures (a .image .now) (a .spot .place)) ∙ not-true (t .result) (i .if1 .taken)) (p .put-other .ensures)
 
 lengthen-requires : tie.Need-lengthen-requires
 lengthen-requires c κs = c .span-of .ensures .order
@@ -19,8 +21,11 @@ returns-2 c =
     let l = c .before .before in
     let i = l .before .before .before .before in
     let a = i .before .before .before .before .args in
-    static-step (a .image .now) (a .area .now) (a .spot) (a .x) (a .s) (i .before .is-static-literal .result) (i .before .is-static-literal .ensures)
-    (l .before .span-of .result) (l .lengthen .result) _ (i .if1 .left) (l .before .span-of .ensures) (l .lengthen .ensures)
+    let t = i .before .is-static-literal in
+    let b = l .before .span-of in
+    static-step (a .area .now) (placedAs (a .image .now) (a .spot) (a .x)) (a .s) (a .image .now) (a .spot .place .literal) (b .result) (l .lengthen .result) _
+    (sym (t .ensures (a .image .now) (a .spot .place)) ∙ not-false (t .result) (i .if1 .left)) (b .ensures .last) (b .ensures .same (a .image .now))
+    (l .lengthen .ensures)
 
 pub step-spec : {M : Type 1} → statement M
 step-spec =
