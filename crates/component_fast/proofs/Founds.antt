@@ -5,31 +5,32 @@ use Prim.Native.Nat.{_≤_, _<_}
 use native.Mathlib.Nat.{add-zero, zero-add}
 use native.Mathlib.Omega.{arith}
 use borrow.Author.Tests.{eq-eqb, ltb-true}
-use Rattle.def_numbers.specs.Prelude.{ℕ, suc, _+_, _*_, _-_, _^_, Bool, true, List, [], _∷_, getD, ltb, eqb}
-use Rattle.def_numbers.specs.Basics.{ok}
-use Rattle.def_image.specs.Image.{u32At, bytesAt, recsFrom, counts, tables, entryAt}
-use Rattle.def_stages.specs.Text.{Item, items, more}
+use Rattle.def_numbers.specs.Prelude.{ℕ, suc, _+_, _*_, _-_, _^_, Bool, true, false, _&&_, not, Option, none, some, List, [], _∷_, getD, ltb, eqb}
+use Rattle.def_numbers.specs.Basics.{Result, ok, _>>=_, placed, isEmpty}
+use Rattle.def_numbers.specs.Numbers.{char}
+use Rattle.def_numbers.specs.Refusals.{need, empty-after-colon}
+use Rattle.def_image.specs.Image.{Unparsed, Placed, u32At, bytesAt, recsFrom, counts, tables, entryAt}
+use Rattle.def_stages.specs.Text as Text
+use Rattle.def_stages.specs.Text.{Item, items, more, isToken}
 use Rattle.def_stages.specs.Ranges as Ranges
-use Rattle.def_stages.specs.Component.{typed, stage1Component}
-use Rattle.laws.specs.Tests.{and-iff, eqb-iff}
-use Rattle.usb.specs.Usb.{usbrOf}
-use Rattle.usb.specs.declared.Usbr.{Usbr}
+use Rattle.def_stages.specs.Component.{Component, Prefix, prefixOf, typed, stage1Component, startingValue, simplify}
+use Rattle.laws.specs.Results.{bind-ok}
+use Rattle.laws.specs.Tests.{and-iff, eqb-iff, eqb-apart}
 use Rattle.items.specs.Run.{recAt, lengthAt, lengthOf, recsAt, itemsAt}
 use Rattle.items.specs.First.{first-item}
-use Rattle.component.specs.Places.{unparsedIn, reachable, unparsed-in}
-use Rattle.component.specs.Values.{componentOf}
+use Rattle.component.specs.Places.{unparsedIn, placedAt, reachable, unparsed-in}
 use Rattle.component.specs.declared.places.Place.{Place}
-use Rattle.component.specs.declared.values.Component as code
-use Rattle.component_fast.specs.Shapes.{Plain, word-is, bracket-is}
-use Rattle.component_fast.specs.Table.{lenAt, isWord, bracketAt, Stands, tokenAt}
-use Rattle.component_fast.specs.Range.{Bracket, RangeIs}
-use Rattle.component_fast.specs.Typed.{TypedIs, FoundIs}
+use Rattle.component_fast.specs.Common.{ReadAs, CommonIs}
+use Rattle.component_fast.specs.Range.{WordIs, Bracket, RangeIs}
+use Rattle.component_fast.specs.Shapes.{Plain, inBracket, word-is, bracket-is, start-word, start-bracket}
+use Rattle.component_fast.specs.Table.{lenAt, isWord, dotAt, bracketAt, Stands, tokenAt}
+use Rattle.component_fast.specs.Typed.{noEnd, fillerOf, StageIs, Simple, TypedIs}
+use Rattle.component_fast.specs.declared.bound.ShortUsb.{ShortUsb}
 use Rattle.component_fast.specs.declared.range.Range.{Range}
-use Rattle.component_fast.specs.declared.range.Range.the-variants as R
-use Rattle.component_fast.specs.declared.typed.Found.{Found}
-use Rattle.component_fast.specs.declared.typed.Found.the-variants as F
-use Rattle.component_fast.proofs.Tokens.{Word, word-facts, word-plain, token-item, length-is}
+use Rattle.component_fast.specs.declared.typed.Common.{Common}
+use Rattle.component_fast.proofs.Fillers.{Filler, filler-is, filler-start, filler-stage, unbounded-simple, other-byte}
 use Rattle.component_fast.proofs.Ranges.{none-at, next-entry, stands-next, stands-third}
+use Rattle.component_fast.proofs.Tokens.{Word, word-facts, word-plain, dot-facts, dot-token, token-item, length-is}
 
 -- ---- the items of a component
 
@@ -94,10 +95,41 @@ opener image r from k e skip b s h q n =
         let kind : (entryAt image (suc r)) .kind ≡ 3 = ap (u32At image) (sym at) ∙ x in
         record { kind = kind; rest = bracket-more image from (suc r) k kind (ap (λ z. u32At image (z + 8)) (sym at) ∙ y ∙ n) }
 
-range-at : (image : List ℕ) (text e at k : ℕ) (range : Usbr) (found : Range) → RangeIs image text e at k found → found ≡ R.Is range
-    → (r : ℕ) → Stands image r k e → Bracket image text (itemsAt image text at r k) range
-range-at image text e at k range (R.Is q) h p = let same : q ≡ range = cc in rw (← same) h
-range-at image text e at k range R.Other h p = let z : _≡_ {A = ℕ} 0 1 = cc in absurd (omega arith)
+-- ---- stages 1 and 2
+
+-- without a starting value there is no colon
+abbrev startOf : Option Prefix → Result (Option (Placed Text.Part))
+startOf o =
+    elim o [
+      | none ↦ ok none
+      | some p ↦ (placed 0 0 (need (not (isEmpty (p .after))) empty-after-colon) >>= λ _. ok (some (placedAt 0 (Text.partOf (p .before)))))
+    ]
+
+none-of : (o : Option Prefix) → startOf o ≡ ok none → o ≡ none
+none-of none h = refl
+none-of (some p) h =
+    let (x, y, z) = bind-ok (placed 0 0 (need (not (isEmpty (p .after))) empty-after-colon)) (λ _. ok (some (placedAt 0 (Text.partOf (p .before))))) h in cc
+
+pub no-prefix : (u : Unparsed) → startingValue 0 (placedAt 0 u ∷ []) ≡ ok none → prefixOf u ≡ none
+unfolding startingValue
+no-prefix u h = none-of (prefixOf u) h
+
+pub read-as : (image : List ℕ) (place : Place) (q : Common) (m : Result Component) → ((scanned : Bool) → stage1Component scanned (unparsedIn image place) ≡ m)
+    → prefixOf (unparsedIn image place) ≡ none → StageIs image place m q → ReadAs image place q
+read-as image place q m h p s =
+    record {
+      some = s .some;
+      kinds = s .kinds;
+      component = λ scanned. ap (λ m. m >>= simplify) (h scanned) ∙ s .component;
+      start = p;
+      width-is = s .width-is;
+      order = s .order;
+      last = s .last;
+      literal = s .literal;
+      ended = s .ended;
+      textless = s .textless;
+      endless = s .endless;
+    }
 
 -- ---- the shapes
 
@@ -127,24 +159,34 @@ module _ (image : List ℕ) (place : Place) (kind len byte : ℕ) (w : Bool) (re
         ∙ token-item image (place .text) 0 len (place .run .r) (suc (suc k)) (ap (u32At image) (sym p) ∙ sym q ∙ word .chars) (sym l)
         ∙ ap (λ l. tokenAt image (place .text) 0 len ∷ l) h
 
-    pub alone-is : (e : ℕ) (range : Usbr) (f : Found) → place .run .left ≡ 1 → e ≡ (tables image) .records + 12 * place .run .r → kind ≡ u32At image e
-        → len ≡ lengthAt image (place .run .r) → usbrOf image (place .text) range ≡ Ranges.unbounded → TypedIs place len byte range f → FoundIs image place f
-    alone-is e range F.Other one p k l q t = tt
-    alone-is e range (F.Is c) one p k l q t =
-        λ scanned.
-        t image bq (word .some)
-        ∙ ap (λ r. typed (tokenAt image (place .text) 0 len ∷ []) ((unparsedIn image place) .bits) r) q
-        ∙ sym (word-is scanned (unparsedIn image place) (tokenAt image (place .text) 0 len) (only-item e one p k l) plain refl)
+    -- stage 1 of the word with a range
+    abbrev typedAs : Ranges.Usbr → Result Component
+    typedAs range = typed (tokenAt image (place .text) 0 len ∷ []) ((unparsedIn image place) .bits) range
 
-    pub bracketed-is : (e k at len2 skip : ℕ) (b : Bool) (range : Usbr) (found : Range) (f : Found)
+    abbrev insideAt : ℕ → ℕ → List Item
+    insideAt at k = itemsAt image (place .text) at (suc (suc (place .run .r))) k
+
+    pub alone-is : (e : ℕ) (r : Range) (q : Common) → place .run .left ≡ 1 → e ≡ (tables image) .records + 12 * place .run .r → kind ≡ u32At image e
+        → len ≡ lengthAt image (place .run .r) → r ≡ noEnd → TypedIs image place len byte r q → CommonIs image place q
+    alone-is e r q one p k l rq t =
+        λ pos.
+        read-as image place q (typedAs Ranges.unbounded)
+        (λ scanned. word-is scanned (unparsedIn image place) (tokenAt image (place .text) 0 len) its plain refl)
+        (no-prefix (unparsedIn image place) (start-word 0 (placedAt 0 (unparsedIn image place)) (tokenAt image (place .text) 0 len) its plain refl))
+        ((t pos) .1 bq (word .some) Ranges.unbounded (rw rq (unbounded-simple image (place .text))))
+      where
+        its : items 0 ((unparsedIn image place) .recs) ≡ tokenAt image (place .text) 0 len ∷ []
+        its = only-item e one p k l
+
+    pub bracketed-is : (e k at len2 skip : ℕ) (b : Bool) (found : Range) (q : Common)
         → place .run .left ≡ suc (suc (suc k)) → Stands image (place .run .r) (suc (suc k)) e → kind ≡ u32At image e → len ≡ lenAt image e
         → b ≡ bracketAt image (e + 12) skip → skip ≡ suc (suc k) → b ≡ true → len2 ≡ lenAt image (e + 12) → at ≡ len + len2
-        → RangeIs image (place .text) (e + 24) at k found → found ≡ R.Is range → TypedIs place len byte range f → FoundIs image place f
-    bracketed-is e k at len2 skip b range found F.Other left s kq lq bh sq b1 l2 aq rh fq t = tt
-    bracketed-is e k at len2 skip b range found (F.Is c) left s kq lq bh sq b1 l2 aq rh fq t =
-        λ scanned.
-        go scanned (opener image (place .run .r) (place .text + (0 + len)) k e skip b (s .place) bh b1 sq)
-        (range-at image (place .text) (e + 24) at k range found rh fq (suc (suc (place .run .r))) (stands-third image (place .run .r) k e s))
+        → RangeIs image (place .text) (e + 24) at k found → TypedIs image place len byte found q → CommonIs image place q
+    bracketed-is e k at len2 skip b found q left s kq lq bh sq b1 l2 aq rh t =
+        λ pos.
+        let o = opener image (place .run .r) (place .text + (0 + len)) k e skip b (s .place) bh b1 sq in
+        told (group-at image (place .text) (0 + len) (suc (place .run .r)) k (o .rest)) (o .kind)
+        (rh ((t pos) .0) (suc (suc (place .run .r))) (stands-third image (place .run .r) k e s)) ((t pos) .1 bq (word .some))
       where
         offset : 0 + len + lengthAt image (suc (place .run .r)) ≡ at
         offset =
@@ -156,19 +198,86 @@ module _ (image : List ℕ) (place : Place) (kind len byte : ℕ) (w : Bool) (re
             → items 0 ((unparsedIn image place) .recs) ≡ tokenAt image (place .text) 0 len ∷ g ∷ []
         its g = two-items e k g left (s .place) kq (lq ∙ sym (length-is image (place .run .r) (suc (suc k)) e s (omega arith)))
 
-        told : (scanned : Bool) → Group image (place .text) (0 + len) (suc (place .run .r)) k → (entryAt image (suc (place .run .r))) .kind ≡ 3
-            → Bracket image (place .text) (itemsAt image (place .text) at (suc (suc (place .run .r))) k) range
-            → ok (componentOf image place c) ≡ stage1Component scanned (unparsedIn image place)
-        told scanned g k3 b =
-            t image bq (word .some)
-            ∙ ap (λ r. typed (tokenAt image (place .text) 0 len ∷ []) ((unparsedIn image place) .bits) r) (b .range-is)
-            ∙ sym (bracket-is scanned (unparsedIn image place) (tokenAt image (place .text) 0 len) (g .group) _ (b .found) (its (g .group) (g .alone)) plain
+        told : Group image (place .text) (0 + len) (suc (place .run .r)) k → (entryAt image (suc (place .run .r))) .kind ≡ 3 → Bracket image (place .text) (insideAt at k) found
+            → ((range : Ranges.Usbr) → Simple image (place .text) range found → StageIs image place (typedAs range) q) → ReadAs image place q
+        told g k3 b h =
+            read-as image place q (typedAs (inBracket (insideAt at k) (b .found)))
+            (λ scanned. bracket-is scanned (unparsedIn image place) (tokenAt image (place .text) 0 len) (g .group) (insideAt at k) (b .found) (its (g .group) (g .alone)) plain
             (eq-eqb (g .group .kind) 3 (g .kind ∙ k3)) (g .inside ∙ ap (λ n. itemsAt image (place .text) n (suc (suc (place .run .r))) k) offset) (b .parsed))
+            (no-prefix (unparsedIn image place)
+            (start-bracket 0 (placedAt 0 (unparsedIn image place)) (tokenAt image (place .text) 0 len) (g .group) (its (g .group) (g .alone)) plain
+            (eq-eqb (g .group .kind) 3 (g .kind ∙ k3))))
+            (h (inBracket (insideAt at k) (b .found))
+            (record { start-is = b .start-is; end-is = b .end-is; start-fine = b .start-fine; end-fine = b .end-fine; endless = b .endless }))
 
-        go : (scanned : Bool) → Opener image (place .run .r) (place .text + (0 + len)) k
-            → Bracket image (place .text) (itemsAt image (place .text) at (suc (suc (place .run .r))) k) range
-            → ok (componentOf image place c) ≡ stage1Component scanned (unparsedIn image place)
-        go scanned o b = told scanned (group-at image (place .text) (0 + len) (suc (place .run .r)) k (o .rest)) (o .kind) b
+-- `..n`
+module _ (image : List ℕ) (place : Place) (e : ℕ) (reach : reachable place ≡ true) (three : place .run .left ≡ 3) (s : Stands image (place .run .r) 2 e) (t : Bool)
+    (th : t ≡ (dotAt image e (place .text) && dotAt image (e + 12) (place .text + 1))) (tq : t ≡ true) (kind len byte : ℕ) (w : Bool) (wh : w ≡ isWord kind len byte)
+    (wq : w ≡ true) (kq : kind ≡ u32At image (e + 24)) (lq : len ≡ lengthAt image (place .run .r + 2)) (bq : byte ≡ getD image (place .text + 2) 0)
+  where
+    last-word : Word kind len byte
+    last-word = word-facts kind len byte (sym wh ∙ wq)
+
+    abbrev itemAt : ℕ → ℕ → Item
+    itemAt at n = tokenAt image (place .text) at n
+
+    dot-item : (at r n e : ℕ) → Stands image r (suc n) e → (k : ℕ) → dotAt image e (place .text + at) ≡ true
+        → (itemsAt image (place .text) at r (suc k) ≡ itemAt at 1 ∷ itemsAt image (place .text) (at + 1) (suc r) k) × (isToken (char .dot) (itemAt at 1) ≡ true)
+    dot-item at r n e s k h =
+        let d = dot-facts (u32At image e) (lenAt image e) (getD image (place .text + at) 0) h in (
+          token-item image (place .text) at 1 r k (ap (u32At image) (sym (s .place)) ∙ d .chars) (length-is image r (suc n) e s (omega arith) ∙ d .one),
+          dot-token image (place .text) at 1 0 (record { chars = refl; one = refl; dot = d .dot }),
+        )
+
+    first-dot : dotAt image e (place .text + 0) ≡ true
+    first-dot = ap (dotAt image e) (add-zero (place .text)) ∙ (and-iff (dotAt image e (place .text)) (dotAt image (e + 12) (place .text + 1))) .0 (sym th ∙ tq) .0
+
+    second-dot : dotAt image (e + 12) (place .text + 1) ≡ true
+    second-dot = (and-iff (dotAt image e (place .text)) (dotAt image (e + 12) (place .text + 1))) .0 (sym th ∙ tq) .1
+
+    first : (itemsAt image (place .text) 0 (place .run .r) 3 ≡ itemAt 0 1 ∷ itemsAt image (place .text) 1 (suc (place .run .r)) 2) × (isToken (char .dot) (itemAt 0 1) ≡ true)
+    first = dot-item 0 (place .run .r) 1 e s 2 first-dot
+
+    second : (itemsAt image (place .text) 1 (suc (place .run .r)) 2 ≡ itemAt 1 1 ∷ itemsAt image (place .text) 2 (suc (suc (place .run .r))) 1) × (isToken (char .dot) (itemAt 1 1) ≡ true)
+    second = dot-item 1 (suc (place .run .r)) 0 (e + 12) (stands-next image (place .run .r) 1 e s) 1 second-dot
+
+    third : itemsAt image (place .text) 2 (suc (suc (place .run .r))) 1 ≡ itemAt 2 len ∷ []
+    third =
+        token-item image (place .text) 2 len (suc (suc (place .run .r))) 0 (ap (u32At image) (sym (third-entry ((tables image) .records) (place .run .r) e (s .place))) ∙ sym kq ∙ last-word .chars)
+        (ap (lengthAt image) (two-on (place .run .r)) ∙ sym lq)
+        ∙ ap (λ l. itemAt 2 len ∷ l) (none-at image (place .text) (2 + len) (suc (suc (suc (place .run .r)))))
+      where
+        third-entry : (t r e : ℕ) → e ≡ t + 12 * r → e + 24 ≡ t + 12 * suc (suc r)
+        third-entry t r e h = omega arith
+
+        two-on : (r : ℕ) → suc (suc r) ≡ r + 2
+        two-on r = omega arith
+
+    three-items : items 0 ((unparsedIn image place) .recs) ≡ itemAt 0 1 ∷ itemAt 1 1 ∷ itemAt 2 len ∷ []
+    three-items =
+        items-in image place reach
+        ∙ ap (λ n. itemsAt image (place .text) 0 (place .run .r) n) three
+        ∙ first .0
+        ∙ ap (λ l. itemAt 0 1 ∷ l) (second .0)
+        ∙ ap (λ l. itemAt 0 1 ∷ itemAt 1 1 ∷ l) third
+
+    the-filler : Filler (itemAt 0 1) (itemAt 1 1) (itemAt 2 len)
+    the-filler =
+        record {
+          first-dot = first .1;
+          second-dot = second .1;
+          first-colon = other-byte ((itemAt 0 1) .part .bytes) 46 58 (first .1) (λ e. absurd (omega arith));
+          second-colon = other-byte ((itemAt 1 1) .part .bytes) 46 58 (second .1) (λ e. absurd (omega arith));
+          plain = word-plain image (place .text) 2 len kind byte last-word bq;
+          kind = refl;
+        }
+
+    pub filler-read : (u : ShortUsb) (q : Common) → WordIs image (place .text) 2 len byte u → u .x < 2 ^ 62 → (u .len ≡ 0 → 1 ≤ u .x) → q ≡ fillerOf u → CommonIs image place q
+    filler-read u q h small wide qq =
+        let (fine, told) = h bq (last-word .some) small in
+        λ pos. rw qq (read-as image place (fillerOf u) _ (filler-is (unparsedIn image place) (itemAt 0 1) (itemAt 1 1) (itemAt 2 len) three-items the-filler)
+        (filler-start (unparsedIn image place) (itemAt 0 1) (itemAt 1 1) (itemAt 2 len) three-items the-filler)
+        (filler-stage image place len u fine small wide told))
 
 -- ---- what the private functions ask
 
@@ -178,13 +287,23 @@ left-is n h = omega arith
 pub skip-is : (n : ℕ) → 4 ≤ n → n - 1 ≡ suc (suc (n - 3))
 skip-is n h = omega arith
 
-pub found-is : (image : List ℕ) (place : Place) (f : Found) (c : code.Component) → FoundIs image place f → f ≡ F.Is c → (scanned : Bool)
-    → ok (componentOf image place c) ≡ stage1Component scanned (unparsedIn image place)
-found-is image place (F.Is d) c h q = let same : d ≡ c = cc in rw (← same) h
-found-is image place F.Other c h q = let z : _≡_ {A = ℕ} 0 1 = cc in absurd (omega arith)
-
 pub stands-two : (image : List ℕ) (r n e : ℕ) → 4 ≤ n → Stands image r (n - 1) e → Stands image r (suc (suc (n - 3))) e
 stands-two image r n e l s = rw (← skip-is n l) s
 
+pub stands-three : (image : List ℕ) (r n e : ℕ) → n ≡ 3 → Stands image r (n - 1) e → Stands image r 2 e
+stands-three image r n e h s = rw h at s
+
 pub text-small : (p : Place) → reachable p ≡ true → p .text < 2 ^ 62
 text-small p h = ltb-true (p .text) (2 ^ 62) ((and-iff (ltb (p .text) (2 ^ 62)) _) .0 h .0)
+
+pub records-small : (p : Place) → reachable p ≡ true → p .run .r + p .run .left < 2 ^ 32
+records-small p h =
+    let rest = (and-iff (ltb (p .text) (2 ^ 62)) _) .0 h .1 in
+    ltb-true (p .run .r + p .run .left) (2 ^ 32) ((and-iff (ltb (p .run .r + p .run .left) (2 ^ 32)) _) .0 rest .0)
+
+pub third-place : (t r e : ℕ) → e ≡ t + 12 * r → e + 24 ≡ t + 12 * (r + 2)
+third-place t r e h = omega arith
+
+-- a number that is not 0 is a width
+pub not-none : (x : ℕ) → eqb x 0 ≡ false → 1 ≤ x
+not-none x h = let n = eqb-apart x 0 h in omega arith

@@ -66,14 +66,14 @@ dot-facts kind len byte h =
 
 -- ---- a token in the image
 
-kind-is : (image : List ℕ) (from r : ℕ) → (recAt image from r) .kind ≡ (entryAt image r) .kind
+pub kind-is : (image : List ℕ) (from r : ℕ) → (recAt image from r) .kind ≡ (entryAt image r) .kind
 unfolding recAt
 kind-is image from r = refl
 
 no-more : (image : List ℕ) (from r : ℕ) → (entryAt image r) .kind ≡ 0 → 0 ≡ more (recAt image from r)
 no-more image from r h = let k : (recAt image from r) .kind ≡ 0 = kind-is image from r ∙ h in rw k
 
-one-length : (image : List ℕ) (r : ℕ) → lengthOf image r 1 ≡ lengthAt image r
+pub one-length : (image : List ℕ) (r : ℕ) → lengthOf image r 1 ≡ lengthAt image r
 unfolding lengthOf
 one-length image r = add-zero (lengthAt image r)
 
@@ -86,7 +86,7 @@ module _ (image : List ℕ) (text at len : ℕ) where
   abbrev codeItem : ℕ → code.Item
   codeItem byte = record { kind = 0; at = at; len = len; byte = byte; inside = record { r = 0; left = 0; at = 0 } }
 
-  token-test : (c : ℕ) → isToken c (tokenAt image text at len) ≡ (eqb len 1 && eqb (getD image (text + at) 0) c)
+  pub token-test : (c : ℕ) → isToken c (tokenAt image text at len) ≡ (eqb len 1 && eqb (getD image (text + at) 0) c)
   token-test c = token-is image text c (codeItem (getD image (text + at) 0)) refl
 
   pub word-plain : (kind byte : ℕ) → Word kind len byte → byte ≡ getD image (text + at) 0 → Plain (tokenAt image text at len)

@@ -1,7 +1,12 @@
 -- The common shapes of a component, and what the functions that read them give.
+pub mod Bound
+pub mod Common
+pub mod Dots
 pub mod Examples
 pub mod Range
 pub mod Shapes
+pub mod Short
 pub mod Start
 pub mod Table
+pub mod Witness
 pub mod Typed

@@ -46,29 +46,46 @@ cut-is : (i : Item) → Plain i → cutBound (i ∷ []) ≡ none
 unfolding cutLast cutPair
 cut-is i p = rw (p .plus, p .minus)
 
-bound-is : (i : Item) → Plain i → readBound (i ∷ []) ≡ ok (text (partOf (i ∷ [])) (pos 0))
+pub bound-is : (i : Item) → Plain i → readBound (i ∷ []) ≡ ok (text (partOf (i ∷ [])) (pos 0))
 unfolding readBound
 bound-is i p = rw (cut-is i p, readBound)
 
-usb-is : (i : Item) → Plain i → parseUsb (i ∷ []) ≡ ok (text (partOf (i ∷ [])) (pos 0))
+pub usb-is : (i : Item) → Plain i → parseUsb (i ∷ []) ≡ ok (text (partOf (i ∷ [])) (pos 0))
 unfolding parseUsb
 usb-is i p = rw (p .group, parseUsb) (bound-is i p)
 
+-- a start or an end that is no dot, and an end that is no `=`
+abbrev pub Undotted : Option Item → Type 0
+Undotted none = Unit
+Undotted (some i) = isToken (char .dot) i ≡ false
+
+abbrev pub Unequal : Option Item → Type 0
+Unequal none = Unit
+Unequal (some i) = isToken (char .equals) i ≡ false
+
 -- what is found by the scan: the dots from lo up to hi
-abbrev foundAt : ℕ → ℕ → Scan
-foundAt lo hi = record { dots = 0; found = some (lo, hi); inclusive = false }
+abbrev foundAt : Bool → ℕ → ℕ → Scan
+foundAt inclusive lo hi = record { dots = 0; found = some (lo, hi); inclusive = inclusive }
 
 abbrev lo : Option Item → ℕ
 lo none = 0
 lo (some a) = 1
 
-scan-is : (s e : Option Item) (d f : Item) → PlainIn s → PlainIn e → isToken (char .dot) d ≡ true → isToken (char .dot) f ≡ true
-    → scan (listOf s ++ (d ∷ f ∷ listOf e)) ≡ ok (foundAt (lo s) (lo s + 2))
-unfolding scanFrom
-scan-is none none d f p q x y = rw (x, y)
-scan-is (some a) none d f p q x y = rw (p .dot, x, y)
-scan-is none (some b) d f p q x y = rw (x, y, q .dot, q .equals)
-scan-is (some a) (some b) d f p q x y = rw (p .dot, x, y, q .dot, q .equals)
+module _ (d f : Item) (x : isToken (char .dot) d ≡ true) (y : isToken (char .dot) f ≡ true) where
+  scan-is : (s e : Option Item) → Undotted s → Undotted e → Unequal e → scan (listOf s ++ (d ∷ f ∷ listOf e)) ≡ ok (foundAt false (lo s) (lo s + 2))
+  unfolding scanFrom
+  scan-is none none p q r = rw (x, y)
+  scan-is (some a) none p q r = rw (p, x, y)
+  scan-is none (some b) p q r = rw (x, y, q, r)
+  scan-is (some a) (some b) p q r = rw (p, x, y, q, r)
+
+  scan-equals : (s e : Option Item) (g : Item) → Undotted s → Undotted e → isToken (char .dot) g ≡ false → isToken (char .equals) g ≡ true
+      → scan (listOf s ++ (d ∷ f ∷ g ∷ listOf e)) ≡ ok (foundAt true (lo s) (lo s + 3))
+  unfolding scanFrom
+  scan-equals none none g p q u v = rw (x, y, u, v)
+  scan-equals (some a) none g p q u v = rw (p, x, y, u, v)
+  scan-equals none (some b) g p q u v = rw (x, y, u, v, q)
+  scan-equals (some a) (some b) g p q u v = rw (p, x, y, u, v, q)
 
 start-is : (s : Option Item) → PlainIn s → parseStart (listOf s) ≡ ok (startOf s)
 start-is none p = refl
@@ -79,22 +96,46 @@ end-is none p = refl
 end-is (some b) p = rw (usb-is b p)
 
 -- the range of dots that were found
-parsed-is : (is : List Item) (m n : ℕ) (s : Usb) (e : Option Usb) → isEmpty is ≡ false → scan is ≡ ok (foundAt m n) → parseStart (take m is) ≡ ok s
-    → parseEnd false (drop n is) ≡ ok e → parseRange is ≡ ok (some (record { start = s; «end» = e }))
+parsed-is : (is : List Item) (inclusive : Bool) (m n : ℕ) (s : Usb) (e : Option Usb) → isEmpty is ≡ false → scan is ≡ ok (foundAt inclusive m n)
+    → parseStart (take m is) ≡ ok s → parseEnd inclusive (drop n is) ≡ ok e → parseRange is ≡ ok (some (record { start = s; «end» = e }))
 unfolding parseRange
-parsed-is is m n s e h p q r = rw (h, p, q, r)
+parsed-is is inclusive m n s e h p q r = rw (h, p, q, r)
 
--- `..`, `a ..`, `.. b`, `a .. b`
+-- a start or none, dots, an end or none
+pub range-is : (s e : Option Item) (d f : Item) (a : Usb) (b : Option Usb) → Undotted s → Undotted e → Unequal e → isToken (char .dot) d ≡ true
+    → isToken (char .dot) f ≡ true → parseStart (listOf s) ≡ ok a → parseEnd false (listOf e) ≡ ok b
+    → parseRange (listOf s ++ (d ∷ f ∷ listOf e)) ≡ ok (some (record { start = a; «end» = b }))
+range-is none e d f a b p q r x y h k = parsed-is _ false 0 2 a b refl (scan-is d f x y none e p q r) h k
+range-is (some i) e d f a b p q r x y h k = parsed-is _ false 1 3 a b refl (scan-is d f x y (some i) e p q r) h k
+
+-- the same with `..=`
+pub range-to : (s e : Option Item) (d f g : Item) (a : Usb) (b : Option Usb) → Undotted s → Undotted e → isToken (char .dot) d ≡ true
+    → isToken (char .dot) f ≡ true → isToken (char .dot) g ≡ false → isToken (char .equals) g ≡ true → parseStart (listOf s) ≡ ok a
+    → parseEnd true (listOf e) ≡ ok b → parseRange (listOf s ++ (d ∷ f ∷ g ∷ listOf e)) ≡ ok (some (record { start = a; «end» = b }))
+range-to none e d f g a b p q x y u v h k = parsed-is _ true 0 3 a b refl (scan-equals d f x y none e g p q u v) h k
+range-to (some i) e d f g a b p q x y u v h k = parsed-is _ true 1 4 a b refl (scan-equals d f x y (some i) e g p q u v) h k
+
+plain-dot : (s : Option Item) → PlainIn s → Undotted s
+plain-dot none p = tt
+plain-dot (some i) p = p .dot
+
+plain-equals : (s : Option Item) → PlainIn s → Unequal s
+plain-equals none p = tt
+plain-equals (some i) p = p .equals
+
+-- `..`, `a ..`, `.. b`, `a .. b` of plain tokens
 pub dotted-is : (s e : Option Item) (d f : Item) → PlainIn s → PlainIn e → isToken (char .dot) d ≡ true → isToken (char .dot) f ≡ true
     → parseRange (listOf s ++ (d ∷ f ∷ listOf e)) ≡ ok (some (rangeOf s e))
-dotted-is none e d f p q x y = parsed-is _ 0 2 (startOf none) (endOf e) refl (scan-is none e d f p q x y) refl (end-is e q)
-dotted-is (some a) e d f p q x y =
-    parsed-is _ 1 3 (startOf (some a)) (endOf e) refl (scan-is (some a) e d f p q x y) (start-is (some a) p) (end-is e q)
+dotted-is s e d f p q x y =
+    range-is s e d f (startOf s) (endOf e) (plain-dot s p) (plain-dot e q) (plain-equals e q) x y (start-is s p) (end-is e q)
 
 -- `a`
-pub undotted-is : (a : Item) → Plain a → parseRange (a ∷ []) ≡ ok none
+pub no-dots : (a : Item) → isToken (char .dot) a ≡ false → parseRange (a ∷ []) ≡ ok none
 unfolding parseRange scanFrom
-undotted-is a p = rw (p .dot)
+no-dots a p = rw p
+
+pub undotted-is : (a : Item) → Plain a → parseRange (a ∷ []) ≡ ok none
+undotted-is a p = no-dots a (p .dot)
 
 -- ---- the component
 

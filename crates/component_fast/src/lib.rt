@@ -1,11 +1,17 @@
-// Stage 1 of a component, read straight from the record table where it has one of the common shapes: `w`, `w[a]`, `w[..]`, `w[a..]`,
-// `w[..b]`, `w[a..b]`. Any other is read by the crate `component`.
+// Stages 1 and 2 of a component of common shape, read straight from the record table in one go: a word, which may have a bracket of
+// one bound or of a range, and `..n`. A bound is a word, or in a `(` group a word, or a name plus or minus a number; numbers are
+// short. Any other shape, and what stage 1 or 2 refuses, is left to the crate `component`.
 // A word, and a word and any bracket, have no starting value; of any other component it is found by the crate `component`.
-pub use stage1::stage1_component;
+pub use bound::ShortUsb;
+pub use values::component_of;
+pub use read::read_common;
 pub use start::starting_value;
+pub use typed::Common;
 
+mod bound;
 mod range;
-mod stage1;
+mod read;
 mod start;
 mod table;
 mod typed;
+mod values;

@@ -1,122 +1,129 @@
-// What stands in a component's bracket: `a`, `..`, `a..`, `..b` or `a..b`.
-use super::table::is_word;
+// What stands in a component's bracket: `a`, `..`, `a..`, `..b`, `a..b`, or with `..=`.
+use super::bound::ShortUsb;
+use super::bound::bound_in;
+use super::bound::short_number;
+use super::table::dot_at;
 use super::table::length_at;
 use super::table::number_at;
 use super::table::two_dots;
-use usb::OptionUsb;
-use usb::Part;
-use usb::Usb;
-use usb::Usbr;
 ghost use mathlib.Core.Path.{_≡_};
-ghost use mathlib.Core.List.{List};
-ghost use Prim.Native.Nat.{ℕ, _+_, _*_, _-_, _^_, _≤_, _<_};
+ghost use mathlib.Core.Bool.{true, false};
+ghost use Prim.Native.Nat.{_+_, _*_, _-_, _^_, _≤_, _<_};
 ghost use lib.ListN.{length};
-ghost use lib.IntN.{pos};
-ghost use Rattle.def_stages.specs.Ranges as Ranges;
-ghost use Rattle.usb.specs.Usb.{partOf, usbOf, usbrOf};
-ghost use Rattle.component_fast.specs.Range.{EndIs, HeadIs, RangeIs, fromStart, bitOf};
+ghost use Rattle.component_fast.specs.Bound.{raised, Single};
+ghost use Rattle.component_fast.specs.Dots.{EndIs, InclusiveIs, DotsIs};
+ghost use Rattle.component_fast.specs.Range.{RangeIs};
 
-// The end of a range, or a shape of another kind.
-pub enum End {
-    Is(OptionUsb),
-    Other,
+// A range as stage 2 leaves it, or one of another shape.
+pub struct Range {
+    pub fits: bool,
+    pub start: ShortUsb,
+    pub has_end: bool,
+    pub end: ShortUsb,
 }
 
-// A range, or a shape of another kind.
-pub enum Range {
-    Is(Usbr),
-    Other,
-}
-
-// What a range begins with: its start, and how many records and bytes that is.
-pub struct Head {
-    pub start: Usb,
-    pub records: u32,
-    pub len: usize,
-}
-
-// A part of the text plus x.
-fn text_bound(at: usize, len: usize, x: usize) -> Usb
-    ensures { λ u. ⌜ ((image : List ℕ) (text : ℕ) → usbOf image text u ≡ Ranges.text (partOf image text (record { at = at; len = len })) (pos x)) ⌝ }
+fn no_range() -> Range
+    ensures { λ r. ⌜ r .fits ≡ false ⌝ }
 {
-    Usb {
-        s: Part { at, len },
-        x: misc::usize_to_i128(x),
+    Range {
+        fits: false,
+        start: short_number(0),
+        has_end: false,
+        end: short_number(0),
     }
 }
 
-// "An empty start is 0"
-pub(crate) fn zero_bound() -> Usb
-    ensures { λ u. ⌜ ((image : List ℕ) (text : ℕ) → usbOf image text u ≡ Ranges.val (pos 0)) ⌝ }
+// A bound plus 0 or 1.
+fn plus(u: ShortUsb, one: u64) -> ShortUsb
+    ensures { λ v. ⌜ v ≡ raised u one ⌝ }
 {
-    text_bound(0, 0, 0)
-}
-
-// `..` or `..b`: n records from the one at e, their text at an offset.
-fn end_in(image: &[u8], text: usize, e: usize, at: usize, n: u32) -> End
-    requires { ⌜ (text < 2 ^ 62) × (e < 2 ^ 40) × (at < 2 ^ 36) × (e + 12 * (n + 1) ≤ length (now image)) ⌝ }
-    ensures { λ r. ⌜ EndIs (now (image .entry)) text e at n r ⌝ }
-{
-    if n < 2 {
-        return End::Other;
-    }
-    if !two_dots(image, e, text + at) {
-        return End::Other;
-    }
-    if n == 2 {
-        return End::Is(OptionUsb::None);
-    }
-    let len = length_at(image, e + 24);
-    if !is_word(
-        number_at(image, e + 24),
-        len,
-        token_tree::byte_at(image, text + at + 2),
-    ) {
-        return End::Other;
-    }
-    if n != 3 {
-        return End::Other;
-    }
-    End::Is(OptionUsb::Some(text_bound(at + 2, len, 0)))
-}
-
-// A range of that start.
-fn from_start(start: Usb, end: End) -> Range
-    ensures { λ r. ⌜ r ≡ fromStart start end ⌝ }
-{
-    match end {
-        End::Is(o) => Range::Is(Usbr { start, end: o }),
-        End::Other => Range::Other,
+    ShortUsb {
+        at: u.at,
+        len: u.len,
+        x: std::num::wrapping_add_u64(u.x, one),
     }
 }
 
-// "In a bracket without dots, text s means s up to s+1."
-fn single_bit(at: usize, len: usize) -> Usbr
-    ensures { λ r. ⌜ ((image : List ℕ) (text : ℕ) → usbrOf image text r ≡ bitOf (partOf image text (record { at = at; len = len }))) ⌝ }
+// No end, or one bound of all n records.
+fn end_in(
+    image: &[u8],
+    text: usize,
+    e: usize,
+    at: usize,
+    n: u32,
+    start: ShortUsb,
+    one: u64,
+) -> Range
+    requires { ⌜ (text < 2 ^ 62) × (e < 2 ^ 41 - 2 ^ 10) × (at < 2 ^ 37) × (one ≤ 1) × (e + 12 * (n + 1) ≤ length (now image)) ⌝ }
+    ensures { λ r. ⌜ EndIs (now (image .entry)) text e at n one start r ⌝ }
 {
-    let end = text_bound(at, len, 1);
-    Usbr {
-        start: text_bound(at, len, 0),
-        end: OptionUsb::Some(end),
-    }
-}
-
-// The start of a range: a word of so many bytes, or none.
-fn head_of(word: bool, at: usize, len: usize) -> Head
-    ensures { λ h. ⌜ (h .records ≤ 1) × (h .len ≤ len) × HeadIs word at len h ⌝ }
-{
-    if word {
-        return Head {
-            start: text_bound(at, len, 0),
-            records: 1,
-            len,
+    if n == 0 {
+        return Range {
+            fits: true,
+            start,
+            has_end: false,
+            end: short_number(0),
         };
     }
-    Head {
-        start: zero_bound(),
-        records: 0,
-        len: 0,
+    let b = bound_in(image, text, e, at, n);
+    let u = b.u;
+    Range {
+        fits: b.records == n,
+        start,
+        has_end: true,
+        end: plus(u, one),
     }
+}
+
+// Whether the record at e is `=`.
+fn equals_at(image: &[u8], e: usize, text: usize) -> bool
+    requires { ⌜ (e < 2 ^ 41) × (e + 20 ≤ length (now image)) ⌝ }
+    ensures { λ r. ⌜ (r ≡ true → Single (now (image .entry)) e text 61) ⌝ }
+{
+    if number_at(image, e) != 0 {
+        return false;
+    }
+    if token_tree::byte_at(image, text) != b'=' {
+        return false;
+    }
+    length_at(image, e) == 1
+}
+
+// 1 for `..=`, 0 for `..`, of n records behind the dots.
+fn inclusive(image: &[u8], e: usize, text: usize, n: u32) -> u32
+    requires { ⌜ (e < 2 ^ 41) × (e + 12 * n + 8 ≤ length (now image)) ⌝ }
+    ensures { λ one. ⌜ InclusiveIs (now (image .entry)) e text n one ⌝ }
+{
+    if n == 0 {
+        return 0;
+    }
+    if equals_at(image, e, text) {
+        return 1;
+    }
+    0
+}
+
+// `..` or `..=`, and an end: n records.
+fn dots_in(image: &[u8], text: usize, e: usize, at: usize, n: u32, start: ShortUsb) -> Range
+    requires { ⌜ (text < 2 ^ 62) × (e < 2 ^ 41 - 2 ^ 11) × (at < 2 ^ 36) × (e + 12 * (n + 1) ≤ length (now image)) ⌝ }
+    ensures { λ r. ⌜ DotsIs (now (image .entry)) text e at n start r ⌝ }
+{
+    if n < 2 {
+        return no_range();
+    }
+    if !two_dots(image, e, text + at) {
+        return no_range();
+    }
+    let one = inclusive(image, e + 24, text + at + 2, n - 2);
+    end_in(
+        image,
+        text,
+        e + 24 + 12 * (one as usize),
+        at + 2 + (one as usize),
+        n - 2 - one,
+        start,
+        one as u64,
+    )
 }
 
 // A bracket's range: n records from the one at e, their text at an offset.
@@ -124,27 +131,28 @@ pub(crate) fn range_in(image: &[u8], text: usize, e: usize, at: usize, n: u32) -
     requires { ⌜ (text < 2 ^ 62) × (e < 2 ^ 40 - 12) × (at < 2 ^ 35) × (1 ≤ n) × (e + 12 * (n + 1) ≤ length (now image)) ⌝ }
     ensures { λ r. ⌜ RangeIs (now (image .entry)) text e at n r ⌝ }
 {
-    let len = length_at(image, e);
-    let word = is_word(
-        number_at(image, e),
-        len,
-        token_tree::byte_at(image, text + at),
-    );
-    if n == 1 {
-        if !word {
-            return Range::Other;
-        }
-        return Range::Is(single_bit(at, len));
+    if dot_at(image, e, text + at) {
+        return dots_in(image, text, e, at, n, short_number(0));
     }
-    let h = head_of(word, at, len);
-    from_start(
-        h.start,
-        end_in(
-            image,
-            text,
-            e + 12 * (h.records as usize),
-            at + h.len,
-            n - h.records,
-        ),
+    let b = bound_in(image, text, e, at, n);
+    let u = b.u;
+    if b.records == 0 {
+        return no_range();
+    }
+    if n == 1 {
+        return Range {
+            fits: true,
+            start: u,
+            has_end: true,
+            end: plus(u, 1),
+        };
+    }
+    dots_in(
+        image,
+        text,
+        e + 12 * (b.records as usize),
+        at + b.len,
+        n - b.records,
+        u,
     )
 }

@@ -47,7 +47,7 @@ pub(crate) fn length_at(image: &[u8], e: usize) -> usize
 
 // The length of the text of record r, of any record.
 pub(crate) fn whole_length(image: &[u8], r: u32, e: usize) -> usize
-    requires { ⌜ (e ≡ (tables (now image)) .records + 12 * r) × (e < 2 ^ 38) × (40 ≤ length (now image)) × (e + 12 ≤ length (now image)) ⌝ }
+    requires { ⌜ (e ≡ (tables (now image)) .records + 12 * r) × (e < 2 ^ 39) × (40 ≤ length (now image)) × (e + 12 ≤ length (now image)) ⌝ }
     ensures { λ n. ⌜ n ≡ lengthAt (now (image .entry)) r ⌝ }
 {
     let start = number_at(image, e + 4);
@@ -102,7 +102,7 @@ pub(crate) fn dot_at(image: &[u8], e: usize, text: usize) -> bool
 }
 
 pub(crate) fn two_dots(image: &[u8], e: usize, text: usize) -> bool
-    requires { ⌜ (e < 2 ^ 40) × (text < 2 ^ 63) × (e + 32 ≤ length (now image)) ⌝ }
+    requires { ⌜ (e < 2 ^ 41 - 12) × (text < 2 ^ 63) × (e + 32 ≤ length (now image)) ⌝ }
     ensures { λ r. ⌜ r ≡ (dotAt (now (image .entry)) e text && dotAt (now (image .entry)) (e + 12) (text + 1)) ⌝ }
 {
     if !dot_at(image, e, text) {

@@ -1,24 +1,126 @@
-// A component that is a word and a range: "else a text beginning with `-` or a digit makes it a literal, any other a variable".
-use super::range::zero_bound;
-use component::Bits;
-use component::Component;
-use component::ComponentType;
+// A component that is a word and a range, as stage 2 leaves it.
+use super::bound::ShortUsb;
+use super::bound::short_number;
+use super::range::Range;
 use component::Place;
-use usb::OptionUsb;
 use usb::Part;
-use usb::Usbr;
 ghost use mathlib.Core.Path.{_≡_};
-ghost use mathlib.Core.List.{List};
-ghost use Prim.Native.Nat.{ℕ};
-ghost use Rattle.def_stages.specs.Ranges.{unbounded};
-ghost use Rattle.usb.specs.Usb.{usbrOf};
+ghost use mathlib.Core.Bool.{false};
 ghost use Rattle.component.specs.Begins.{beginsNumber};
-ghost use Rattle.component_fast.specs.Typed.{TypedIs};
+ghost use Rattle.component_fast.specs.Typed.{KnownIs, WidthIs, LiteralIs, literalEnd, variableOf, TypedIs};
 
-// A component, or one of another shape.
-pub enum Found {
-    Is(Component),
-    Other,
+// A literal (1: its bits from .. to), a variable (2: a text of so many bytes) or a filler (3), its range, and its width where that is
+// known. Kind 0: a component of another shape, or one that stage 1 or 2 refuses.
+pub struct Common {
+    pub kind: u32,
+    pub len: usize,
+    pub from: usize,
+    pub to: usize,
+    pub start: ShortUsb,
+    pub has_end: bool,
+    pub end: ShortUsb,
+    pub known: bool,
+    pub width: usize,
+}
+
+pub(crate) fn other() -> Common
+    ensures { λ q. ⌜ q .kind ≡ 0 ⌝ }
+{
+    Common {
+        kind: 0,
+        len: 0,
+        from: 0,
+        to: 0,
+        start: short_number(0),
+        has_end: false,
+        end: short_number(0),
+        known: false,
+        width: 0,
+    }
+}
+
+// A width, if it is known; or a range that has none: 22, 23.
+struct Width {
+    fits: bool,
+    known: bool,
+    width: usize,
+}
+
+fn unknown() -> Width
+    ensures { λ w. ⌜ w .known ≡ false ⌝ }
+{
+    Width {
+        fits: true,
+        known: false,
+        width: 0,
+    }
+}
+
+fn known(width: u64) -> Width
+    ensures { λ w. ⌜ KnownIs width w ⌝ }
+{
+    Width {
+        fits: 1 <= width && width < 0x8000_0000_0000_0000,
+        known: true,
+        width: width as usize,
+    }
+}
+
+// The width of a range: known where its texts are the same.
+fn width_of(image: &[u8], text: usize, r: Range) -> Width
+    ensures { λ w. ⌜ WidthIs (now (image .entry)) text r w ⌝ }
+{
+    if !r.has_end {
+        return unknown();
+    }
+    let start = Part {
+        at: r.start.at,
+        len: r.start.len,
+    };
+    let end = Part {
+        at: r.end.at,
+        len: r.end.len,
+    };
+    if !texts::same_text(image, text, start, end) {
+        return unknown();
+    }
+    known(std::num::wrapping_sub_u64(r.end.x, r.start.x))
+}
+
+// Bits from .. to of a literal of so many.
+fn literal(from: usize, to: usize, width: usize) -> Common
+    ensures { λ q. ⌜ LiteralIs from to width q ⌝ }
+{
+    if to <= from {
+        return other();
+    }
+    if width < to {
+        return other();
+    }
+    Common {
+        kind: 1,
+        len: 0,
+        from,
+        to,
+        start: short_number(0),
+        has_end: true,
+        end: short_number((to - from) as u64),
+        known: true,
+        width: to - from,
+    }
+}
+
+// A literal's end, where it is a number: without one, its width. 2^63 for a text.
+fn literal_end(place: Place, r: Range) -> usize
+    ensures { λ e. ⌜ e ≡ literalEnd (place .width) r ⌝ }
+{
+    if !r.has_end {
+        return place.width as usize;
+    }
+    if r.end.len != 0 {
+        return 0x8000_0000_0000_0000;
+    }
+    r.end.x as usize
 }
 
 // `-` or a digit
@@ -31,35 +133,44 @@ fn begins_number(b: u8) -> bool
     b'0' <= b && b <= b'9'
 }
 
-// A range without a bracket.
-pub(crate) fn unbounded() -> Usbr
-    ensures { λ r. ⌜ ((image : List ℕ) (text : ℕ) → usbrOf image text r ≡ unbounded) ⌝ }
+fn variable(len: usize, r: Range, w: Width) -> Common
+    ensures { λ q. ⌜ q ≡ variableOf len r w ⌝ }
 {
-    Usbr {
-        start: zero_bound(),
-        end: OptionUsb::None,
+    let start = r.start;
+    let end = r.end;
+    Common {
+        kind: 2,
+        len,
+        from: 0,
+        to: 0,
+        start,
+        has_end: r.has_end,
+        end,
+        known: w.known,
+        width: w.width,
     }
 }
 
-// A word of so many bytes that begins with a byte. A literal of no bits is left: 17.
-pub(crate) fn typed(place: Place, len: usize, byte: u8, range: Usbr) -> Found
-    ensures { λ r. ⌜ TypedIs place len byte range r ⌝ }
+// A word of so many bytes that begins with a byte.
+pub(crate) fn typed(image: &[u8], place: Place, len: usize, byte: u8, r: Range) -> Common
+    ensures { λ q. ⌜ TypedIs (now (image .entry)) place len byte r q ⌝ }
 {
-    if !begins_number(byte) {
-        return Found::Is(Component {
-            c_type: ComponentType::Variable(Part { at: 0, len }),
-            range,
-        });
+    if !r.fits {
+        return other();
     }
-    if place.width == 0 {
-        return Found::Other;
+    if begins_number(byte) {
+        if r.start.len != 0 {
+            return other();
+        }
+        return literal(
+            r.start.x as usize,
+            literal_end(place, r),
+            place.width as usize,
+        );
     }
-    let bits = Bits {
-        from: 0,
-        to: place.width as usize,
-    };
-    Found::Is(Component {
-        c_type: ComponentType::Literal(bits),
-        range,
-    })
+    let w = width_of(image, place.text, r);
+    if !w.fits {
+        return other();
+    }
+    variable(len, r, w)
 }

@@ -1,5 +1,7 @@
 -- Laws that the functions' proofs cite.
+pub mod Blocks
 pub mod Places
-pub mod Sums
+pub mod PutSteps
 pub mod Steps
+pub mod Sums
 pub mod Walks

@@ -4,23 +4,46 @@ use component_fast::ShortUsb;
 use stage5::Merging;
 use stage5::Writing;
 use tree::Spot;
-ghost use Rattle.stage5.specs.State.{CloseIs};
+ghost use mathlib.Core.Path.{_≡_};
+ghost use mathlib.Core.Bool.{false};
+ghost use mathlib.Core.List.{List, _++_};
+ghost use Prim.Native.Nat.{ℕ, _+_, _/_, _%_, _^_, _≤_, _<_, min};
+ghost use lib.Dec.{leb};
+ghost use lib.ListN.{length};
+ghost use lib.Seq.{sets};
+ghost use Rattle.def_image.specs.Image.{Placed};
+ghost use Rattle.def_image.specs.Tree.{u32};
+ghost use Rattle.def_run.specs.Answer.{flag, usbBytes, componentBytes};
+ghost use Rattle.answer.specs.Numbers.{startOf};
+ghost use Rattle.component.specs.declared.places.Place.{Place};
+ghost use Rattle.component_fast.specs.Common.{ReadAs, commonOf};
+ghost use Rattle.component_fast.specs.Short.{wide, shortOf};
+ghost use Rattle.merge_runs.specs.Runs.{literalOf};
+ghost use Rattle.stage5.specs.State.{LongerIs, CloseIs};
 ghost use Rattle.one_pass.specs.Pass.{WrittenIs};
 
-fn put_u32(area: &mut [u8], at: usize, n: u32) {
+fn put_u32(area: &mut [u8], at: usize, n: u32)
+    requires { ⌜ at + 4 ≤ length (now area) ⌝ }
+    ensures { λ _. ⌜ now (area .exit) ≡ sets (now (area .entry)) at (u32 n) ⌝ }
+{
     area[at] = (n % 256) as u8;
     area[at + 1] = (n / 256 % 256) as u8;
     area[at + 2] = (n / 65536 % 256) as u8;
     area[at + 3] = (n / 16777216 % 256) as u8;
 }
 
-fn put_u64(area: &mut [u8], at: usize, n: u64) {
+fn put_u64(area: &mut [u8], at: usize, n: u64)
+    requires { ⌜ at + 8 ≤ length (now area) ⌝ }
+    ensures { λ _. ⌜ now (area .exit) ≡ sets (now (area .entry)) at (u32 (n % 2 ^ 32) ++ u32 (n / 2 ^ 32)) ⌝ }
+{
     put_u32(area, at, (n % 4294967296) as u32);
     put_u32(area, at + 4, (n / 4294967296) as u32);
 }
 
 // The high half of a number of 64 bits in two's complement.
-fn high_of(x: u64) -> u64 {
+fn high_of(x: u64) -> u64
+    ensures { λ r. ⌜ r ≡ wide x .high ⌝ }
+{
     if 0x8000_0000_0000_0000 <= x {
         return 0xffff_ffff_ffff_ffff;
     }
@@ -28,7 +51,9 @@ fn high_of(x: u64) -> u64 {
 }
 
 // Where a text starts, of a component whose own text starts at `base`; an empty one starts at 0.
-fn text_start(base: u32, at: usize, len: usize) -> u32 {
+fn text_start(base: u32, at: usize, len: usize) -> u32
+    ensures { λ r. ⌜ r ≡ startOf base at len ⌝ }
+{
     if len == 0 {
         return 0;
     }
@@ -36,7 +61,11 @@ fn text_start(base: u32, at: usize, len: usize) -> u32 {
 }
 
 // 24 bytes.
-fn put_usb(area: &mut [u8], at: usize, base: u32, u: ShortUsb) {
+fn put_usb(area: &mut [u8], at: usize, base: u32, u: ShortUsb)
+    requires { ⌜ at + 24 ≤ length (now area) ⌝ }
+    ensures { λ _. ⌜ ((image : List ℕ) (text : ℕ)
+        → now (area .exit) ≡ sets (now (area .entry)) at (usbBytes base (shortOf image text u))) ⌝ }
+{
     put_u32(area, at, text_start(base, u.at, u.len));
     put_u32(area, at + 4, (u.len % 4294967296) as u32);
     put_u64(area, at + 8, u.x);
@@ -53,7 +82,10 @@ fn put_fields(
     width: u32,
     offset: u32,
     end: u32,
-) {
+)
+    requires { ⌜ at + 24 ≤ length (now area) ⌝ }
+    ensures { λ _. ⌜ now (area .exit) ≡ sets (now (area .entry)) at (u32 kind ++ u32 start ++ u32 len ++ u32 width ++ u32 offset ++ u32 «end») ⌝ }
+{
     put_u32(area, at, kind);
     put_u32(area, at + 4, start);
     put_u32(area, at + 8, len);
@@ -63,7 +95,9 @@ fn put_fields(
 }
 
 // Whether 72 bytes from a place lie in an area of this length.
-fn has_room(len: usize, at: usize) -> bool {
+fn has_room(len: usize, at: usize) -> bool
+    ensures { λ b. ⌜ b ≡ leb (at + 72) len ⌝ }
+{
     if len < 72 {
         return false;
     }
@@ -71,7 +105,10 @@ fn has_room(len: usize, at: usize) -> bool {
 }
 
 // A literal of so many bits from 0 on: 72 bytes, where they lie in the area.
-fn put_literal(area: &mut [u8], at: usize, bits: usize, offset: usize) {
+fn put_literal(area: &mut [u8], at: usize, bits: usize, offset: usize)
+    ensures { λ _. ⌜ ((b : Placed (List ℕ)) → length (b .value) ≡ bits → bits < 2 ^ 63 → at + 72 ≤ length (now (area .entry))
+        → now (area .exit) ≡ sets (now (area .entry)) at (componentBytes offset (literalOf b))) ⌝ }
+{
     if !has_room(area.len(), at) {
         return;
     }
@@ -107,12 +144,17 @@ fn put_literal(area: &mut [u8], at: usize, bits: usize, offset: usize) {
     );
 }
 
-fn one_if(b: bool) -> u32 {
+fn one_if(b: bool) -> u32
+    ensures { λ r. ⌜ r ≡ flag b 1 ⌝ }
+{
     if b { 1 } else { 0 }
 }
 
 // A variable or a filler: 72 bytes, where they lie in the area.
-fn put_plain(area: &mut [u8], at: usize, base: u32, q: Common) {
+fn put_plain(area: &mut [u8], at: usize, base: u32, q: Common)
+    ensures { λ _. ⌜ ((image : List ℕ) (place : Place) (offset : ℕ) → ReadAs image place q → (q .kind ≡ 1 → ⊥) → at + 72 ≤ length (now (area .entry))
+        → now (area .exit) ≡ sets (now (area .entry)) at (componentBytes offset (record { base = base; value = commonOf image place q }))) ⌝ }
+{
     if !has_room(area.len(), at) {
         return;
     }
@@ -133,7 +175,9 @@ fn put_plain(area: &mut [u8], at: usize, base: u32, q: Common) {
 }
 
 // The place behind a component's block, and behind so many literal bytes.
-fn behind(w: Writing, bytes: usize) -> Merging {
+fn behind(w: Writing, bytes: usize) -> Merging
+    ensures { λ r. ⌜ r ≡ record { w = record { at = (w .at + 72) % 2 ^ 64; literals = w .literals; offset = (w .offset + bytes) % 2 ^ 64 }; running = false; bits = 0 } ⌝ }
+{
     Merging {
         w: Writing {
             at: std::num::wrapping_add_usize(w.at, 72),
@@ -157,7 +201,9 @@ pub(crate) fn close(area: &mut [u8], s: Merging) -> Merging
     behind(w, stage5::bytes_for(s.bits))
 }
 
-fn least(a: usize, b: usize) -> usize {
+fn least(a: usize, b: usize) -> usize
+    ensures { λ r. ⌜ r ≡ min a b ⌝ }
+{
     if a < b { a } else { b }
 }
 
@@ -169,7 +215,9 @@ fn lengthen(
     from: usize,
     to: usize,
     s: Merging,
-) -> Merging {
+) -> Merging
+    ensures { λ r. ⌜ (from ≤ to → LongerIs (now (image .entry)) literal (record { from = from; to = to }) s r (now (area .entry)) (now (area .exit))) ⌝ }
+{
     let k = least(literal, image.len());
     let t = &image[k..];
     let w = s.w;

@@ -35,7 +35,7 @@ use Rattle.stage5.specs.Put.{Room}
 use Rattle.merge_runs.specs.Runs.{Run, runBits, literalOf, longer, closed, mergeFrom, from-end, from-static, from-other}
 use Rattle.stage5.specs.Blocks.{putOne, writtenOne, Same, same-then, length-literals}
 use Rattle.stage5.specs.Literals.{Span, typeBits}
-use Rattle.stage5.specs.State.{Holds, LongerIs, FinishIs, CloseIs, Closes, OtherIs, Goes, StepIs, TurnIs}
+use Rattle.stage5.specs.State.{Holds, LongerIs, FinishIs, CloseIs, OtherIs, Goes, StepIs, TurnIs}
 use Rattle.stage5.proofs.Closing.{holds-none, block-first}
 
 pub not-true : (t : Bool) → not t ≡ true → t ≡ false

@@ -6,11 +6,15 @@ ghost use Rattle.component.specs.Places.{unparsedIn};
 ghost use Rattle.component.specs.Values.{resultIn};
 ghost use Rattle.tree.specs.Read.{stage2Component};
 
-// Stage 2 of a component that no stage has read.
+// Stage 2 of a component that no stage has read. One of common shape is read in one go.
 pub fn stage2_component(image: &[u8], place: Place, scanned: bool) -> ComponentResult
     ensures { λ r. ⌜ resultIn (now (image .entry)) place r ≡ stage2Component scanned (unparsedIn (now (image .entry)) place) ⌝ }
 {
-    let s = component_fast::stage1_component(image, place, scanned);
+    let q = component_fast::read_common(image, place);
+    if q.kind != 0 {
+        return ComponentResult::Ok(component_fast::component_of(q));
+    }
+    let s = component::stage1_component(image, place, scanned);
     match s {
         ComponentResult::Ok(c) => component::simplify(image, place, c),
         ComponentResult::Refused(q) => ComponentResult::Refused(q),

@@ -1,21 +1,40 @@
+use native.Mathlib.Omega.{arith}
 use borrow.Author.Tests.{not-true, not-false}
-use Rattle.component_fast.proofs.Types.{typed-variable, typed-literal}
+use Rattle.component_fast.proofs.Made.{nothing}
+use Rattle.component_fast.proofs.Types.{typed-literal, typed-variable}
 use borrow.Author.Needs.{needs}
 use Rattle.component_fast.proofs.typed.typed.Statement.{statement}
 use Rattle.component_fast.proofs.typed.typed.Tie as tie
 
 returns : tie.Need-returns
-returns c =
-    let a = c .before .before .args in
-    let t = c .before .begins-number in
-    λ image q s. typed-variable (a .place) (a .len) (a .byte) (a .range) (t .result) (t .ensures) image q s (not-true (t .result) (c .if1 .taken))
+returns c = nothing (c .other .result .kind) (c .other .ensures)
+
+returns-2 : tie.Need-returns-2
+returns-2 c = nothing (c .other2 .result .kind) (c .other2 .ensures)
 
 returns-3 : tie.Need-returns-3
 returns-3 c =
-    let a = c .before .before .before .before .before .args in
-    let t = c .before .before .before .before .begins-number in
-    λ image q s. typed-literal (a .place) (a .len) (a .byte) (a .range) (t .result) (t .ensures) image q s
-    (not-false (t .result) (c .before .before .before .if1 .left)) (c .before .if2 .left)
+    let b = c .before .before .before .before .before in
+    let a = b .before .before .before .before .before .args in
+    let n = b .before .begins-number in
+    let e = c .before .before .literal-end in
+    typed-literal (a .image .now) (a .place) (a .len) (a .byte) (a .r) (c .literal .result) (n .result) (n .ensures) (b .if2 .taken)
+    (not-false (a .r .fits) (b .before .before .if1 .left)) (c .before .before .before .if3 .left) (e .result) (e .ensures) (omega (arith, c .before .struct-known3)) (c .literal .ensures)
+
+returns-4 : tie.Need-returns-4
+returns-4 c = nothing (c .other3 .result .kind) (c .other3 .ensures)
+
+returns-5 : tie.Need-returns-5
+returns-5 c =
+    let b = c .before .before .before .before in
+    let a = b .before .before .before .before .before .args in
+    let n = b .before .begins-number in
+    let w = c .before .before .before .width-of in
+    typed-variable (a .image .now) (a .place) (a .len) (a .byte) (a .r) (c .variable .result) (n .result) (n .ensures) (b .if2 .left)
+    (not-false (a .r .fits) (b .before .before .if1 .left)) (w .result) (not-false (w .result .fits) (c .before .if4 .left)) (w .ensures) (c .variable .ensures)
 
 pub typed-spec : {M : Type 1} → statement M
-typed-spec = tie.close (tie.spec (λ c κs. search needs) returns (λ c. search needs) (λ c. search needs) returns-3)
+typed-spec =
+    tie.close
+    (tie.spec (λ c κs. search needs) returns (λ c κs. search needs) (λ c κs. search needs) returns-2 (λ c κs. search needs) (λ c. search needs)
+    (λ c κs. search needs) returns-3 (λ c κs. search needs) (λ c κs. search needs) returns-4 (λ c κs. search needs) returns-5)

@@ -1,0 +1,38 @@
+use mathlib.Core.Path.{refl}
+use borrow.Author.Tests.{not-false}
+use Rattle.component_fast.proofs.Founds.{bracketed-is, left-is, skip-is, stands-two}
+use Rattle.component_fast.proofs.Made.{nothing}
+use borrow.Author.Needs.{needs}
+use Rattle.component_fast.proofs.read.bracketed.Statement.{statement}
+use Rattle.component_fast.proofs.read.bracketed.Tie as tie
+
+returns : tie.Need-returns
+returns c = nothing (c .other .result .kind) (c .other .ensures)
+
+returns-2 : tie.Need-returns-2
+returns-2 c = nothing (c .other2 .result .kind) (c .other2 .ensures)
+
+returns-3 : tie.Need-returns-3
+returns-3 c =
+    let m = c .before .before .before in
+    let n = m .before .before .before .before .before in
+    let p = n .before .before .before .before .before in
+    let a = p .args in
+    let f = c .before .range-in in
+    let l2 = m .length-at2 in
+    let b = m .before .before .bracket-at in
+    let w = n .is-word in
+    let k = n .before .number-at in
+    let y = n .before .before .byte-at in
+    let l = n .before .before .before .length-at in
+    bracketed-is (a .image .now) (a .place) (k .result) (l .result) (y .result) (w .result) (p .pre .0) (w .ensures)
+    (not-false (w .result) (m .before .before .before .before .if1 .left)) (y .ensures) (a .e) _ _ (l2 .result) _ (b .result) (f .result)
+    (c .typed .result) (left-is (a .place .run .left) (p .pre .2)) (stands-two (a .image .now) _ _ _ (p .pre .2) (p .pre .5)) (k .ensures) (l .ensures .0) (b .ensures)
+    (skip-is (a .place .run .left) (p .pre .2)) (not-false (b .result) (m .before .if2 .left)) (l2 .ensures .0) refl (f .ensures) (c .typed .ensures)
+
+pub bracketed-spec : {M : Type 1} → statement M
+bracketed-spec =
+    tie.close
+    (tie.spec (λ c κs. search needs) (λ c κs. search needs) (λ c κs. search needs) (λ c κs. search needs) (λ c κs. search needs) returns
+    (λ c. search needs) (λ c. search needs) (λ c κs. search needs) (λ c κs. search needs) returns-2 (λ c. search needs) (λ c κs. search needs)
+    (λ c. search needs) (λ c. search needs) (λ c. search needs) (λ c κs. search needs) (λ c κs. search needs) returns-3)

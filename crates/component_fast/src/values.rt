@@ -1,0 +1,84 @@
+// A component of common shape as a value: its numbers in 128 bits.
+use super::bound::ShortUsb;
+use super::typed::Common;
+use component::Bits;
+use component::Component;
+use component::ComponentType;
+use misc::I128;
+use usb::OptionUsb;
+use usb::Part;
+use usb::Usb;
+use usb::Usbr;
+ghost use mathlib.Core.Path.{_≡_};
+ghost use mathlib.Core.List.{List};
+ghost use Prim.Native.Nat.{ℕ};
+ghost use Rattle.usb.specs.Usb.{usbOf, optionUsbOf};
+ghost use Rattle.component.specs.Values.{typeOf, componentOf};
+ghost use Rattle.component.specs.declared.places.Place as Places;
+ghost use Rattle.component_fast.specs.Common.{commonType, commonOf};
+ghost use Rattle.component_fast.specs.Short as Short;
+ghost use Rattle.component_fast.specs.Short.{shortOf, endIn};
+
+// A number of 64 bits in two's complement.
+fn wide(x: u64) -> I128
+    ensures { λ w. ⌜ w ≡ Short.wide x ⌝ }
+{
+    if x < 0x8000_0000_0000_0000 {
+        return I128 { high: 0, low: x };
+    }
+    I128 {
+        high: 0xFFFF_FFFF_FFFF_FFFF,
+        low: x,
+    }
+}
+
+fn usb_of(u: ShortUsb) -> Usb
+    ensures { λ r. ⌜ ((image : List ℕ) (text : ℕ) → usbOf image text r ≡ shortOf image text u) ⌝ }
+{
+    Usb {
+        s: Part {
+            at: u.at,
+            len: u.len,
+        },
+        x: wide(u.x),
+    }
+}
+
+fn end_of(ended: bool, u: ShortUsb) -> OptionUsb
+    ensures { λ r. ⌜ ((image : List ℕ) (text : ℕ) → optionUsbOf image text r ≡ endIn image text ended u) ⌝ }
+{
+    if ended {
+        return OptionUsb::Some(usb_of(u));
+    }
+    OptionUsb::None
+}
+
+fn type_of(q: Common) -> ComponentType
+    ensures { λ r. ⌜ ((image : List ℕ) (place : Places.Place) → typeOf image place r ≡ commonType image place q) ⌝ }
+{
+    if q.kind == 1 {
+        return ComponentType::Literal(Bits {
+            from: q.from,
+            to: q.to,
+        });
+    }
+    if q.kind == 2 {
+        return ComponentType::Variable(Part { at: 0, len: q.len });
+    }
+    ComponentType::Filler
+}
+
+// The component that a common one is.
+pub fn component_of(q: Common) -> Component
+    ensures { λ r. ⌜ ((image : List ℕ) (place : Places.Place) → componentOf image place r ≡ commonOf image place q) ⌝ }
+{
+    let start = q.start;
+    let end = q.end;
+    Component {
+        c_type: type_of(q),
+        range: Usbr {
+            start: usb_of(start),
+            end: end_of(q.has_end, end),
+        },
+    }
+}
