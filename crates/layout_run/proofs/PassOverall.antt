@@ -12,7 +12,7 @@ use Rattle.laws.specs.Tests.{by-test, eqb-iff, eqb-false}
 use Rattle.misc.specs.Value.{optionUsize}
 use Rattle.concatenation.specs.Align.{alignOf}
 use Rattle.concatenation.specs.Overall.{HasSummary, placeOf, joined, turn, commonOf}
-use Rattle.concatenation.specs.declared.align.FillerAlign.the-variants as A
+use Rattle.alignment.specs.declared.align.FillerAlign.the-variants as A
 use Rattle.concatenation.specs.declared.overall.Summary.{Summary}
 use Rattle.concatenation.proofs.Summaries.{width-unknown, width-first, width-same, source-none, source-good, turn-on}
 use Rattle.concatenation.proofs.Ends.{ends, common-known, common-free}

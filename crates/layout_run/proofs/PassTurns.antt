@@ -22,7 +22,7 @@ use Rattle.answer.specs.Heads.{IsConcatenation}
 use Rattle.answer_fits.specs.Fixed.{AllFixed}
 use Rattle.concatenation.specs.Align.{alignOf}
 use Rattle.concatenation.specs.Overall.{Summarised, none-left, placeOf}
-use Rattle.concatenation.specs.declared.align.FillerAlign.the-variants as A
+use Rattle.alignment.specs.declared.align.FillerAlign.the-variants as A
 use Rattle.concatenation.specs.declared.overall.Overall.{Overall}
 use Rattle.concatenation.specs.declared.overall.Summary.{Summary}
 use Rattle.concatenation.proofs.Ends.{none-at}

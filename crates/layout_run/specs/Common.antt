@@ -10,7 +10,7 @@ use Rattle.def_stages.specs.Overall.{stage4}
 use Rattle.def_run.specs.Answer.{concatenationBytes}
 use Rattle.answer_fits.specs.Fixed.{AllFixed}
 use Rattle.concatenation.specs.Overall.{overallOf}
-use Rattle.concatenation.specs.declared.align.FillerAlign.the-variants as A
+use Rattle.alignment.specs.declared.align.FillerAlign.the-variants as A
 use Rattle.concatenation.specs.declared.overall.Overall.{Overall}
 use Rattle.misc.specs.Value.{optionUsize}
 use Rattle.tree.specs.Read.{startAll}

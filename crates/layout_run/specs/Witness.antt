@@ -15,7 +15,7 @@ use Rattle.answer_fits.specs.Fixed.{AllFixed, none-left, one-more}
 use Rattle.errors.specs.declared.Checked.the-variants as C
 use Rattle.misc.specs.declared.OptionUsize.the-variants as U
 use Rattle.concatenation.specs.Overall as S
-use Rattle.concatenation.specs.declared.align.FillerAlign.the-variants as A
+use Rattle.alignment.specs.declared.align.FillerAlign.the-variants as A
 use Rattle.concatenation.specs.declared.overall.Place.the-variants as P
 use Rattle.concatenation.specs.declared.overall.Summary.{Summary}
 use Rattle.tree.specs.Chain.{atMost}

@@ -26,12 +26,14 @@ use Rattle.component_fast.specs.declared.bound.ShortUsb.{ShortUsb}
 use Rattle.component_fast.specs.declared.typed.Common.{Common}
 use Rattle.answer.specs.declared.Kind.{Kind}
 use Rattle.answer.specs.declared.Kind.the-variants as K
-use Rattle.answer.specs.Kinds.{HasKind, fieldsOf, hasEnd, endOrZero}
-use Rattle.answer.specs.Numbers.{startOf}
+use Rattle.answer.specs.Kinds.{HasKind, fieldsOf}
+use Rattle.answer_numbers.specs.Numbers.{hasEnd, endOrZero}
+use Rattle.answer_numbers.specs.Numbers.{startOf}
 use Rattle.answer.specs.Writing.{and-then}
-use Rattle.answer.proofs.Blocks.{u32-mod, text-of, length-bytes}
+use Rattle.answer.proofs.Blocks.{u32-mod}
+use Rattle.answer_words.proofs.Blocks.{text-of, length-bytes}
 use Rattle.answer.proofs.Components.{component-of}
-use Rattle.answer.proofs.Words.{x-of}
+use Rattle.answer_words.proofs.Words.{x-of}
 use Rattle.merge_runs.specs.Runs.{literalOf}
 use Rattle.stage5.proofs.Closing.{fixed-is}
 use Rattle.stage5.proofs.Steps.{not-true, not-false}

@@ -16,8 +16,9 @@ use Rattle.component_fast.specs.Short.{wide, shortOf, endIn}
 use Rattle.component_fast.specs.Common.{ReadAs, commonRange, commonOf, knownWidth}
 use Rattle.component_fast.specs.declared.bound.ShortUsb.{ShortUsb}
 use Rattle.component_fast.specs.declared.typed.Common.{Common}
-use Rattle.concatenation.specs.Running.{stepOf, addAs}
-use Rattle.concatenation.proofs.Widths.{low-only, negative}
+use Rattle.concatenation.specs.Running.{stepOf}
+use Rattle.running_check.specs.Running.{addAs}
+use Rattle.running_check.proofs.Widths.{low-only, negative}
 use Rattle.one_pass.specs.Sum.{Admitted, KindFits, isFull, runningIn, summedOf}
 use Rattle.one_pass.specs.declared.sum.Sum.{Sum}
 

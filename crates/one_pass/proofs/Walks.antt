@@ -17,7 +17,7 @@ use Rattle.component_fast.specs.Common.{ReadAs, CommonIs, commonOf}
 use Rattle.component_fast.specs.declared.typed.Common.{Common}
 use Rattle.concatenation.specs.Running.{stepOf, finishOf}
 use Rattle.concatenation.specs.Overall.{placeOf}
-use Rattle.concatenation.specs.declared.align.FillerAlign.the-variants as A
+use Rattle.alignment.specs.declared.align.FillerAlign.the-variants as A
 use Rattle.concatenation.specs.declared.overall.Place as Code
 use Rattle.concatenation.specs.declared.overall.Place.the-variants as P
 use Rattle.tree.specs.Cursor.{nextIn, spotIn}

@@ -8,7 +8,7 @@ use Rattle.misc.specs.Value.{optionUsize}
 use Rattle.component_fast.specs.Common.{ReadAs, commonOf}
 use Rattle.component_fast.specs.declared.typed.Common.{Common}
 use Rattle.concatenation.specs.Overall.{placeOf}
-use Rattle.concatenation.specs.declared.align.FillerAlign.the-variants as A
+use Rattle.alignment.specs.declared.align.FillerAlign.the-variants as A
 use Rattle.tree.specs.Cursor.{spotIn}
 use Rattle.tree.specs.Pass.{advance}
 use Rattle.tree.specs.Read.{unparsedAt}

@@ -12,7 +12,7 @@ use Rattle.def_stages.specs.Concatenation.{fixedLiteral, merge}
 use Rattle.def_examples.specs.Compute.{computed}
 use Rattle.laws.specs.Results.{ok-same}
 use Rattle.misc.specs.declared.OptionUsize.the-variants as U
-use Rattle.concatenation.specs.declared.align.FillerAlign.the-variants as A
+use Rattle.alignment.specs.declared.align.FillerAlign.the-variants as A
 use Rattle.concatenation.specs.declared.overall.Place.the-variants as P
 use Rattle.tree.specs.Cursor.{firstIn, nextIn, standingIn, spotIn}
 use Rattle.tree.specs.Pass.{advance}

@@ -14,7 +14,7 @@ ghost use lib.Seq.{sets};
 ghost use Rattle.def_image.specs.Image.{Placed};
 ghost use Rattle.def_image.specs.Tree.{u32};
 ghost use Rattle.def_run.specs.Answer.{flag, usbBytes, componentBytes};
-ghost use Rattle.answer.specs.Numbers.{startOf};
+ghost use Rattle.answer_numbers.specs.Numbers.{startOf};
 ghost use Rattle.component.specs.declared.places.Place.{Place};
 ghost use Rattle.component_fast.specs.Common.{ReadAs, commonOf};
 ghost use Rattle.component_fast.specs.Short.{wide, shortOf};

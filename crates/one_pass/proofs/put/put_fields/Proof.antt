@@ -1,7 +1,7 @@
 use mathlib.Core.Path.{refl}
 use borrow.Author.Needs.{needs}
 use Rattle.def_image.specs.Tree.{u32}
-use Rattle.answer.specs.Writing.{six-blocks}
+use Rattle.answer_words.specs.Writing.{six-blocks}
 use Rattle.one_pass.proofs.put.put_fields.Statement.{statement}
 use Rattle.one_pass.proofs.put.put_fields.Tie as tie
 

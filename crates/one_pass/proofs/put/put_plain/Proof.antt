@@ -7,7 +7,7 @@ use lib.Seq.{sets}
 use Rattle.def_image.specs.Tree.{u32}
 use Rattle.def_run.specs.Answer.{usbBytes}
 use Rattle.component_fast.specs.Short.{shortOf}
-use Rattle.answer.specs.Sizes.{length-usb}
+use Rattle.answer_words.specs.Sizes.{length-usb}
 use Rattle.one_pass.proofs.Blocks.{room-is, no-room, three-blocks, plain-of}
 use Rattle.one_pass.proofs.put.put_plain.Statement.{statement}
 use Rattle.one_pass.proofs.put.put_plain.Tie as tie

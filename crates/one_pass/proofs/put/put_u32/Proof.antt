@@ -4,7 +4,7 @@ use borrow.Author.Needs.{needs}
 use Prim.Native.Nat.{_/_, _%_}
 use native.Mathlib.Omega.{arith}
 use lib.ListN.{length-set}
-use Rattle.answer.specs.Writing.{four}
+use Rattle.answer_words.specs.Writing.{four}
 use Rattle.one_pass.proofs.put.put_u32.Statement.{statement}
 use Rattle.one_pass.proofs.put.put_u32.Tie as tie
 

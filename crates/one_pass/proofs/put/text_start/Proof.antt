@@ -1,5 +1,5 @@
 use borrow.Author.Needs.{needs}
-use Rattle.answer.proofs.Blocks.{start-empty, start-some}
+use Rattle.answer_numbers.proofs.Starts.{start-empty, start-some}
 use Rattle.one_pass.proofs.put.text_start.Statement.{statement}
 use Rattle.one_pass.proofs.put.text_start.Tie as tie
 
