@@ -1,31 +1,36 @@
--- A filler `..n`: stages 1 and 2 of it.
+-- A filler `..n`: stages 1 and 2 of it, and how it stands in the image.
 use mathlib.Core.Path.{_≡_, refl, sym, ap, _∙_}
-use mathlib.Core.Logic.{inl}
 use Prim.Native.Nat.{_≤_, _<_}
+use native.Mathlib.Nat.{add-zero}
 use native.Mathlib.Omega.{arith}
-use Rattle.def_numbers.specs.Prelude.{ℕ, _+_, _^_, Bool, true, false, _&&_, _||_, none, some, List, [], _∷_, eqb, pos}
+use Rattle.def_numbers.specs.Prelude.{ℕ, suc, _+_, _*_, _-_, _^_, Bool, true, false, _&&_, _||_, none, some, List, [], _∷_, getD, drop, eqb, pos}
 use Rattle.def_numbers.specs.Basics.{Result, ok, _>>=_, isEmpty, sameBytes}
 use Rattle.def_numbers.specs.Numbers.{char}
-use Rattle.def_image.specs.Image.{Unparsed, kinds, padded}
+use Rattle.def_image.specs.Image.{Unparsed, u32At, kinds, padded, tables, entryAt}
 use Rattle.def_stages.specs.Text.{Item, items, isToken}
 use Rattle.def_stages.specs.Ranges as Ranges
-use Rattle.def_stages.specs.Ranges.{Usbr, val, staticWidth}
+use Rattle.def_stages.specs.Ranges.{Usbr, staticWidth}
 use Rattle.def_stages.specs.Component.{Component, filler, Split, splitRange, splitColon, prefixOf, parseComponent, stage1Component, simplifyUsb, simplifyRange, simplify, isZero}
-use Rattle.laws.specs.Tests.{by-test, eqb-iff, eqb-false}
+use Rattle.laws.specs.Tests.{by-test, and-iff, eqb-iff, eqb-apart}
 use Rattle.usb.specs.Usb.{partOf}
 use Rattle.bounds.proofs.Bounds.{empty-is}
-use Rattle.component.specs.Places.{middleOf}
+use Rattle.items.specs.Run.{lengthAt, itemsAt}
+use Rattle.component.specs.Places.{middleOf, unparsedIn, reachable}
 use Rattle.component.specs.declared.places.Place.{Place}
-use Rattle.component_fast.specs.Common.{knownWidth}
+use Rattle.component_fast.specs.Common.{knownWidth, CommonIs}
+use Rattle.component_fast.specs.Range.{WordIs}
 use Rattle.component_fast.specs.Shapes.{Plain, rangeOf, dotted-is}
 use Rattle.component_fast.specs.Short.{shortOf, Fine}
-use Rattle.component_fast.specs.Table.{tokenAt}
-use Rattle.component_fast.specs.Typed.{shortNumber, noEnd, boundsOf, Widths, fillerOf, StageIs, Simple}
+use Rattle.component_fast.specs.Table.{lenAt, isWord, dotAt, Stands, tokenAt}
+use Rattle.component_fast.specs.Typed.{shortNumber, boundsOf, fillerOf, StageIs, Simple}
 use Rattle.component_fast.specs.declared.bound.ShortUsb.{ShortUsb}
 use Rattle.component_fast.specs.declared.range.Range.{Range}
-use Rattle.component_fast.proofs.Ranges.{part-token}
-use Rattle.component_fast.proofs.Types.{range-simple}
-use Rattle.component_fast.proofs.Widths.{number-is, zero-width}
+use Rattle.component_fast.specs.declared.typed.Common.{Common}
+use Rattle.component_fast.proofs.Founds.{items-in, read-as}
+use Rattle.component_fast.proofs.Ranges.{part-token, none-at, stands-next}
+use Rattle.component_fast.proofs.Tokens.{Word, word-facts, word-plain, dot-facts, dot-token, token-test, token-item, length-is}
+use Rattle.component_fast.proofs.Types.{range-simple, zero-fine, zero-simple}
+use Rattle.component_fast.proofs.Widths.{zero-width}
 
 -- ---- stage 1
 
@@ -75,25 +80,7 @@ module _ (u : Unparsed) (d f w : Item) (its : items 0 (u .recs) ≡ d ∷ f ∷ 
   pub filler-start : prefixOf u ≡ none
   filler-start = ap (λ l. splitColon ((splitRange l) .mid)) its ∙ ap (λ (s : Split). splitColon (s .mid)) split-three ∙ colon-three
 
--- a text of one character is no other
-pub other-byte : (s : List ℕ) (a b : ℕ) → sameBytes s (a ∷ []) ≡ true → (a ≡ b → ⊥) → sameBytes s (b ∷ []) ≡ false
-unfolding sameBytes
-other-byte [] a b h n = refl
-other-byte (x ∷ []) a b h n = by-test (eqb x a) (λ t. let same : x ≡ a = (eqb-iff x a) .0 t in let l : eqb x b ≡ false = eqb-false x b (λ e. n (sym same ∙ e)) in rw l) (λ t. let z : false ≡ true = rw t at h in let z : _≡_ {A = ℕ} 0 1 = cc in absurd (omega arith))
-other-byte (x ∷ y ∷ s) a b h n = by-test (eqb x b) (λ t. rw t) (λ t. rw t)
-
 -- ---- stage 2
-
-zero-fine : Fine (shortNumber 0)
-zero-fine = record { short = inl (omega arith); sign = λ z. omega arith }
-
-zero-simple : (image : List ℕ) (text : ℕ) → simplifyUsb (val (pos 0)) ≡ ok (shortOf image text (shortNumber 0))
-unfolding simplifyUsb
-zero-simple image text = ap ok (sym (number-is image text (shortNumber 0) refl (omega arith)))
-
-pub unbounded-simple : (image : List ℕ) (text : ℕ) → Simple image text Ranges.unbounded noEnd
-unbounded-simple image text =
-    record { start-is = zero-simple image text; end-is = refl; start-fine = zero-fine; end-fine = zero-fine; endless = λ h. refl }
 
 module _ (image : List ℕ) (place : Place) (len : ℕ) (u : ShortUsb) (fine : Fine u) (small : u .x < 2 ^ 62) (some-width : u .len ≡ 0 → 1 ≤ u .x)
     (told : simplifyUsb (Ranges.text (partOf image (place .text) (record { at = 2; len = len })) (pos 0)) ≡ ok (shortOf image (place .text) u))
@@ -129,7 +116,7 @@ module _ (image : List ℕ) (place : Place) (len : ℕ) (u : ShortUsb) (fine : F
     unfolding padded
     up-width =
         by-test (eqb (u .len) 0) (λ t. rw t (zero-width image (place .text) u ((eqb-iff (u .len) 0) .0 t) (omega arith)))
-        (λ t. let n = text-width (u .len) (lib.ListN.drop (place .text + u .at) image) t in rw (t, n))
+        (λ t. let n = text-width (u .len) (drop (place .text + u .at) image) t in rw (t, n))
 
     up-simplified : simplifyRange written ≡ ok (boundsOf image (place .text) upTo)
     up-simplified =
@@ -158,3 +145,91 @@ module _ (image : List ℕ) (place : Place) (len : ℕ) (u : ShortUsb) (fine : F
           textless = λ e. refl;
           endless = λ e. let z : _≡_ {A = ℕ} 0 1 = cc in absurd (omega arith);
         }
+
+-- ---- in the image
+
+pub third-place : (t r e : ℕ) → e ≡ t + 12 * r → e + 24 ≡ t + 12 * (r + 2)
+third-place t r e h = omega arith
+
+-- `..n`
+module _ (image : List ℕ) (place : Place) (e : ℕ) (reach : reachable place ≡ true) (three : place .run .left ≡ 3) (s : Stands image (place .run .r) 2 e) (t : Bool)
+    (th : t ≡ (dotAt image e (place .text) && dotAt image (e + 12) (place .text + 1))) (tq : t ≡ true) (kind len byte : ℕ) (w : Bool) (wh : w ≡ isWord kind len byte)
+    (wq : w ≡ true) (kq : kind ≡ u32At image (e + 24)) (lq : len ≡ lengthAt image (place .run .r + 2)) (bq : byte ≡ getD image (place .text + 2) 0)
+  where
+    last-word : Word kind len byte
+    last-word = word-facts kind len byte (sym wh ∙ wq)
+
+    abbrev itemAt : ℕ → ℕ → Item
+    itemAt at n = tokenAt image (place .text) at n
+
+    -- a dot, and the items behind it
+    record DotItem (at r k : ℕ) : Type 0 where
+      its : itemsAt image (place .text) at r (suc k) ≡ itemAt at 1 ∷ itemsAt image (place .text) (at + 1) (suc r) k
+      dot : isToken (char .dot) (itemAt at 1) ≡ true
+      colon : isToken (char .colon) (itemAt at 1) ≡ false
+
+    dot-item : (at r n e : ℕ) → Stands image r (suc n) e → (k : ℕ) → dotAt image e (place .text + at) ≡ true → DotItem at r k
+    dot-item at r n e s k h =
+        let d = dot-facts (u32At image e) (lenAt image e) (getD image (place .text + at) 0) h in
+        record {
+          its = token-item image (place .text) at 1 r k (ap (u32At image) (sym (s .place)) ∙ d .chars) (length-is image r (suc n) e s (omega arith) ∙ d .one);
+          dot = dot-token image (place .text) at 1 0 (record { chars = refl; one = refl; dot = d .dot });
+          colon = token-test image (place .text) at 1 58 ∙ ap (λ b. eqb 1 1 && eqb b 58) (d .dot);
+        }
+
+    first-dot : dotAt image e (place .text + 0) ≡ true
+    first-dot = ap (dotAt image e) (add-zero (place .text)) ∙ (and-iff (dotAt image e (place .text)) (dotAt image (e + 12) (place .text + 1))) .0 (sym th ∙ tq) .0
+
+    second-dot : dotAt image (e + 12) (place .text + 1) ≡ true
+    second-dot = (and-iff (dotAt image e (place .text)) (dotAt image (e + 12) (place .text + 1))) .0 (sym th ∙ tq) .1
+
+    first : DotItem 0 (place .run .r) 2
+    first = dot-item 0 (place .run .r) 1 e s 2 first-dot
+
+    second : DotItem 1 (suc (place .run .r)) 1
+    second = dot-item 1 (suc (place .run .r)) 0 (e + 12) (stands-next image (place .run .r) 1 e s) 1 second-dot
+
+    third : itemsAt image (place .text) 2 (suc (suc (place .run .r))) 1 ≡ itemAt 2 len ∷ []
+    third =
+        token-item image (place .text) 2 len (suc (suc (place .run .r))) 0
+        (ap (λ r. (entryAt image r) .kind) (two-on (place .run .r)) ∙ ap (u32At image) (sym (third-place ((tables image) .records) (place .run .r) e (s .place))) ∙ sym kq ∙ last-word .chars)
+        (ap (lengthAt image) (two-on (place .run .r)) ∙ sym lq)
+        ∙ ap (λ l. itemAt 2 len ∷ l) (none-at image (place .text) (2 + len) (suc (suc (suc (place .run .r)))))
+      where
+        two-on : (r : ℕ) → suc (suc r) ≡ r + 2
+        two-on r = omega arith
+
+    three-items : items 0 ((unparsedIn image place) .recs) ≡ itemAt 0 1 ∷ itemAt 1 1 ∷ itemAt 2 len ∷ []
+    three-items =
+        items-in image place reach
+        ∙ ap (λ n. itemsAt image (place .text) 0 (place .run .r) n) three
+        ∙ first .its
+        ∙ ap (λ l. itemAt 0 1 ∷ l) (second .its)
+        ∙ ap (λ l. itemAt 0 1 ∷ itemAt 1 1 ∷ l) third
+
+    the-filler : Filler (itemAt 0 1) (itemAt 1 1) (itemAt 2 len)
+    the-filler =
+        record {
+          first-dot = first .dot;
+          second-dot = second .dot;
+          first-colon = first .colon;
+          second-colon = second .colon;
+          plain = word-plain image (place .text) 2 len kind byte last-word bq;
+          kind = refl;
+        }
+
+    pub filler-read : (u : ShortUsb) (q : Common) → WordIs image (place .text) 2 len byte u → u .x < 2 ^ 62 → (u .len ≡ 0 → 1 ≤ u .x) → q ≡ fillerOf u → CommonIs image place q
+    filler-read u q h small wide qq =
+        let (fine, told) = h bq (last-word .some) small in
+        λ pos. rw qq (read-as image place (fillerOf u) _ (filler-is (unparsedIn image place) (itemAt 0 1) (itemAt 1 1) (itemAt 2 len) three-items the-filler)
+        (filler-start (unparsedIn image place) (itemAt 0 1) (itemAt 1 1) (itemAt 2 len) three-items the-filler)
+        (filler-stage image place len u fine small wide told))
+
+-- ---- what the private functions ask
+
+pub stands-three : (image : List ℕ) (r n e : ℕ) → n ≡ 3 → Stands image r (n - 1) e → Stands image r 2 e
+stands-three image r n e h s = rw h at s
+
+-- a number that is not 0 is a width
+pub not-none : (x : ℕ) → eqb x 0 ≡ false → 1 ≤ x
+not-none x h = let n = eqb-apart x 0 h in omega arith

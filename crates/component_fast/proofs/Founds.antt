@@ -5,36 +5,34 @@ use Prim.Native.Nat.{_≤_, _<_}
 use native.Mathlib.Nat.{add-zero, zero-add}
 use native.Mathlib.Omega.{arith}
 use borrow.Author.Tests.{eq-eqb, ltb-true}
-use Rattle.def_numbers.specs.Prelude.{ℕ, suc, _+_, _*_, _-_, _^_, Bool, true, false, _&&_, not, Option, none, some, List, [], _∷_, getD, ltb, eqb}
+use Rattle.def_numbers.specs.Prelude.{ℕ, suc, _+_, _*_, _-_, _^_, Bool, true, not, Option, none, some, List, [], _∷_, getD, ltb, eqb}
 use Rattle.def_numbers.specs.Basics.{Result, ok, _>>=_, placed, isEmpty}
-use Rattle.def_numbers.specs.Numbers.{char}
 use Rattle.def_numbers.specs.Refusals.{need, empty-after-colon}
-use Rattle.def_image.specs.Image.{Unparsed, Placed, u32At, bytesAt, recsFrom, counts, tables, entryAt}
+use Rattle.def_image.specs.Image.{Unparsed, Placed, u32At, bytesAt, recsFrom, tables, entryAt}
 use Rattle.def_stages.specs.Text as Text
-use Rattle.def_stages.specs.Text.{Item, items, more, isToken}
+use Rattle.def_stages.specs.Text.{Item, items, more}
 use Rattle.def_stages.specs.Ranges as Ranges
 use Rattle.def_stages.specs.Component.{Component, Prefix, prefixOf, typed, stage1Component, startingValue, simplify}
 use Rattle.laws.specs.Results.{bind-ok}
-use Rattle.laws.specs.Tests.{and-iff, eqb-iff, eqb-apart}
+use Rattle.laws.specs.Tests.{and-iff, eqb-iff}
 use Rattle.items.specs.Run.{recAt, lengthAt, lengthOf, recsAt, itemsAt}
 use Rattle.items.specs.First.{first-item}
 use Rattle.component.specs.Places.{unparsedIn, placedAt, reachable, unparsed-in}
 use Rattle.component.specs.declared.places.Place.{Place}
 use Rattle.component_fast.specs.Common.{ReadAs, CommonIs}
-use Rattle.component_fast.specs.Range.{WordIs, Bracket, RangeIs}
+use Rattle.component_fast.specs.Range.{Bracket, RangeIs}
 use Rattle.component_fast.specs.Shapes.{Plain, inBracket, word-is, bracket-is, start-word, start-bracket}
-use Rattle.component_fast.specs.Table.{lenAt, isWord, dotAt, bracketAt, Stands, tokenAt}
-use Rattle.component_fast.specs.Typed.{noEnd, fillerOf, StageIs, Simple, TypedIs}
-use Rattle.component_fast.specs.declared.bound.ShortUsb.{ShortUsb}
+use Rattle.component_fast.specs.Table.{lenAt, isWord, bracketAt, Stands, tokenAt}
+use Rattle.component_fast.specs.Typed.{noEnd, StageIs, Simple, TypedIs}
 use Rattle.component_fast.specs.declared.range.Range.{Range}
 use Rattle.component_fast.specs.declared.typed.Common.{Common}
-use Rattle.component_fast.proofs.Fillers.{Filler, filler-is, filler-start, filler-stage, unbounded-simple, other-byte}
 use Rattle.component_fast.proofs.Ranges.{none-at, next-entry, stands-next, stands-third}
-use Rattle.component_fast.proofs.Tokens.{Word, word-facts, word-plain, dot-facts, dot-token, token-item, length-is}
+use Rattle.component_fast.proofs.Tokens.{Word, word-facts, word-plain, token-item, length-is}
+use Rattle.component_fast.proofs.Types.{unbounded-simple}
 
 -- ---- the items of a component
 
-items-in : (image : List ℕ) (p : Place) → reachable p ≡ true → items 0 ((unparsedIn image p) .recs) ≡ itemsAt image (p .text) 0 (p .run .r) (p .run .left)
+pub items-in : (image : List ℕ) (p : Place) → reachable p ≡ true → items 0 ((unparsedIn image p) .recs) ≡ itemsAt image (p .text) 0 (p .run .r) (p .run .left)
 items-in image p h =
     ap (λ u. items 0 (u .recs)) (unparsed-in image p h)
     ∙ ap (λ f. items 0 (recsFrom image f (p .run .r) (p .run .left))) (sym (add-zero (p .text)))
@@ -210,75 +208,6 @@ module _ (image : List ℕ) (place : Place) (kind len byte : ℕ) (w : Bool) (re
             (h (inBracket (insideAt at k) (b .found))
             (record { start-is = b .start-is; end-is = b .end-is; start-fine = b .start-fine; end-fine = b .end-fine; endless = b .endless }))
 
--- `..n`
-module _ (image : List ℕ) (place : Place) (e : ℕ) (reach : reachable place ≡ true) (three : place .run .left ≡ 3) (s : Stands image (place .run .r) 2 e) (t : Bool)
-    (th : t ≡ (dotAt image e (place .text) && dotAt image (e + 12) (place .text + 1))) (tq : t ≡ true) (kind len byte : ℕ) (w : Bool) (wh : w ≡ isWord kind len byte)
-    (wq : w ≡ true) (kq : kind ≡ u32At image (e + 24)) (lq : len ≡ lengthAt image (place .run .r + 2)) (bq : byte ≡ getD image (place .text + 2) 0)
-  where
-    last-word : Word kind len byte
-    last-word = word-facts kind len byte (sym wh ∙ wq)
-
-    abbrev itemAt : ℕ → ℕ → Item
-    itemAt at n = tokenAt image (place .text) at n
-
-    dot-item : (at r n e : ℕ) → Stands image r (suc n) e → (k : ℕ) → dotAt image e (place .text + at) ≡ true
-        → (itemsAt image (place .text) at r (suc k) ≡ itemAt at 1 ∷ itemsAt image (place .text) (at + 1) (suc r) k) × (isToken (char .dot) (itemAt at 1) ≡ true)
-    dot-item at r n e s k h =
-        let d = dot-facts (u32At image e) (lenAt image e) (getD image (place .text + at) 0) h in (
-          token-item image (place .text) at 1 r k (ap (u32At image) (sym (s .place)) ∙ d .chars) (length-is image r (suc n) e s (omega arith) ∙ d .one),
-          dot-token image (place .text) at 1 0 (record { chars = refl; one = refl; dot = d .dot }),
-        )
-
-    first-dot : dotAt image e (place .text + 0) ≡ true
-    first-dot = ap (dotAt image e) (add-zero (place .text)) ∙ (and-iff (dotAt image e (place .text)) (dotAt image (e + 12) (place .text + 1))) .0 (sym th ∙ tq) .0
-
-    second-dot : dotAt image (e + 12) (place .text + 1) ≡ true
-    second-dot = (and-iff (dotAt image e (place .text)) (dotAt image (e + 12) (place .text + 1))) .0 (sym th ∙ tq) .1
-
-    first : (itemsAt image (place .text) 0 (place .run .r) 3 ≡ itemAt 0 1 ∷ itemsAt image (place .text) 1 (suc (place .run .r)) 2) × (isToken (char .dot) (itemAt 0 1) ≡ true)
-    first = dot-item 0 (place .run .r) 1 e s 2 first-dot
-
-    second : (itemsAt image (place .text) 1 (suc (place .run .r)) 2 ≡ itemAt 1 1 ∷ itemsAt image (place .text) 2 (suc (suc (place .run .r))) 1) × (isToken (char .dot) (itemAt 1 1) ≡ true)
-    second = dot-item 1 (suc (place .run .r)) 0 (e + 12) (stands-next image (place .run .r) 1 e s) 1 second-dot
-
-    third : itemsAt image (place .text) 2 (suc (suc (place .run .r))) 1 ≡ itemAt 2 len ∷ []
-    third =
-        token-item image (place .text) 2 len (suc (suc (place .run .r))) 0 (ap (u32At image) (sym (third-entry ((tables image) .records) (place .run .r) e (s .place))) ∙ sym kq ∙ last-word .chars)
-        (ap (lengthAt image) (two-on (place .run .r)) ∙ sym lq)
-        ∙ ap (λ l. itemAt 2 len ∷ l) (none-at image (place .text) (2 + len) (suc (suc (suc (place .run .r)))))
-      where
-        third-entry : (t r e : ℕ) → e ≡ t + 12 * r → e + 24 ≡ t + 12 * suc (suc r)
-        third-entry t r e h = omega arith
-
-        two-on : (r : ℕ) → suc (suc r) ≡ r + 2
-        two-on r = omega arith
-
-    three-items : items 0 ((unparsedIn image place) .recs) ≡ itemAt 0 1 ∷ itemAt 1 1 ∷ itemAt 2 len ∷ []
-    three-items =
-        items-in image place reach
-        ∙ ap (λ n. itemsAt image (place .text) 0 (place .run .r) n) three
-        ∙ first .0
-        ∙ ap (λ l. itemAt 0 1 ∷ l) (second .0)
-        ∙ ap (λ l. itemAt 0 1 ∷ itemAt 1 1 ∷ l) third
-
-    the-filler : Filler (itemAt 0 1) (itemAt 1 1) (itemAt 2 len)
-    the-filler =
-        record {
-          first-dot = first .1;
-          second-dot = second .1;
-          first-colon = other-byte ((itemAt 0 1) .part .bytes) 46 58 (first .1) (λ e. absurd (omega arith));
-          second-colon = other-byte ((itemAt 1 1) .part .bytes) 46 58 (second .1) (λ e. absurd (omega arith));
-          plain = word-plain image (place .text) 2 len kind byte last-word bq;
-          kind = refl;
-        }
-
-    pub filler-read : (u : ShortUsb) (q : Common) → WordIs image (place .text) 2 len byte u → u .x < 2 ^ 62 → (u .len ≡ 0 → 1 ≤ u .x) → q ≡ fillerOf u → CommonIs image place q
-    filler-read u q h small wide qq =
-        let (fine, told) = h bq (last-word .some) small in
-        λ pos. rw qq (read-as image place (fillerOf u) _ (filler-is (unparsedIn image place) (itemAt 0 1) (itemAt 1 1) (itemAt 2 len) three-items the-filler)
-        (filler-start (unparsedIn image place) (itemAt 0 1) (itemAt 1 1) (itemAt 2 len) three-items the-filler)
-        (filler-stage image place len u fine small wide told))
-
 -- ---- what the private functions ask
 
 pub left-is : (n : ℕ) → 4 ≤ n → n ≡ suc (suc (suc (n - 3)))
@@ -290,9 +219,6 @@ skip-is n h = omega arith
 pub stands-two : (image : List ℕ) (r n e : ℕ) → 4 ≤ n → Stands image r (n - 1) e → Stands image r (suc (suc (n - 3))) e
 stands-two image r n e l s = rw (← skip-is n l) s
 
-pub stands-three : (image : List ℕ) (r n e : ℕ) → n ≡ 3 → Stands image r (n - 1) e → Stands image r 2 e
-stands-three image r n e h s = rw h at s
-
 pub text-small : (p : Place) → reachable p ≡ true → p .text < 2 ^ 62
 text-small p h = ltb-true (p .text) (2 ^ 62) ((and-iff (ltb (p .text) (2 ^ 62)) _) .0 h .0)
 
@@ -300,10 +226,3 @@ pub records-small : (p : Place) → reachable p ≡ true → p .run .r + p .run 
 records-small p h =
     let rest = (and-iff (ltb (p .text) (2 ^ 62)) _) .0 h .1 in
     ltb-true (p .run .r + p .run .left) (2 ^ 32) ((and-iff (ltb (p .run .r + p .run .left) (2 ^ 32)) _) .0 rest .0)
-
-pub third-place : (t r e : ℕ) → e ≡ t + 12 * r → e + 24 ≡ t + 12 * (r + 2)
-third-place t r e h = omega arith
-
--- a number that is not 0 is a width
-pub not-none : (x : ℕ) → eqb x 0 ≡ false → 1 ≤ x
-not-none x h = let n = eqb-apart x 0 h in omega arith

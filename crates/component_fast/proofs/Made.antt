@@ -1,10 +1,9 @@
 -- What the code's functions make: one law for each way through the code.
-use mathlib.Core.Path.{_≡_, refl, ap, _∙_}
+use mathlib.Core.Path.{_≡_}
 use Prim.Native.Nat.{_≤_, _<_}
 use native.Mathlib.Omega.{arith}
 use borrow.Author.Tests.{lt-ltb, le-ltb}
-use Rattle.def_numbers.specs.Prelude.{ℕ, _-_, _^_, Bool, true, false, Option, some, List, leb, eqb}
-use Rattle.def_stages.specs.Ranges as Ranges
+use Rattle.def_numbers.specs.Prelude.{ℕ, _-_, _^_, Bool, true, false, List, leb, eqb}
 use Rattle.laws.specs.Tests.{leb-iff, eqb-iff, eqb-false}
 use Rattle.misc.specs.declared.I128.{I128}
 use Rattle.usb.specs.Usb.{usbOf, optionUsbOf}

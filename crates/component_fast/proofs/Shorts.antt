@@ -25,7 +25,7 @@ unfolding valueOf
 wide-minus x h k = rw (le-ltb x (2 ^ 63) h) (ap negsuc (omega arith))
 
 -- numbers of 64 bits fit
-small : (n : ℕ) → n < 2 ^ 64 → ltb n half128 ≡ true
+pub small : (n : ℕ) → n < 2 ^ 64 → ltb n half128 ≡ true
 unfolding half128
 small n h = let k : suc n ≤ 2 ^ 64 = omega arith in lt-ltb n (2 ^ 127) (le-trans k (lit≤ {m = 2 ^ 64} {n = 2 ^ 127} tt))
 

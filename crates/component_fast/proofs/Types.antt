@@ -1,13 +1,13 @@
 -- A component that is a word and a range: its type, and stage 2 of it.
 use mathlib.Core.Path.{_≡_, refl, sym, ap, _∙_}
+use mathlib.Core.Logic.{inl}
 use Prim.Native.Nat.{_≤_, _<_}
 use native.Mathlib.Nat.{add-zero}
 use native.Mathlib.Omega.{arith}
 use borrow.Author.Tests.{lt-ltb, le-leb}
 use lib.Seq.{getD-drop}
-use Rattle.def_numbers.specs.Prelude.{ℕ, zero, suc, _+_, _-_, _^_, Bool, true, false, Option, none, some, List, [], _∷_, length, getD, drop, take, eqb, ltb, leb, ℤ, pos, _-ℤ_, ltZ, nonNeg}
-use Rattle.def_numbers.specs.Basics.{Result, ok, _>>=_, if_then_else_, isEmpty, tab, sameBytes}
-use Rattle.def_numbers.specs.Numbers.{narrow}
+use Rattle.def_numbers.specs.Prelude.{ℕ, zero, suc, _+_, _-_, _^_, Bool, true, false, Option, none, some, List, [], _∷_, length, getD, drop, take, eqb, ℤ, pos, ltZ, nonNeg}
+use Rattle.def_numbers.specs.Basics.{ok, _>>=_, isEmpty, tab, sameBytes}
 use Rattle.def_image.specs.Image.{bitsAt, padded}
 use Rattle.def_stages.specs.Text as Text
 use Rattle.def_stages.specs.Ranges as Ranges
@@ -17,24 +17,24 @@ use Rattle.def_stages.specs.Component.{isLiteral, typed, simplifyUsb, simplifyR
 use Rattle.laws.specs.Lists.{length-tab}
 use Rattle.laws.specs.Numbers.{difference}
 use Rattle.laws.specs.Padded.{getD-padded}
-use Rattle.laws.specs.Tests.{by-test, leb-iff, eqb-iff, eqb-false}
-use Rattle.usb.specs.Usb.{partOf}
+use Rattle.laws.specs.Tests.{by-test, eqb-iff}
 use Rattle.bounds.specs.Checks.{andThen, passes, endVal}
 use Rattle.ranges.specs.Checks.{rangeChecks, checkedRange, restOf}
 use Rattle.literal_range.specs.Literal.{wholeOf}
 use Rattle.ranges.proofs.Ranges.{range-is}
 use Rattle.component.specs.Begins.{beginsNumber}
 use Rattle.component.specs.declared.places.Place.{Place}
-use Rattle.component_fast.specs.Common.{commonRange, commonOf, knownWidth}
+use Rattle.component_fast.specs.Common.{commonOf, knownWidth}
 use Rattle.component_fast.specs.Short.{shortOf, endIn, Fine}
 use Rattle.component_fast.specs.Table.{tokenAt}
-use Rattle.component_fast.specs.Typed.{shortNumber, noEnd, boundsOf, Widths, WidthIs, literalEnd, literalOf, LiteralIs, variableOf, fillerOf, StageIs, Simple, TypedIs}
+use Rattle.component_fast.specs.Typed.{shortNumber, noEnd, boundsOf, Widths, WidthIs, literalEnd, literalOf, LiteralIs, variableOf, StageIs, Simple, TypedIs}
 use Rattle.component_fast.specs.declared.bound.ShortUsb.{ShortUsb}
 use Rattle.component_fast.specs.declared.range.Range.{Range}
 use Rattle.component_fast.specs.declared.typed.Common.{Common}
 use Rattle.component_fast.specs.declared.typed.Width.{Width}
 use Rattle.component_fast.proofs.Ranges.{part-token}
-use Rattle.component_fast.proofs.Widths.{numberAt, number-is, fine-passes, end-passes, fits, number-width, zero-width}
+use Rattle.component_fast.proofs.Shorts.{small}
+use Rattle.component_fast.proofs.Widths.{numberAt, number-is, fine-passes, end-passes, number-width, zero-width}
 
 -- ---- stage 2 of a range
 
@@ -60,6 +60,18 @@ range-simple image text range r k w s d =
     (fine-passes image text (r .start) (s .start-fine)) (end-passes image text (r .«has_end») (r .«end») (s .end-fine))
     (ap (passes nonNeg) (d .width-is) ∙ known-passes k w)
     (ap (passes (ltZ (pos 0))) (d .width-is) ∙ known-positive k w (d .positive))
+
+-- no bracket: from 0 on
+pub zero-fine : Fine (shortNumber 0)
+zero-fine = record { short = inl (omega arith); sign = λ z. omega arith }
+
+pub zero-simple : (image : List ℕ) (text : ℕ) → simplifyUsb (val (pos 0)) ≡ ok (shortOf image text (shortNumber 0))
+unfolding simplifyUsb
+zero-simple image text = ap ok (sym (number-is image text (shortNumber 0) refl (omega arith)))
+
+pub unbounded-simple : (image : List ℕ) (text : ℕ) → Simple image text Ranges.unbounded noEnd
+unbounded-simple image text =
+    record { start-is = zero-simple image text; end-is = refl; start-fine = zero-fine; end-fine = zero-fine; endless = λ h. refl }
 
 -- ---- the definition's type, by what the text begins with
 
@@ -88,20 +100,20 @@ cut-some : (bits : List ℕ) (at at′ from to : ℕ) → from < to → to ≤ l
     → simplifyLiteral bits (record { start = numberAt at from; «end» = some (numberAt at′ to) }) ≡ ok (wholeOf from to (pos (to - from)) bits)
 unfolding simplifyLiteral sameBytes
 cut-some bits at at′ from to h l m =
-    rw (lt-ltb from (length bits) (omega arith), le-leb to (length bits) l, difference to from (omega arith), fits (to - from) (omega arith), le-leb (to - from) (length bits) (omega arith), lt-ltb 0 to (omega arith))
+    rw (lt-ltb from (length bits) (omega arith), le-leb to (length bits) l, difference to from (omega arith), small (to - from) (omega arith), le-leb (to - from) (length bits) (omega arith), lt-ltb 0 to (omega arith))
 
 cut-none : (bits : List ℕ) (at from : ℕ) → from < length bits → length bits < 2 ^ 63
     → simplifyLiteral bits (record { start = numberAt at from; «end» = none }) ≡ ok (wholeOf from (length bits) (pos (length bits - from)) bits)
 unfolding simplifyLiteral sameBytes
 cut-none bits at from h m =
-    rw (lt-ltb from (length bits) h, difference (length bits) from (omega arith), fits (length bits - from) (omega arith), le-leb (length bits - from) (length bits) (omega arith))
+    rw (lt-ltb from (length bits) h, difference (length bits) from (omega arith), small (length bits - from) (omega arith), le-leb (length bits - from) (length bits) (omega arith))
 
 -- a literal's range, its start a number: the width if there is an end, and the cut
 record Cut (image : List ℕ) (text : ℕ) (bits : List ℕ) (r : Range) (from to : ℕ) : Type 0 where
   widths : Widths image text r (r .«has_end») (to - from)
   cut : simplifyLiteral bits (boundsOf image text r) ≡ ok (wholeOf from to (pos (to - from)) bits)
 
-module _ (image : List ℕ) (text : ℕ) (bits : List ℕ) (fit : Bool) (s u : ShortUsb) (number : s .len ≡ 0) (small : s .x < 2 ^ 63) where
+module _ (image : List ℕ) (text : ℕ) (bits : List ℕ) (fit : Bool) (s u : ShortUsb) (number : s .len ≡ 0) (below : s .x < 2 ^ 63) where
   abbrev ranged : Bool → Range
   ranged b = record { fits = fit; start = s; «has_end» = b; «end» = u }
 
@@ -114,13 +126,13 @@ module _ (image : List ℕ) (text : ℕ) (bits : List ℕ) (fit : Bool) (s u : S
         widths =
             record {
               width-is =
-                  ap (λ a. staticWidth (startAt a (some (shortOf image text u)))) (number-is image text s number small)
+                  ap (λ a. staticWidth (startAt a (some (shortOf image text u)))) (number-is image text s number below)
                   ∙ ap (λ e. staticWidth (startAt (numberAt (s .at) (s .x)) (some e))) (number-is image text u n m)
                   ∙ number-width (s .at) (u .at) (s .x) (u .x) (omega arith) (omega arith);
               positive = λ t. omega arith;
             };
         cut =
-            ap (λ a. simplifyLiteral bits (startAt a (some (shortOf image text u)))) (number-is image text s number small)
+            ap (λ a. simplifyLiteral bits (startAt a (some (shortOf image text u)))) (number-is image text s number below)
             ∙ ap (λ e. simplifyLiteral bits (startAt (numberAt (s .at) (s .x)) (some e))) (number-is image text u n m)
             ∙ cut-some bits (s .at) (u .at) (s .x) (u .x) h l m;
       }
@@ -129,7 +141,7 @@ module _ (image : List ℕ) (text : ℕ) (bits : List ℕ) (fit : Bool) (s u : S
   open-ended h l =
       record {
         widths = record { width-is = refl; positive = λ t. let z : _≡_ {A = ℕ} 0 1 = cc in absurd (omega arith) };
-        cut = ap (λ a. simplifyLiteral bits (startAt a none)) (number-is image text s number small) ∙ cut-none bits (s .at) (s .x) h l;
+        cut = ap (λ a. simplifyLiteral bits (startAt a none)) (number-is image text s number below) ∙ cut-none bits (s .at) (s .x) h l;
       }
 
   cut-is : (b : Bool) (to : ℕ) → Fine u → to ≡ literalEnd (length bits) (ranged b) → s .x < to → to ≤ length bits → length bits < 2 ^ 63
@@ -215,7 +227,7 @@ module _ (image : List ℕ) (place : Place) (len byte : ℕ) (range : Usbr) (t :
         → StageIs image place (typed word bits range) (literalOf (r .start .x) to)
     literal-stage to f n e l m w =
         let width : length bits ≡ place .width = length-tab _ 0 (place .width) in
-        let small = s .start-fine .sign n in
+        let below = s .start-fine .sign n in
         from-cut (r .start .x) to f l m w
         (cut-is image (place .text) bits (r .fits) (r .start) (r .«end») n (omega arith) (r .«has_end») to (s .end-fine) (e ∙ ap (λ z. literalEnd z r) (sym width)) l
         (omega (arith, m, width)) (omega (arith, w, width)))
@@ -227,3 +239,20 @@ module _ (image : List ℕ) (place : Place) (len byte : ℕ) (r : Range) (c : Co
 
   pub typed-variable : t ≡ false → r .fits ≡ true → (w : Width) → w .fits ≡ true → WidthIs image (place .text) r w → c ≡ variableOf len r w → TypedIs image place len byte r c
   typed-variable f e w g d q = λ p. (e, λ b some range s. rw q (variable-stage image place len byte range t h b some r s w f (d g (s .start-fine) (s .end-fine))))
+
+-- a word without a range
+no-width : (image : List ℕ) (text : ℕ) → WidthIs image text noEnd (record { fits = true; known = false; width = 0 })
+no-width image text f a b = record { width-is = refl; positive = λ e. let z : _≡_ {A = ℕ} 0 1 = cc in absurd (omega arith) }
+
+pub alone-variable : (place : Place) (len byte : ℕ) (t : Bool) (start end : ShortUsb) → t ≡ beginsNumber byte → t ≡ false → start ≡ shortNumber 0 → end ≡ shortNumber 0
+    → (image : List ℕ)
+    → TypedIs image place len byte noEnd
+    (record { kind = 2; len = len; from = 0; to = 0; start = start; «has_end» = false; «end» = end; known = false; width = 0 })
+alone-variable place len byte t start end h f p q image =
+    rw (p, q)
+    (typed-variable image place len byte noEnd (variableOf len noEnd (record { fits = true; known = false; width = 0 })) t h f refl
+    (record { fits = true; known = false; width = 0 }) refl (no-width image (place .text)) refl)
+
+pub alone-literal : (place : Place) (len byte : ℕ) (t : Bool) (q : Common) → t ≡ beginsNumber byte → t ≡ true → place .width < 2 ^ 63
+    → LiteralIs 0 (place .width) (place .width) q → (image : List ℕ) → TypedIs image place len byte noEnd q
+alone-literal place len byte t q h f w l image = typed-literal image place len byte noEnd q t h f refl refl (place .width) refl w l

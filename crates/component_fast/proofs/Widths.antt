@@ -2,22 +2,17 @@
 use mathlib.Core.Path.{_≡_, refl, sym, ap, _∙_}
 use mathlib.Core.Logic.{inl, inr}
 use Prim.Native.Nat.{_≤_, _<_, _%_}
-use native.Mathlib.Nat.{lt-of-lt-of-le, zero-add}
 use native.Mathlib.Omega.{arith}
-use lib.Dec.{lit≤}
-use borrow.Author.Tests.{eq-eqb, ne-eqb, lt-ltb, le-ltb, eqb-true}
-use Rattle.def_numbers.specs.Prelude.{ℕ, zero, suc, _+_, _-_, _^_, Bool, true, false, none, some, List, [], _∷_, drop, ltb, eqb, pos, _-ℤ_, ltZ, nonNeg}
-use Rattle.def_numbers.specs.Basics.{if_then_else_, isEmpty, sameBytes}
-use Rattle.def_numbers.specs.Numbers.{half128, fits128, narrow}
+use Rattle.def_numbers.specs.Prelude.{ℕ, _+_, _-_, _^_, Bool, true, false, none, some, List, [], eqb, pos, negℤ, _-ℤ_, nonNeg}
+use Rattle.def_numbers.specs.Basics.{sameBytes}
+use Rattle.def_numbers.specs.Numbers.{narrow}
 use Rattle.def_image.specs.Image.{padded}
 use Rattle.def_stages.specs.Ranges.{Usb, Usbr, staticVal, staticWidth}
 use Rattle.laws.specs.Numbers.{difference}
-use Rattle.laws.specs.Tests.{by-test, eqb-iff, eqb-apart}
+use Rattle.laws.specs.Tests.{by-test, eqb-iff}
 use Rattle.misc.specs.Value.{valueOf}
 use Rattle.misc.proofs.Difference.{Is, add-is, neg-is, same-is, narrow-some}
-use Rattle.misc.proofs.Small.{small}
 use Rattle.bounds.specs.Checks.{passes, endVal}
-use Rattle.ranges.specs.Checks.{widthOf}
 use Rattle.bounds.proofs.Bounds.{empty-is}
 use Rattle.component_fast.specs.Common.{knownWidth}
 use Rattle.component_fast.specs.Short.{wide, shortOf, endIn, Short, Fine}
@@ -25,22 +20,15 @@ use Rattle.component_fast.specs.Typed.{shortNumber, boundsOf, KnownIs, W
 use Rattle.component_fast.specs.declared.bound.ShortUsb.{ShortUsb}
 use Rattle.component_fast.specs.declared.range.Range.{Range}
 use Rattle.component_fast.specs.declared.typed.Width.{Width}
+use Rattle.component_fast.proofs.Shorts.{wide-plus, wide-minus, small}
 
 -- ---- the number of a bound
 
-pub wide-low : (x : ℕ) → x < 2 ^ 63 → valueOf (wide x) ≡ pos x
-wide-low x h = small (wide x) (rw (lt-ltb x (2 ^ 63) h))
-
-wide-high : (x : ℕ) → 2 ^ 63 ≤ x → x < 2 ^ 64 → Is (valueOf (wide x)) x (2 ^ 64)
-unfolding valueOf
-wide-high x h l = rw (le-ltb x (2 ^ 63) h) (omega arith)
+high-is : (x : ℕ) → 2 ^ 63 ≤ x → x < 2 ^ 64 → Is (valueOf (wide x)) x (2 ^ 64)
+high-is x h l = rw (wide-minus x h l) (omega arith)
 
 low-is : (x : ℕ) → x < 2 ^ 63 → Is (valueOf (wide x)) x 0
-low-is x h = rw (wide-low x h) (omega arith)
-
-pub fits : (n : ℕ) → n < 2 ^ 64 → fits128 (pos n) ≡ true
-unfolding half128
-fits n h = lt-ltb n half128 (lt-of-lt-of-le h (lit≤ tt))
+low-is x h = rw (wide-plus x h) (omega arith)
 
 -- a number without a text
 abbrev pub numberAt : ℕ → ℕ → Usb
@@ -48,11 +36,11 @@ numberAt at n = record { s = record { at = at; bytes = [] }; x = pos n }
 
 pub number-is : (image : List ℕ) (text : ℕ) (u : ShortUsb) → u .len ≡ 0 → u .x < 2 ^ 63 → shortOf image text u ≡ numberAt (u .at) (u .x)
 unfolding padded
-number-is image text u h l = rw (h, wide-low (u .x) l)
+number-is image text u h l = rw (h, wide-plus (u .x) l)
 
 pub fine-passes : (image : List ℕ) (text : ℕ) (u : ShortUsb) → Fine u → passes nonNeg (staticVal (shortOf image text u)) ≡ true
 fine-passes image text u f =
-    by-test (eqb (u .len) 0) (λ t. let l = f .sign ((eqb-iff (u .len) 0) .0 t) in rw (empty-is (u .len), t, wide-low (u .x) (omega arith)))
+    by-test (eqb (u .len) 0) (λ t. let l = f .sign ((eqb-iff (u .len) 0) .0 t) in rw (empty-is (u .len), t, wide-plus (u .x) (omega arith)))
     (λ t. rw (empty-is (u .len), t))
 
 pub end-passes : (image : List ℕ) (text : ℕ) (b : Bool) (u : ShortUsb) → Fine u → passes nonNeg (endVal (endIn image text b u)) ≡ true
@@ -67,14 +55,14 @@ apart : (a b w na nb : ℕ) → Is (valueOf (wide a)) a na → Is (valueOf (wide
 apart a b w na nb p q e l =
     narrow-some (valueOf (wide b) -ℤ valueOf (wide a)) (pos w)
     (same-is (valueOf (wide b) -ℤ valueOf (wide a)) (pos w) (b + na) (nb + a) w 0
-    (add-is (valueOf (wide b)) (lib.IntN.negℤ (valueOf (wide a))) b nb na a q (neg-is (valueOf (wide a)) a na p)) (omega arith) (omega arith)) (fits w l)
+    (add-is (valueOf (wide b)) (negℤ (valueOf (wide a))) b nb na a q (neg-is (valueOf (wide a)) a na p)) (omega arith) (omega arith)) (small w l)
 
 pub width-of : (a b w : ℕ) → a < 2 ^ 64 → Short a → Short b → (w + a) % 2 ^ 64 ≡ b → w < 2 ^ 63
     → narrow (valueOf (wide b) -ℤ valueOf (wide a)) ≡ some (pos w)
 width-of a b w l (inl s) (inl t) h k = apart a b w 0 0 (low-is a (omega arith)) (low-is b (omega arith)) (omega arith) (omega arith)
 width-of a b w l (inl s) (inr t) h k = absurd (omega arith)
-width-of a b w l (inr s) (inl t) h k = apart a b w (2 ^ 64) 0 (wide-high a (omega arith) l) (low-is b (omega arith)) (omega arith) (omega arith)
-width-of a b w l (inr s) (inr t) h k = apart a b w (2 ^ 64) (2 ^ 64) (wide-high a (omega arith) l) (wide-high b (omega arith) (omega arith)) (omega arith) (omega arith)
+width-of a b w l (inr s) (inl t) h k = apart a b w (2 ^ 64) 0 (high-is a (omega arith) l) (low-is b (omega arith)) (omega arith) (omega arith)
+width-of a b w l (inr s) (inr t) h k = apart a b w (2 ^ 64) (2 ^ 64) (high-is a (omega arith) l) (high-is b (omega arith) (omega arith)) (omega arith) (omega arith)
 
 -- ---- the width of a range
 
@@ -114,7 +102,7 @@ module _ (image : List ℕ) (text : ℕ) (r : Range) (w : Width) where
 -- between two numbers
 pub number-width : (at at′ a b : ℕ) → a ≤ b → b < 2 ^ 64 → staticWidth (record { start = numberAt at a; «end» = some (numberAt at′ b) }) ≡ some (pos (b - a))
 unfolding sameBytes
-number-width at at′ a b h l = narrow-some (pos b -ℤ pos a) (pos (b - a)) (difference b a h) (fits (b - a) (omega arith))
+number-width at at′ a b h l = narrow-some (pos b -ℤ pos a) (pos (b - a)) (difference b a h) (small (b - a) (omega arith))
 
 -- from 0 on
 pub zero-width : (image : List ℕ) (text : ℕ) (u : ShortUsb) → u .len ≡ 0 → u .x < 2 ^ 63

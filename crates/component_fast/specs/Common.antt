@@ -38,7 +38,7 @@ pub record ReadAs (image : List ℕ) (place : Place) (q : Common) : Type 0 where
   pub last : q .to ≤ place .width
   pub literal : q .kind ≡ 1 → staticRange (commonRange image (place .text) q) ≡ true
   pub ended : q .kind ≡ 3 → q .«has_end» ≡ true
-  -- what is not there is written as zeros (fields `some`, `textless`, `endless` added by the lead)
+  -- what is not there is zeros
   pub textless : q .kind ≡ 3 → q .len ≡ 0
   pub endless : q .«has_end» ≡ false → q .«end» ≡ record { at = 0; len = 0; x = 0 }
 

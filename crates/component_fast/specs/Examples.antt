@@ -1,22 +1,14 @@
--- Closed components that meet the premises of the laws of the shapes: `ab[8..16]` and `ab`, and the range `8..=16`; and `..8` in an
--- image, read as a common one.
+-- Closed components that meet the premises of the laws of the shapes: `ab[8..16]` and `ab`, and the range `8..=16`.
 use mathlib.Core.Path.{_≡_, refl}
-use native.Mathlib.Omega.{arith}
-use Rattle.def_numbers.specs.Prelude.{ℕ, Bool, true, false, none, some, List, [], _∷_, _++_, pos}
-use Rattle.def_numbers.specs.Basics.{ok, _>>=_, sameBytes, tab}
-use Rattle.def_numbers.specs.Numbers.{half128, tryParse, unsignedParse, inner, digitsFrom, digitWorth}
-use Rattle.def_image.specs.Image.{Rec, Unparsed, recsFrom, padded}
+use Rattle.def_numbers.specs.Prelude.{ℕ, Bool, none, some, List, [], _∷_, _++_, pos}
+use Rattle.def_numbers.specs.Basics.{ok, sameBytes}
+use Rattle.def_numbers.specs.Numbers.{half128}
+use Rattle.def_image.specs.Image.{Rec, Unparsed}
 use Rattle.def_image.specs.Tree.{textOf}
 use Rattle.def_stages.specs.Text.{Item, itemsOf, chunks, bytesOf}
-use Rattle.def_stages.specs.Ranges.{text, unbounded, scanFrom, parseRange, parseUsb, readBound, cutLast, cutPair}
-use Rattle.def_stages.specs.Component.{typed, splitRange, splitColon, parseComponent, stage1Component, startingValue, simplifyUsb, simplifyRange, simplify}
-use Rattle.misc.specs.Value.{valueOf}
-use Rattle.component.specs.Places.{unparsedIn}
-use Rattle.component.specs.declared.places.Place.{Place}
-use Rattle.component_fast.specs.Common.{commonOf, ReadAs}
+use Rattle.def_stages.specs.Ranges.{text, unbounded, cutLast, cutPair, readBound, parseUsb, parseRange}
+use Rattle.def_stages.specs.Component.{typed, stage1Component, startingValue}
 use Rattle.component_fast.specs.Shapes.{Plain, rangeOf, range-to, dotted-is, word-is, bracket-is, start-word, start-bracket}
-use Rattle.component_fast.specs.Typed.{shortNumber, fillerOf}
-use Rattle.component_fast.specs.declared.typed.Common.{Common}
 
 abbrev chars : List ℕ → Rec
 chars s = record { kind = 0; text = s; skip = 1 }
@@ -86,41 +78,3 @@ alone-start k base = start-word k (record { base = base; value = alone }) word r
 pub bracketed-start : (k base : ℕ) → startingValue k (record { base = base; value = bracketed } ∷ []) ≡ ok none
 unfolding chunks itemsOf textOf
 bracketed-start k base = start-bracket k (record { base = base; value = bracketed }) word group refl plain-word refl
-
--- ---- `..8` as it stands in an image: three records, and their text
-
-abbrev number : ℕ → List ℕ
-number n = n ∷ 0 ∷ 0 ∷ 0 ∷ []
-
-abbrev dots8 : List ℕ
-dots8 =
-    number 0 ++ (number 0 ++ (number 3 ++ (number 3 ++ (number 0 ++ (number 0 ++ (number 0 ++ (number 0 ++ (number 0 ++ (number 0 ++ (number 0
-    ++ (number 0 ++ (number 1 ++ (number 0 ++ (number 1 ++ (number 1 ++ (number 0 ++ (number 2 ++ (number 1 ++ (46 ∷ 46 ∷ 56 ∷ [])))))))))))))))))))
-
-abbrev dots8-place : Place
-dots8-place = record { run = record { r = 0; left = 3; at = 0 }; text = 76; literal = 79; width = 0 }
-
-abbrev up-to-8 : Common
-up-to-8 = fillerOf (shortNumber 8)
-
-dots8-component : (scanned : Bool) → (stage1Component scanned (unparsedIn dots8 dots8-place) >>= simplify) ≡ ok (commonOf dots8 dots8-place up-to-8)
-unfolding recsFrom padded chunks itemsOf textOf bytesOf sameBytes splitRange splitColon parseComponent parseRange scanFrom parseUsb readBound cutLast cutPair simplify simplifyRange simplifyUsb tryParse unsignedParse inner digitsFrom digitWorth half128 valueOf tab
-dots8-component true = refl
-dots8-component false = refl
-
-pub dots8-read : ReadAs dots8 dots8-place up-to-8
-unfolding recsFrom padded chunks itemsOf textOf bytesOf sameBytes splitRange splitColon half128 valueOf
-dots8-read =
-    record {
-      some = omega arith;
-      kinds = omega arith;
-      component = dots8-component;
-      start = refl;
-      width-is = refl;
-      order = omega arith;
-      last = omega arith;
-      literal = λ e. absurd (omega arith);
-      ended = λ e. refl;
-      textless = λ e. refl;
-      endless = λ e. let z : _≡_ {A = ℕ} 0 1 = cc in absurd (omega arith);
-    }

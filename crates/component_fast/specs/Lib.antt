@@ -1,6 +1,7 @@
 -- The common shapes of a component, and what the functions that read them give.
 pub mod Bound
 pub mod Common
+pub mod CommonWitness
 pub mod Dots
 pub mod Examples
 pub mod Range
@@ -8,5 +9,5 @@ pub mod Shapes
 pub mod Short
 pub mod Start
 pub mod Table
-pub mod Witness
 pub mod Typed
+pub mod Witness

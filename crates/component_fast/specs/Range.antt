@@ -28,7 +28,7 @@ pub record Bracket (image : List ℕ) (text : ℕ) (is : List Item) (r : Range) 
   pub end-is : simplifyEnd ((inBracket is found) .«end») ≡ ok (endIn image text (r .«has_end») (r .«end»))
   pub start-fine : Fine (r .start)
   pub end-fine : Fine (r .«end»)
-  -- where there is no end, zeros stand in its place (field added by the lead: what is written of it must be zeros)
+  -- where there is no end, zeros stand in its place
   pub endless : r .«has_end» ≡ false → r .«end» ≡ record { at = 0; len = 0; x = 0 }
 
 -- n records from record k on, whose entry is at e

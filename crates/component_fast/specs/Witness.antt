@@ -17,10 +17,10 @@ use Rattle.component_fast.specs.Table.{Stands}
 use Rattle.component_fast.specs.declared.range.Range.{Range}
 
 -- a number below 256 in four bytes, and a record
-abbrev word : ℕ → List ℕ
+abbrev pub word : ℕ → List ℕ
 word n = n ∷ 0 ∷ 0 ∷ 0 ∷ []
 
-abbrev entry : ℕ → ℕ → ℕ → List ℕ
+abbrev pub entry : ℕ → ℕ → ℕ → List ℕ
 entry kind start skip = word kind ++ (word start ++ word skip)
 
 unfoldable pub image : List ℕ

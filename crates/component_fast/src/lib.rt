@@ -3,7 +3,6 @@
 // short. Any other shape, and what stage 1 or 2 refuses, is left to the crate `component`.
 // A word, and a word and any bracket, have no starting value; of any other component it is found by the crate `component`.
 pub use bound::ShortUsb;
-pub use values::component_of;
 pub use read::read_common;
 pub use start::starting_value;
 pub use typed::Common;
@@ -14,4 +13,3 @@ mod read;
 mod start;
 mod table;
 mod typed;
-mod values;

@@ -2,7 +2,6 @@
 use super::bound::is_short;
 use super::bound::short_number;
 use super::bound::word_usb;
-use super::range::Range;
 use super::range::range_in;
 use super::table::bracket_at;
 use super::table::is_word;
@@ -14,6 +13,7 @@ use super::table::whole_length;
 use super::typed::Common;
 use super::typed::other;
 use super::typed::typed;
+use super::typed::typed_alone;
 use component::Place;
 use items::Run;
 ghost use mathlib.Core.Path.{_≡_};
@@ -24,18 +24,6 @@ ghost use Rattle.def_image.specs.Image.{tables};
 ghost use Rattle.component.specs.Places.{reachable};
 ghost use Rattle.component_fast.specs.Common.{CommonIs};
 ghost use Rattle.component_fast.specs.Table.{Stands};
-ghost use Rattle.component_fast.specs.Typed.{noEnd};
-
-fn unbounded() -> Range
-    ensures { λ r. ⌜ r ≡ noEnd ⌝ }
-{
-    Range {
-        fits: true,
-        start: short_number(0),
-        has_end: false,
-        end: short_number(0),
-    }
-}
 
 // `w`: the record at e.
 fn alone(image: &[u8], place: Place, e: usize) -> Common
@@ -50,7 +38,7 @@ fn alone(image: &[u8], place: Place, e: usize) -> Common
     if !is_word(number_at(image, e), len, byte) {
         return other();
     }
-    typed(image, place, len, byte, unbounded())
+    typed_alone(place, len, byte)
 }
 
 // `w[..]`: the record at e is the first of the component.

@@ -6,8 +6,10 @@ use component::Place;
 use usb::Part;
 ghost use mathlib.Core.Path.{_≡_};
 ghost use mathlib.Core.Bool.{false};
+ghost use mathlib.Core.List.{List};
+ghost use Prim.Native.Nat.{ℕ};
 ghost use Rattle.component.specs.Begins.{beginsNumber};
-ghost use Rattle.component_fast.specs.Typed.{KnownIs, WidthIs, LiteralIs, literalEnd, variableOf, TypedIs};
+ghost use Rattle.component_fast.specs.Typed.{KnownIs, WidthIs, LiteralIs, literalEnd, variableOf, noEnd, TypedIs};
 
 // A literal (1: its bits from .. to), a variable (2: a text of so many bytes) or a filler (3), its range, and its width where that is
 // known. Kind 0: a component of another shape, or one that stage 1 or 2 refuses.
@@ -173,4 +175,24 @@ pub(crate) fn typed(image: &[u8], place: Place, len: usize, byte: u8, r: Range) 
         return other();
     }
     variable(len, r, w)
+}
+
+// A word without a range. (`typed` is called from one place, so that no range is handed over in memory.)
+pub(crate) fn typed_alone(place: Place, len: usize, byte: u8) -> Common
+    ensures { λ q. ⌜ ((image : List ℕ) → TypedIs image place len byte noEnd q) ⌝ }
+{
+    if begins_number(byte) {
+        return literal(0, place.width as usize, place.width as usize);
+    }
+    Common {
+        kind: 2,
+        len,
+        from: 0,
+        to: 0,
+        start: short_number(0),
+        has_end: false,
+        end: short_number(0),
+        known: false,
+        width: 0,
+    }
 }

@@ -12,7 +12,7 @@ pub fn stage2_component(image: &[u8], place: Place, scanned: bool) -> ComponentR
 {
     let q = component_fast::read_common(image, place);
     if q.kind != 0 {
-        return ComponentResult::Ok(component_fast::component_of(q));
+        return ComponentResult::Ok(common_component::component_of(q));
     }
     let s = component::stage1_component(image, place, scanned);
     match s {

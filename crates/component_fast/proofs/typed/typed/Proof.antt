@@ -1,5 +1,5 @@
 use native.Mathlib.Omega.{arith}
-use borrow.Author.Tests.{not-true, not-false}
+use borrow.Author.Tests.{not-false}
 use Rattle.component_fast.proofs.Made.{nothing}
 use Rattle.component_fast.proofs.Types.{typed-literal, typed-variable}
 use borrow.Author.Needs.{needs}

@@ -1,6 +1,5 @@
 use native.Mathlib.Omega.{arith}
 use borrow.Author.Tests.{not-true, not-false}
-use Rattle.component_fast.proofs.Fillers.{filler-stage}
 use Rattle.component_fast.proofs.Widths.{width-endless, width-apart, width-known}
 use borrow.Author.Needs.{needs}
 use Rattle.component_fast.proofs.typed.width_of.Statement.{statement}

@@ -1,7 +1,7 @@
 use Rattle.component_fast.proofs.Made.{end-some, end-none}
 use borrow.Author.Needs.{needs}
-use Rattle.component_fast.proofs.values.end_of.Statement.{statement}
-use Rattle.component_fast.proofs.values.end_of.Tie as tie
+use Rattle.common_component.proofs.end_of.Statement.{statement}
+use Rattle.common_component.proofs.end_of.Tie as tie
 
 returns : tie.Need-returns
 returns c =

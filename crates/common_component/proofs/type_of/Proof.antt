@@ -1,6 +1,6 @@
 use Rattle.component_fast.proofs.Made.{type-literal, type-variable, type-filler}
-use Rattle.component_fast.proofs.values.type_of.Statement.{statement}
-use Rattle.component_fast.proofs.values.type_of.Tie as tie
+use Rattle.common_component.proofs.type_of.Statement.{statement}
+use Rattle.common_component.proofs.type_of.Tie as tie
 
 returns : tie.Need-returns
 returns c = type-literal (c .before .before .args .q) (c .if1 .taken)

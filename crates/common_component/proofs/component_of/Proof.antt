@@ -1,7 +1,7 @@
 use Rattle.component_fast.proofs.Made.{component-made}
 use borrow.Author.Needs.{needs}
-use Rattle.component_fast.proofs.values.component_of.Statement.{statement}
-use Rattle.component_fast.proofs.values.component_of.Tie as tie
+use Rattle.common_component.proofs.component_of.Statement.{statement}
+use Rattle.common_component.proofs.component_of.Tie as tie
 
 returns : tie.Need-returns
 returns c =

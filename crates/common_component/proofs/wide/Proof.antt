@@ -1,6 +1,6 @@
 use Rattle.component_fast.proofs.Made.{wide-short, wide-negative}
-use Rattle.component_fast.proofs.values.wide.Statement.{statement}
-use Rattle.component_fast.proofs.values.wide.Tie as tie
+use Rattle.common_component.proofs.wide.Statement.{statement}
+use Rattle.common_component.proofs.wide.Tie as tie
 
 returns : tie.Need-returns
 returns c =

@@ -1,9 +1,9 @@
 // A component of common shape as a value: its numbers in 128 bits.
-use super::bound::ShortUsb;
-use super::typed::Common;
 use component::Bits;
 use component::Component;
 use component::ComponentType;
+use component_fast::Common;
+use component_fast::ShortUsb;
 use misc::I128;
 use usb::OptionUsb;
 use usb::Part;

@@ -1,7 +1,7 @@
 use Rattle.component_fast.proofs.Made.{usb-made}
 use borrow.Author.Needs.{needs}
-use Rattle.component_fast.proofs.values.usb_of.Statement.{statement}
-use Rattle.component_fast.proofs.values.usb_of.Tie as tie
+use Rattle.common_component.proofs.usb_of.Statement.{statement}
+use Rattle.common_component.proofs.usb_of.Tie as tie
 
 returns : tie.Need-returns
 returns c = usb-made (c .before .args .u) (c .wide .result) (c .wide .ensures)
