@@ -32,6 +32,10 @@ pub struct Bound {
 // Where numbers end that are short.
 const LIMIT: u64 = 0x4000_0000_0000_0000;
 
+// Stands for no number. With LIMIT in its place the compiler looks at a number before it knows that there is one: nothing comes of it,
+// but valgrind speaks of an uninitialised value.
+const NONE: u64 = 0x7000_0000_0000_0000;
+
 pub(crate) fn short_number(x: u64) -> ShortUsb
     ensures { λ u. ⌜ u ≡ record { at = 0; len = 0; x = x } ⌝ }
 {
@@ -53,7 +57,7 @@ fn number_in(image: &[u8], text: usize, at: usize, len: usize) -> u64
     ensures { λ x. ⌜ NumberIs (now (image .entry)) text at len x ⌝ }
 {
     let OptionI128::Some(x) = texts::parse_text(image, text, Part { at, len }) else {
-        return LIMIT;
+        return NONE;
     };
     if x.high != 0 {
         return LIMIT;
