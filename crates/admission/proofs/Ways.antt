@@ -12,16 +12,14 @@ use Rattle.errors.specs.Refused.{refusedAs, resultOf}
 use Rattle.errors.specs.declared.Checked.{Checked}
 use Rattle.errors.specs.declared.Checked.the-variants as C
 use Rattle.errors.specs.declared.Refusal.{Refusal}
-use Rattle.token_tree.specs.Tables.{countsOf}
-use Rattle.token_tree.specs.declared.Counts.{Counts}
 use Rattle.admission.specs.Asked.{admittedOf}
 
 module _ (image : List ℕ) (area : ℕ) where
   abbrev pub roomy : Bool
   roomy = leb (areaNeeded ((counts image) .c) ((counts image) .n) ((counts image) .b)) area
 
-  pub enough-is : (h : Counts) → countsOf h ≡ counts image → leb (32 + 20 * h .c + 72 * h .n + h .b) area ≡ roomy
-  enough-is h e = ap (λ x. leb (areaNeeded (x .c) (x .n) (x .b)) area) e
+  pub enough-is : (c n b : ℕ) → c ≡ (counts image) .c → n ≡ (counts image) .n → b ≡ (counts image) .b → leb (32 + 20 * c + 72 * n + b) area ≡ roomy
+  enough-is c n b e f g = rw (e, f, g)
 
   module _ (mode : ℕ) where
     pub mode-above : (q : Refusal) → refusedAs {A = Unit} q ≡ refused 1 0 0 → 2 < mode → refusedAs q ≡ admittedOf image mode area

@@ -11,8 +11,10 @@ ghost use Rattle.admission.specs.Asked.{admittedOf};
 fn enough(image: &[u8], area: usize) -> bool
     ensures { λ r. ⌜ r ≡ leb (areaNeeded ((counts (now (image .entry))) .c) ((counts (now (image .entry))) .n) ((counts (now (image .entry))) .b)) area ⌝ }
 {
-    let h = token_tree::counts_of(image);
-    32 + 20 * (h.c as usize) + 72 * (h.n as usize) + (h.b as usize) <= area
+    let c = token_tree::u32_at(image, 0) as usize;
+    let n = token_tree::u32_at(image, 4) as usize;
+    let b = token_tree::u32_at(image, 16) as usize;
+    32 + 20 * c + 72 * n + b <= area
 }
 
 // 1, the image check, 8.

@@ -1,3 +1,2 @@
 -- Laws over plain values that the functions' proofs cite.
 pub mod Joined
-pub mod Marks

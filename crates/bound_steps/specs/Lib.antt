@@ -1,3 +1,2 @@
 -- What the steps of reading a bound give.
 pub mod Sides
-pub mod Signs

@@ -1,11 +1,6 @@
-// Steps of reading a bound (src/ranges.rs): the sign that it is cut at, and its two sides.
+// The two sides of a bound (src/ranges.rs).
 mod sides;
-mod signs;
 
 pub use sides::Sides;
 pub use sides::join;
 pub use sides::raised;
-pub use signs::Sign;
-pub use signs::Signs;
-pub use signs::chosen;
-pub use signs::stepped;

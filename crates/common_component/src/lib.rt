@@ -1,9 +1,9 @@
 // A component of common shape as a value: its numbers in 128 bits.
-use component::Bits;
-use component::Component;
-use component::ComponentType;
-use component_fast::Common;
-use component_fast::ShortUsb;
+use common_shapes::Common;
+use common_shapes::ShortUsb;
+use component_types::Bits;
+use component_types::Component;
+use component_types::ComponentType;
 use misc::I128;
 use usb::OptionUsb;
 use usb::Part;
@@ -13,11 +13,11 @@ ghost use mathlib.Core.Path.{_≡_};
 ghost use mathlib.Core.List.{List};
 ghost use Prim.Native.Nat.{ℕ};
 ghost use Rattle.usb.specs.Usb.{usbOf, optionUsbOf};
-ghost use Rattle.component.specs.Values.{typeOf, componentOf};
-ghost use Rattle.component.specs.declared.places.Place as Places;
-ghost use Rattle.component_fast.specs.Common.{commonType, commonOf};
-ghost use Rattle.component_fast.specs.Short as Short;
-ghost use Rattle.component_fast.specs.Short.{shortOf, endIn};
+ghost use Rattle.component_types.specs.Values.{typeOf, componentOf};
+ghost use Rattle.component_types.specs.declared.places.Place as Places;
+ghost use Rattle.common_shapes.specs.Common.{commonType, commonOf};
+ghost use Rattle.common_shapes.specs.Short as Short;
+ghost use Rattle.common_shapes.specs.Short.{shortOf, endIn};
 
 // A number of 64 bits in two's complement.
 fn wide(x: u64) -> I128

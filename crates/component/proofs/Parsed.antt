@@ -17,12 +17,12 @@ use Rattle.usb.specs.declared.Usbr.{Usbr}
 use Rattle.items.specs.Run.{itemsIn}
 use Rattle.items.specs.declared.Run.{Run}
 use Rattle.component_text.specs.Ends as Ends
-use Rattle.component.specs.Places.{unparsedIn, middleOf}
+use Rattle.component_types.specs.Places.{unparsedIn, middleOf}
 use Rattle.component.specs.Stage1.{bracketedOf, plainOf}
-use Rattle.component.specs.declared.places.Place.{Place}
+use Rattle.component_types.specs.declared.places.Place.{Place}
 use Rattle.component_text.specs.declared.ends.Split as code
 use Rattle.component_text.specs.declared.ends.OptionRun.the-variants as O
-use Rattle.component.proofs.Stages.{refused-then}
+use Rattle.component_types.specs.Values.{refused-then}
 
 -- ---- a range that was read
 

@@ -16,9 +16,9 @@ use Rattle.items.specs.Run.{inReach, itemsAt, itemsIn}
 use Rattle.items.specs.declared.Run.{Run}
 use Rattle.component_text.specs.Ends as Ends
 use Rattle.component_text.specs.Prefix.{partsOf, colonIn}
-use Rattle.component.specs.Places.{wholeOf, unparsedIn, placedAt, middleOf}
+use Rattle.component_types.specs.Places.{wholeOf, unparsedIn, placedAt, middleOf}
 use Rattle.component_text.specs.declared.ends.Split as code
-use Rattle.component.specs.declared.places.Place.{Place}
+use Rattle.component_types.specs.declared.places.Place.{Place}
 use Rattle.component_text.specs.declared.prefix.Colon.{Colon}
 use Rattle.component_text.specs.declared.prefix.Colon.the-variants as C
 

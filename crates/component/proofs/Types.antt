@@ -17,9 +17,9 @@ use Rattle.misc.specs.declared.I128.{I128}
 use Rattle.usb.specs.Usb as Usb
 use Rattle.usb.specs.declared.Part.{Part}
 use Rattle.usb.specs.declared.OptionUsb.the-variants as O
-use Rattle.component.specs.Values.{bitsOf}
-use Rattle.component.specs.declared.places.Place.{Place}
-use Rattle.component.proofs.Stages.{length-bits}
+use Rattle.component_types.specs.Values.{bitsOf}
+use Rattle.component_types.specs.declared.places.Place.{Place}
+use Rattle.component_types.proofs.Slices.{length-bits}
 
 empty-tab : (f : ℕ → ℕ) (n : ℕ) → (n ≡ 0 → ⊥) → isEmpty (tab f 0 n) ≡ false
 unfolding tab

@@ -4,31 +4,16 @@ use component_text::Split;
 use component_text::is_empty;
 use component_text::split_colon;
 use component_text::split_range;
-use errors::Refusal;
+use component_types::Place;
+use component_types::StartResult;
 use items::Run;
-use usb::Part;
 ghost use mathlib.Core.Path.{_≡_};
 ghost use mathlib.Core.List.{List, [], _∷_};
 ghost use Prim.Native.Nat.{ℕ};
 ghost use Rattle.def_stages.specs.Component.{splitOf, startingValue};
 ghost use Rattle.items.specs.Run.{itemsIn};
 ghost use Rattle.component_text.specs.Ends.{splitIn};
-ghost use Rattle.component.specs.Places.{wholeOf, unparsedIn, placedAt, middleOf, startIn};
-
-// A component's records, the bytes of the image where its text and its literal begin, and its literal's width.
-pub struct Place {
-    pub run: Run,
-    pub text: usize,
-    pub literal: usize,
-    pub width: u32,
-}
-
-// Result<Option<Part>, _>
-pub enum StartResult {
-    None,
-    Some(Part),
-    Refused(Refusal),
-}
+ghost use Rattle.component_types.specs.Places.{wholeOf, unparsedIn, placedAt, middleOf, startIn};
 
 // The records of a component, its text at offset 0.
 fn whole(run: Run) -> Run

@@ -1,23 +1,23 @@
 // Stage 1 of a component: 11 to 17.
-use super::places::Place;
 use super::places::middle;
 use super::places::parts_of;
 use super::typed::single_bit;
 use super::typed::typed;
 use super::typed::unbounded;
-use super::values::Component;
-use super::values::ComponentResult;
-use super::values::ComponentType;
 use component_text::OptionRun;
 use component_text::is_empty;
+use component_types::Component;
+use component_types::ComponentResult;
+use component_types::ComponentType;
+use component_types::Place;
 use items::Run;
 use range_parse::RangeResult;
 ghost use mathlib.Core.Path.{_≡_};
 ghost use Rattle.def_image.specs.Image.{bitsAt};
 ghost use Rattle.def_stages.specs.Component.{stage1Component};
 ghost use Rattle.items.specs.Run.{itemsIn};
-ghost use Rattle.component.specs.Places.{unparsedIn};
-ghost use Rattle.component.specs.Values.{resultIn};
+ghost use Rattle.component_types.specs.Places.{unparsedIn};
+ghost use Rattle.component_types.specs.Values.{resultIn};
 ghost use Rattle.component.specs.Stage1.{bracketedOf, plainOf};
 
 // With what stands in the range's bracket.

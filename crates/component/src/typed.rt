@@ -1,11 +1,11 @@
 // A component's type: "else a text beginning with `-` or a digit makes it a literal, any other a variable".
-use super::places::Place;
-use super::values::Bits;
-use super::values::Component;
-use super::values::ComponentResult;
-use super::values::ComponentType;
 use component_text::is_literal;
 use component_text::part_of;
+use component_types::Bits;
+use component_types::Component;
+use component_types::ComponentResult;
+use component_types::ComponentType;
+use component_types::Place;
 use items::Run;
 use usb::OptionUsb;
 use usb::Part;
@@ -19,7 +19,7 @@ ghost use Rattle.def_stages.specs.Ranges.{singleBit, unbounded};
 ghost use Rattle.def_stages.specs.Component.{typed};
 ghost use Rattle.items.specs.Run.{itemsIn};
 ghost use Rattle.usb.specs.Usb.{usbrOf};
-ghost use Rattle.component.specs.Values.{resultIn};
+ghost use Rattle.component_types.specs.Values.{resultIn};
 
 // "17 .. literal width is 0"
 pub(crate) fn typed(image: &[u8], place: Place, mid: Run, range: Usbr) -> ComponentResult

@@ -15,19 +15,19 @@ use Rattle.def_stages.specs.Component.{simplifyUsb, simplifyEnd}
 use Rattle.laws.specs.Results.{ok-same}
 use Rattle.usb.specs.Usb.{partOf}
 use Rattle.items.specs.Run.{itemsAt}
-use Rattle.component_fast.specs.Bound.{Read, Single, BoundAt, BoundIs, raised}
-use Rattle.component_fast.specs.Dots.{zeroUsb, EndsAs, Ended, EndIs, InclusiveIs, Dotted, DotsIs}
-use Rattle.component_fast.specs.Range.{Bracket, RangeIs}
-use Rattle.component_fast.specs.Shapes.{listOf, range-is, range-to, no-dots}
-use Rattle.component_fast.specs.Short.{shortOf, Fine}
-use Rattle.component_fast.specs.Table.{dotAt, Stands, tokenAt}
-use Rattle.component_fast.specs.declared.bound.Bound.{Bound}
-use Rattle.component_fast.specs.declared.bound.ShortUsb.{ShortUsb}
-use Rattle.component_fast.specs.declared.range.Range.{Range}
-use Rattle.component_fast.proofs.Ranges.{Two, two, none-at, stands-next, stands-third, stands-on, step}
-use Rattle.component_fast.proofs.Shorts.{wide-plus, wide-more, more-fits, near-fine, near-more, raised-none}
-use Rattle.component_fast.proofs.Simple.{fitted, simple-more}
-use Rattle.component_fast.proofs.Tokens.{token-test}
+use Rattle.common_shapes.specs.Bound.{Read, Single, BoundAt, BoundIs, raised}
+use Rattle.common_shapes.specs.Dots.{zeroUsb, EndsAs, Ended, EndIs, InclusiveIs, Dotted, DotsIs}
+use Rattle.common_shapes.specs.Range.{Bracket, RangeIs}
+use Rattle.common_shapes.specs.Shapes.{listOf, range-is, range-to, no-dots}
+use Rattle.common_shapes.specs.Short.{shortOf, Fine}
+use Rattle.common_shapes.specs.Table.{dotAt, Stands, tokenAt}
+use Rattle.common_shapes.specs.declared.short.Bound.{Bound}
+use Rattle.common_shapes.specs.declared.short.ShortUsb.{ShortUsb}
+use Rattle.common_shapes.specs.declared.short.Range.{Range}
+use Rattle.common_shapes.proofs.Ranges.{Two, two, none-at, stands-next, stands-third, stands-on, step}
+use Rattle.common_shapes.proofs.Shorts.{wide-plus, wide-more, more-fits, near-fine, near-more, raised-none}
+use Rattle.common_shapes.proofs.Simple.{fitted, simple-more}
+use Rattle.common_shapes.proofs.Tokens.{token-test}
 
 -- ---- a bound that was read, and one more
 

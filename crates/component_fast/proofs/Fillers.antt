@@ -15,22 +15,22 @@ use Rattle.laws.specs.Tests.{by-test, and-iff, eqb-iff, eqb-apart}
 use Rattle.usb.specs.Usb.{partOf}
 use Rattle.bounds.proofs.Bounds.{empty-is}
 use Rattle.items.specs.Run.{lengthAt, itemsAt}
-use Rattle.component.specs.Places.{middleOf, unparsedIn, reachable}
-use Rattle.component.specs.declared.places.Place.{Place}
-use Rattle.component_fast.specs.Common.{knownWidth, CommonIs}
-use Rattle.component_fast.specs.Range.{WordIs}
-use Rattle.component_fast.specs.Shapes.{Plain, rangeOf, dotted-is}
-use Rattle.component_fast.specs.Short.{shortOf, Fine}
-use Rattle.component_fast.specs.Table.{lenAt, isWord, dotAt, Stands, tokenAt}
-use Rattle.component_fast.specs.Typed.{shortNumber, boundsOf, fillerOf, StageIs, Simple}
-use Rattle.component_fast.specs.declared.bound.ShortUsb.{ShortUsb}
-use Rattle.component_fast.specs.declared.range.Range.{Range}
-use Rattle.component_fast.specs.declared.typed.Common.{Common}
+use Rattle.component_types.specs.Places.{middleOf, unparsedIn, reachable}
+use Rattle.component_types.specs.declared.places.Place.{Place}
+use Rattle.common_shapes.specs.Common.{knownWidth, CommonIs}
+use Rattle.common_shapes.specs.Range.{WordIs}
+use Rattle.common_shapes.specs.Shapes.{Plain, rangeOf, dotted-is}
+use Rattle.common_shapes.specs.Short.{shortOf, Fine}
+use Rattle.common_shapes.specs.Table.{lenAt, isWord, dotAt, Stands, tokenAt}
+use Rattle.common_shapes.specs.Typed.{shortNumber, boundsOf, fillerOf, StageIs, Simple}
+use Rattle.common_shapes.specs.declared.short.ShortUsb.{ShortUsb}
+use Rattle.common_shapes.specs.declared.short.Range.{Range}
+use Rattle.common_shapes.specs.declared.common.Common.{Common}
 use Rattle.component_fast.proofs.Founds.{items-in, read-as}
-use Rattle.component_fast.proofs.Ranges.{part-token, none-at, stands-next}
-use Rattle.component_fast.proofs.Tokens.{Word, word-facts, word-plain, dot-facts, dot-token, token-test, token-item, length-is}
-use Rattle.component_fast.proofs.Types.{range-simple, zero-fine, zero-simple}
-use Rattle.component_fast.proofs.Widths.{zero-width}
+use Rattle.common_shapes.proofs.Ranges.{part-token, none-at, stands-next}
+use Rattle.common_shapes.proofs.Tokens.{Word, word-facts, word-plain, dot-facts, dot-token, token-test, token-item, length-is}
+use Rattle.common_shapes.proofs.Types.{range-simple, zero-fine, zero-simple}
+use Rattle.common_shapes.proofs.Widths.{zero-width}
 
 -- ---- stage 1
 

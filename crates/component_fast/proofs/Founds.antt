@@ -17,18 +17,18 @@ use Rattle.laws.specs.Results.{bind-ok}
 use Rattle.laws.specs.Tests.{and-iff, eqb-iff}
 use Rattle.items.specs.Run.{recAt, lengthAt, lengthOf, recsAt, itemsAt}
 use Rattle.items.specs.First.{first-item}
-use Rattle.component.specs.Places.{unparsedIn, placedAt, reachable, unparsed-in}
-use Rattle.component.specs.declared.places.Place.{Place}
-use Rattle.component_fast.specs.Common.{ReadAs, CommonIs}
-use Rattle.component_fast.specs.Range.{Bracket, RangeIs}
-use Rattle.component_fast.specs.Shapes.{Plain, inBracket, word-is, bracket-is, start-word, start-bracket}
-use Rattle.component_fast.specs.Table.{lenAt, isWord, bracketAt, Stands, tokenAt}
-use Rattle.component_fast.specs.Typed.{noEnd, StageIs, Simple, TypedIs}
-use Rattle.component_fast.specs.declared.range.Range.{Range}
-use Rattle.component_fast.specs.declared.typed.Common.{Common}
-use Rattle.component_fast.proofs.Ranges.{none-at, next-entry, stands-next, stands-third}
-use Rattle.component_fast.proofs.Tokens.{Word, word-facts, word-plain, token-item, length-is}
-use Rattle.component_fast.proofs.Types.{unbounded-simple}
+use Rattle.component_types.specs.Places.{unparsedIn, placedAt, reachable, unparsed-in}
+use Rattle.component_types.specs.declared.places.Place.{Place}
+use Rattle.common_shapes.specs.Common.{ReadAs, CommonIs}
+use Rattle.common_shapes.specs.Range.{Bracket, RangeIs}
+use Rattle.common_shapes.specs.Shapes.{Plain, inBracket, word-is, bracket-is, start-word, start-bracket}
+use Rattle.common_shapes.specs.Table.{lenAt, isWord, bracketAt, Stands, tokenAt}
+use Rattle.common_shapes.specs.Typed.{noEnd, StageIs, Simple, TypedIs}
+use Rattle.common_shapes.specs.declared.short.Range.{Range}
+use Rattle.common_shapes.specs.declared.common.Common.{Common}
+use Rattle.common_shapes.proofs.Ranges.{none-at, next-entry, stands-next, stands-third}
+use Rattle.common_shapes.proofs.Tokens.{Word, word-facts, word-plain, token-item, length-is}
+use Rattle.common_shapes.proofs.Types.{unbounded-simple}
 
 -- ---- the items of a component
 
@@ -218,6 +218,9 @@ skip-is n h = omega arith
 
 pub stands-two : (image : List ℕ) (r n e : ℕ) → 4 ≤ n → Stands image r (n - 1) e → Stands image r (suc (suc (n - 3))) e
 stands-two image r n e l s = rw (← skip-is n l) s
+
+pub stands-all : (image : List ℕ) (r n e k : ℕ) → k ≡ u32At image 8 → e ≡ (tables image) .records + 12 * r → r + n ≤ k → 3 ≤ n → Stands image r (n - 1) e
+stands-all image r n e k q p h l = record { place = p; behind = omega (arith, q, h, l) }
 
 pub text-small : (p : Place) → reachable p ≡ true → p .text < 2 ^ 62
 text-small p h = ltb-true (p .text) (2 ^ 62) ((and-iff (ltb (p .text) (2 ^ 62)) _) .0 h .0)

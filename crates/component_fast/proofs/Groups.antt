@@ -11,13 +11,13 @@ use Rattle.def_stages.specs.Text as Text
 use Rattle.def_stages.specs.Ranges as Def
 use Rattle.items.specs.Run.{recAt, lengthAt, lengthOf, recsAt, itemsAt}
 use Rattle.items.specs.First.{first-item, length-suc}
-use Rattle.component_fast.specs.Bound.{Read, Inside, InsideIs, BoundAt, BoundIs}
-use Rattle.component_fast.specs.Table.{lenAt, Stands}
-use Rattle.component_fast.specs.declared.bound.Bound.{Bound}
-use Rattle.component_fast.specs.declared.bound.ShortUsb.{ShortUsb}
-use Rattle.component_fast.proofs.Ranges.{stands-next, stands-on}
-use Rattle.component_fast.proofs.Simple.{group-usb}
-use Rattle.component_fast.proofs.Tokens.{kind-is, length-is}
+use Rattle.common_shapes.specs.Bound.{Read, Inside, InsideIs, BoundAt, BoundIs}
+use Rattle.common_shapes.specs.Table.{lenAt, Stands}
+use Rattle.common_shapes.specs.declared.short.Bound.{Bound}
+use Rattle.common_shapes.specs.declared.short.ShortUsb.{ShortUsb}
+use Rattle.common_shapes.proofs.Ranges.{stands-next, stands-on}
+use Rattle.common_shapes.proofs.Simple.{group-usb}
+use Rattle.common_shapes.proofs.Tokens.{kind-is, length-is}
 
 length-snoc : (image : List ℕ) (r n : ℕ) → lengthOf image r (suc n) ≡ lengthOf image r n + lengthAt image (r + n)
 unfolding lengthOf

@@ -8,11 +8,11 @@ use Rattle.def_numbers.specs.Basics.{ok}
 use Rattle.def_image.specs.Image.{u32At, tables, entryAt}
 use Rattle.def_stages.specs.Component.{startingValue}
 use Rattle.items.specs.Run.{lengthAt}
-use Rattle.component.specs.Places.{unparsedIn, placedAt, reachable}
-use Rattle.component.specs.declared.places.Place.{Place}
-use Rattle.component_fast.specs.Shapes.{start-word, start-bracket}
-use Rattle.component_fast.specs.Table.{isWord, bracketAt, tokenAt}
-use Rattle.component_fast.specs.Start.{Ends, only, bracket, EndsIf, NoStartIf}
+use Rattle.component_types.specs.Places.{unparsedIn, placedAt, reachable}
+use Rattle.component_types.specs.declared.places.Place.{Place}
+use Rattle.common_shapes.specs.Shapes.{start-word, start-bracket}
+use Rattle.common_shapes.specs.Table.{isWord, bracketAt, tokenAt}
+use Rattle.common_shapes.specs.Start.{Ends, only, bracket, EndsIf, NoStartIf}
 use Rattle.component_fast.proofs.Founds.{Group, group-at, Opener, opener, plain, only-item, two-items}
 
 pub ends-bracket : (image : List ℕ) (e left : ℕ) (b : Bool) → 3 ≤ left → b ≡ bracketAt image (e + 12) (left - 1) → EndsIf image e left b

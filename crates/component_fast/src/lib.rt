@@ -2,14 +2,11 @@
 // one bound or of a range, and `..n`. A bound is a word, or in a `(` group a word, or a name plus or minus a number; numbers are
 // short. Any other shape, and what stage 1 or 2 refuses, is left to the crate `component`.
 // A word, and a word and any bracket, have no starting value; of any other component it is found by the crate `component`.
-pub use bound::ShortUsb;
 pub use read::read_common;
-pub use start::starting_value;
-pub use typed::Common;
+pub use start::no_colon;
 
 mod bound;
 mod range;
 mod read;
 mod start;
 mod table;
-mod typed;

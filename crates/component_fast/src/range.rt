@@ -1,48 +1,21 @@
 // What stands in a component's bracket: `a`, `..`, `a..`, `..b`, `a..b`, or with `..=`.
-use super::bound::ShortUsb;
 use super::bound::bound_in;
-use super::bound::short_number;
 use super::table::dot_at;
 use super::table::length_at;
 use super::table::number_at;
 use super::table::two_dots;
+use common_shapes::Range;
+use common_shapes::ShortUsb;
+use common_shapes::no_range;
+use common_shapes::plus;
+use common_shapes::short_number;
 ghost use mathlib.Core.Path.{_≡_};
-ghost use mathlib.Core.Bool.{true, false};
+ghost use mathlib.Core.Bool.{true};
 ghost use Prim.Native.Nat.{_+_, _*_, _-_, _^_, _≤_, _<_};
 ghost use lib.ListN.{length};
-ghost use Rattle.component_fast.specs.Bound.{raised, Single};
-ghost use Rattle.component_fast.specs.Dots.{EndIs, InclusiveIs, DotsIs};
-ghost use Rattle.component_fast.specs.Range.{RangeIs};
-
-// A range as stage 2 leaves it, or one of another shape.
-pub struct Range {
-    pub fits: bool,
-    pub start: ShortUsb,
-    pub has_end: bool,
-    pub end: ShortUsb,
-}
-
-fn no_range() -> Range
-    ensures { λ r. ⌜ r .fits ≡ false ⌝ }
-{
-    Range {
-        fits: false,
-        start: short_number(0),
-        has_end: false,
-        end: short_number(0),
-    }
-}
-
-// A bound plus 0 or 1.
-fn plus(u: ShortUsb, one: u64) -> ShortUsb
-    ensures { λ v. ⌜ v ≡ raised u one ⌝ }
-{
-    ShortUsb {
-        at: u.at,
-        len: u.len,
-        x: std::num::wrapping_add_u64(u.x, one),
-    }
-}
+ghost use Rattle.common_shapes.specs.Bound.{Single};
+ghost use Rattle.common_shapes.specs.Dots.{EndIs, InclusiveIs, DotsIs};
+ghost use Rattle.common_shapes.specs.Range.{RangeIs};
 
 // No end, or one bound of all n records.
 fn end_in(

@@ -1,29 +1,29 @@
 // Stages 1 and 2 of a component: the common shapes.
-use super::bound::is_short;
-use super::bound::short_number;
-use super::bound::word_usb;
 use super::range::range_in;
 use super::table::bracket_at;
-use super::table::is_word;
 use super::table::length_at;
 use super::table::number_at;
 use super::table::record_place;
 use super::table::two_dots;
 use super::table::whole_length;
-use super::typed::Common;
-use super::typed::other;
-use super::typed::typed;
-use super::typed::typed_alone;
-use component::Place;
+use common_shapes::Common;
+use common_shapes::is_short;
+use common_shapes::is_word;
+use common_shapes::other;
+use common_shapes::short_number;
+use common_shapes::typed;
+use common_shapes::typed_alone;
+use common_shapes::word_usb;
+use component_types::Place;
 use items::Run;
 ghost use mathlib.Core.Path.{_≡_};
 ghost use mathlib.Core.Bool.{true};
 ghost use Prim.Native.Nat.{_+_, _*_, _-_, _^_, _≤_, _<_};
 ghost use lib.ListN.{length};
 ghost use Rattle.def_image.specs.Image.{tables};
-ghost use Rattle.component.specs.Places.{reachable};
-ghost use Rattle.component_fast.specs.Common.{CommonIs};
-ghost use Rattle.component_fast.specs.Table.{Stands};
+ghost use Rattle.component_types.specs.Places.{reachable};
+ghost use Rattle.common_shapes.specs.Common.{CommonIs};
+ghost use Rattle.common_shapes.specs.Table.{Stands};
 
 // `w`: the record at e.
 fn alone(image: &[u8], place: Place, e: usize) -> Common

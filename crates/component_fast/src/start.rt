@@ -1,21 +1,18 @@
 // The starting value of a component: a plain word, or one and a bracket, has none.
 use super::table::bracket_at;
-use super::table::is_word;
 use super::table::number_at;
 use super::table::record_place;
 use super::table::whole_length;
-use component::Place;
-use component::StartResult;
+use common_shapes::is_word;
+use component_types::Place;
 use items::Run;
 ghost use mathlib.Core.Path.{_≡_};
 ghost use mathlib.Core.Bool.{true};
-ghost use mathlib.Core.List.{[], _∷_};
-ghost use Prim.Native.Nat.{ℕ, _+_, _*_, _^_, _≤_, _<_};
+ghost use Prim.Native.Nat.{_+_, _*_, _^_, _≤_, _<_};
 ghost use lib.ListN.{length};
 ghost use Rattle.def_image.specs.Image.{tables};
-ghost use Rattle.def_stages.specs.Component.{startingValue};
-ghost use Rattle.component.specs.Places.{unparsedIn, placedAt, startIn, reachable};
-ghost use Rattle.component_fast.specs.Start.{EndsIf, NoStartIf};
+ghost use Rattle.component_types.specs.Places.{reachable};
+ghost use Rattle.common_shapes.specs.Start.{EndsIf, NoStartIf};
 
 // Whether the record at e is the only one of so many, or a `[` group behind it has all the others.
 fn ends_after(image: &[u8], e: usize, left: u32) -> bool
@@ -50,7 +47,7 @@ fn word_first(image: &[u8], place: Place, e: usize) -> bool
     ends_after(image, e, place.run.left)
 }
 
-fn no_colon(image: &[u8], place: Place) -> bool
+pub fn no_colon(image: &[u8], place: Place) -> bool
     ensures { λ r. ⌜ NoStartIf (now (image .entry)) place r ⌝ }
 {
     let run = Run {
@@ -65,14 +62,4 @@ fn no_colon(image: &[u8], place: Place) -> bool
         return false;
     }
     word_first(image, place, record_place(image, place.run.r))
-}
-
-// The starting value of component k, where it is the one that is scanned for it: 10.
-pub fn starting_value(image: &[u8], place: Place, k: u32) -> StartResult
-    ensures { λ r. ⌜ ((base : ℕ) → startIn (now (image .entry)) (place .text) base r ≡ startingValue k (placedAt base (unparsedIn (now (image .entry)) place) ∷ [])) ⌝ }
-{
-    if no_colon(image, place) {
-        return StartResult::None;
-    }
-    component::starting_value(image, place, k)
 }

@@ -1,11 +1,12 @@
 // Records and tokens of the record table. A record is named by the byte of the image where its entry begins.
+use common_shapes::is_dot;
 ghost use mathlib.Core.Path.{_≡_};
 ghost use mathlib.Core.Bool.{_&&_};
 ghost use Prim.Native.Nat.{_+_, _*_, _-_, _^_, _≤_, _<_};
 ghost use lib.ListN.{length};
 ghost use Rattle.def_image.specs.Image.{u32At, tables};
 ghost use Rattle.items.specs.Run.{lengthAt};
-ghost use Rattle.component_fast.specs.Table.{lenAt, plainByte, isWord, isDot, dotAt, bracketAt};
+ghost use Rattle.common_shapes.specs.Table.{lenAt, dotAt, bracketAt};
 
 // Four bytes of which none is missing: one load.
 pub(crate) fn number_at(s: &[u8], at: usize) -> u32
@@ -39,10 +40,7 @@ pub(crate) fn length_at(image: &[u8], e: usize) -> usize
     requires { ⌜ (e < 2 ^ 41) × (e + 20 ≤ length (now image)) ⌝ }
     ensures { λ n. ⌜ (n ≡ lenAt (now (image .entry)) e) × (n < 2 ^ 32) ⌝ }
 {
-    between(
-        token_tree::u32_at(image, e + 4),
-        token_tree::u32_at(image, e + 16),
-    )
+    between(number_at(image, e + 4), number_at(image, e + 16))
 }
 
 // The length of the text of record r, of any record.
@@ -55,38 +53,6 @@ pub(crate) fn whole_length(image: &[u8], r: u32, e: usize) -> usize
         return between(start, number_at(image, 12));
     }
     between(start, token_tree::u32_at(image, e + 16))
-}
-
-// A digit, or a byte above every character that a component is cut at.
-fn plain_byte(b: u8) -> bool
-    ensures { λ r. ⌜ r ≡ plainByte b ⌝ }
-{
-    if b'>' <= b {
-        return true;
-    }
-    b'0' <= b && b <= b'9'
-}
-
-// A token of two bytes or more, or of a plain one.
-pub(crate) fn is_word(kind: u32, len: usize, byte: u8) -> bool
-    ensures { λ r. ⌜ r ≡ isWord kind len byte ⌝ }
-{
-    if kind != 0 {
-        return false;
-    }
-    if len == 1 {
-        return plain_byte(byte);
-    }
-    len != 0
-}
-
-fn is_dot(kind: u32, len: usize, byte: u8) -> bool
-    ensures { λ r. ⌜ r ≡ isDot kind len byte ⌝ }
-{
-    if kind != 0 {
-        return false;
-    }
-    len == 1 && byte == b'.'
 }
 
 // Whether the record at e is a dot, its text at a byte of the image.

@@ -3,8 +3,8 @@ use mathlib.Core.Path.{_≡_, refl, sym, _∙_, ap}
 use native.Mathlib.Numerals.{add-one}
 use borrow.Author.Tests.{eq-eqb, ne-eqb}
 use Rattle.def_numbers.specs.Prelude.{ℕ, suc, _+_, Option, none, some, Bool, true, false, not, _&&_, _||_, List, _∷_, drop, leb, eqb}
-use Rattle.def_numbers.specs.Basics.{Result, ok, refused, placed}
-use Rattle.def_numbers.specs.Refusals.{refuse, numberOf, no-common-width, opposite-fillers}
+use Rattle.def_numbers.specs.Basics.{ok, refused}
+use Rattle.def_numbers.specs.Refusals.{numberOf, no-common-width}
 use Rattle.def_stages.specs.Concatenation.{Concatenation}
 use Rattle.def_stages.specs.Overall.{Overall, overallFrom, overall, placeFrom, stage4}
 use Rattle.misc.specs.declared.OptionUsize.the-variants as U
@@ -12,7 +12,7 @@ use Rattle.alignment.specs.declared.align.FillerAlign.the-variants as A
 use Rattle.concatenation.specs.declared.overall.Place.the-variants as P
 use Rattle.concatenation.specs.declared.overall.Summary.{Summary}
 use Rattle.alignment.specs.Align.{alignOf}
-use Rattle.concatenation.specs.Overall.{isOpposite, oppositeAt, commonOf, checksOf}
+use Rattle.concatenation.specs.Overall.{isOpposite, oppositeAs, oppositeAt, commonOf, checksOf}
 use Rattle.concatenation.proofs.Turns.{At}
 
 or-true : (t : Bool) → (t || true) ≡ true
@@ -38,9 +38,6 @@ align-at l i s c a e =
     let q : a .c ∷ drop (i + 1) l ≡ c ∷ drop (i + 1) l = sym (a .here) ∙ e in
     let r : a .c ≡ c = cc in
     a .has .align-is ∙ ap (λ (d : Concatenation). d .align) r
-
-abbrev oppositeAs : ℕ → Option ℕ → Result Unit
-oppositeAs i p = elim p [ none ↦ ok tt | some j ↦ placed i j (refuse opposite-fillers) ]
 
 pub opposite-as : (i : ℕ) (c : Concatenation) (later : List Concatenation) (p : Option ℕ) → placeFrom (isOpposite c) (i + 1) later ≡ p → oppositeAs i p ≡ oppositeAt i c later
 opposite-as i c later p e = let g : placeFrom (isOpposite c) (suc i) later ≡ p = rw add-one at e in ap (oppositeAs i) (sym g)

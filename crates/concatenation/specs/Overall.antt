@@ -72,9 +72,13 @@ middleAt i c = if isAlign (c .align) align-mid then elim (unboundedIn c) [ none 
 abbrev pub isOpposite : Concatenation → Concatenation → Bool
 isOpposite c d = isSided (c .align) && isSided (d .align) && not (isAlign (c .align) (d .align))
 
--- what oppositeFrom says of one concatenation and those after it
+-- what oppositeFrom says of concatenation i and the place of the first after it that is opposite to it
+abbrev pub oppositeAs : ℕ → Option ℕ → Result Unit
+oppositeAs i p = elim p [ none ↦ ok tt | some j ↦ placed i j (refuse opposite-fillers) ]
+
+-- the same of a concatenation and those after it
 abbrev pub oppositeAt : ℕ → Concatenation → List Concatenation → Result Unit
-oppositeAt i c later = elim (placeFrom (isOpposite c) (suc i) later) [ none ↦ ok tt | some j ↦ placed i j (refuse opposite-fillers) ]
+oppositeAt i c later = oppositeAs i (placeFrom (isOpposite c) (suc i) later)
 
 -- the checks of stage 4 after its loop
 abbrev pub commonOf : ℕ → Option ℕ → Result Unit

@@ -1,7 +1,6 @@
-// Stage 4 over small values (src/concatenation.rs): what the concatenations say together. Alignments and stage 3's running check are
-// passed on.
+// What stage 4 reads of a concatenation and keeps of all of them, over small values (src/concatenation.rs). Alignments and stage 3's
+// running check are passed on.
 mod overall;
-mod together;
 
 pub use alignment::FillerAlign;
 pub use alignment::align_number;
@@ -10,6 +9,10 @@ pub use overall::Overall;
 pub use overall::OverallResult;
 pub use overall::Place;
 pub use overall::Summary;
+pub use overall::after;
+pub use overall::join;
+pub use overall::opposite;
+pub use overall::start;
 pub use running_check::Advanced;
 pub use running_check::Running;
 pub use running_check::Shape;
@@ -19,4 +22,3 @@ pub use running_check::advance_value;
 pub use running_check::finish;
 pub use running_check::lent_once;
 pub use running_check::step;
-pub use together::stage4;

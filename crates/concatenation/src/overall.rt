@@ -12,7 +12,7 @@ ghost use Rattle.def_stages.specs.Concatenation.{Concatenation};
 ghost use Rattle.def_stages.specs.Overall.{joinWidth, checkSource, overall};
 ghost use Rattle.errors.specs.Refused.{resultOf};
 ghost use Rattle.misc.specs.Value.{optionUsize};
-ghost use Rattle.concatenation.specs.Overall.{overallOf, answerOf, HasSummary, StartsAs, joined as joinedOf, andThen, turn};
+ghost use Rattle.concatenation.specs.Overall.{overallOf, answerOf, HasSummary, StartsAs, joined as joinedOf, andThen, turn, placeOf, oppositeAs};
 
 // The place of a component.
 pub enum Place {
@@ -142,5 +142,19 @@ pub fn start(n: usize, s: Summary) -> Overall
         known: 0,
         deterministic: s.deterministic,
         nonzero: false,
+    }
+}
+
+// 45 for concatenation i and the first one after it that is opposite to it, if there is one.
+pub fn opposite(i: u32, later: Place) -> Checked
+    ensures { λ q. ⌜ resultOf q ≡ oppositeAs i (placeOf later) ⌝ }
+{
+    match later {
+        Place::At(j) => Checked::Refused(Refusal {
+            number: 45,
+            concatenation: i,
+            component: j,
+        }),
+        Place::None => Checked::Passed,
     }
 }

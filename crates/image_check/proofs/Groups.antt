@@ -14,7 +14,8 @@ use Rattle.def_image.specs.Image.{Entry, opens, delimiter}
 use Rattle.def_image.specs.Check.{noEntry, textRight, delimiterRight, wordRight, insideOf, closerOf, afterOf, openRight, closeRight, checkIn}
 use Rattle.laws.specs.Lists.{length-tab, getD-tab}
 use Rattle.laws.specs.Tests.{by-test, and-iff}
-use Rattle.image_check.specs.Parts.{skipRight, openerRight, answerOf, Says}
+use Rattle.record_rules.specs.Rules.{skipRight, openerRight}
+use Rattle.image_check.specs.Parts.{answerOf, Says}
 use Rattle.image_check.proofs.Answers.{firstOf, answer-stops}
 
 take-tab : (g : ℕ → Entry) (from n i : ℕ) → i ≤ n → take i (tab g from n) ≡ tab g from i

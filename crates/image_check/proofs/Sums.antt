@@ -1,10 +1,10 @@
 -- 5: entries one by one, each law one turn of a loop: what is still to come, after what was seen.
 use mathlib.Core.Path.{_≡_, refl, sym, ap, _∙_}
-use native.Mathlib.Nat.{add-zero, zero-add, add-assoc, mul-suc, mul-le-mul-left, pow-le-pow-right}
+use native.Mathlib.Nat.{add-zero, zero-add, add-assoc, mul-suc, mul-le-mul-left}
 use native.Mathlib.Numerals.{add-one}
 use native.Mathlib.Omega.{arith}
 use Prim.Native.Nat.{_<_, _≤_, _-_}
-use Rattle.def_numbers.specs.Prelude.{ℕ, suc, _+_, _*_, _^_, Bool, true, false, _&&_, List, [], _∷_, map, leb, ltb, eqb}
+use Rattle.def_numbers.specs.Prelude.{ℕ, suc, _+_, _*_, Bool, true, false, _&&_, List, [], _∷_, map, leb, eqb}
 use Rattle.def_numbers.specs.Basics.{sum, all, tab}
 use Rattle.def_image.specs.Image.{u32At, bytesFor, counts, tables, componentCount, recordCount, literalWidth}
 use Rattle.def_image.specs.Check.{sparesZero, entriesRight}
@@ -77,13 +77,6 @@ pub widths-again : (right right' spare inner : Bool) (image : List ℕ) (g : ℕ
 widths-again right right' spare inner image g l k n w literals total whole h e t s i q inv =
     let cons = widths-cons right image l (g k) (tab g (k + 1) (n - (k + 1))) total in
     rw (q, i, s, t, e) (sym (ap (λ (ws : List ℕ). right && widthsRight image l ws total) (tab-next g k n h) ∙ cons) ∙ inv)
-
--- a bit in one of eight places does not wrap
-pub in-byte : (k : ℕ) → k < 8 → 2 ^ k ≤ 256
-in-byte k l = pow-le-pow-right (omega arith) {i = k} {j = 8} (omega arith)
-
-pub below-same : (b : ℕ) {m n : ℕ} → m ≡ n → ltb b m ≡ ltb b n
-below-same b e = rw e
 
 regroup : (a b c d e f g : Bool) → (((a && b) && (c && d)) && ((e && f) && g)) ≡ ((((((a && b) && c) && d) && e) && f) && g)
 regroup a b c d e f g = rw (← and-assoc (a && b) c d, ← and-assoc ((a && b) && c && d) (e && f) g, ← and-assoc ((a && b) && c && d) e f)

@@ -13,13 +13,13 @@ use Rattle.token_tree.specs.declared.Counts.{Counts}
 use Rattle.token_tree.specs.declared.Tables.{Tables}
 use Rattle.token_tree.specs.Tables.{countsOf, tablesOf, entryIn}
 use Rattle.image_check.specs.declared.records.Places.{Places}
-use Rattle.image_check.specs.Parts.{countsIn, offsetsIn, Laid, entryOn, placesOf, Says, records}
+use Rattle.image_check.specs.Parts.{countsIn, offsetsIn, Laid, placesOf, Says, records}
 use Rattle.image_check.proofs.Answers.{firstOf, Stops}
 use Rattle.image_check.proofs.Sums.{tab-next, tab-end}
 
 -- ---- components
 pub own : (image : List ℕ) (p : Places) (from count : ℕ) (x : Result Unit) → p ≡ placesOf image
-    → Says (p .t) (entryOn image p) 0 from count x → x ≡ checkIn ((counts image) .t) count (tab (entryAt image) from count) 0
+    → Says (p .t) (entryIn image (p .records) (p .text) (p .count) (p .t)) 0 from count x → x ≡ checkIn ((counts image) .t) count (tab (entryAt image) from count) 0
 unfolding entryIn
 own image p from count x e = rw e (λ says. says count (omega arith))
 

@@ -1,18 +1,18 @@
 -- The parts of the image check, over numbers that were read already. Each is the definition's own where it is given what the image says.
 use mathlib.Core.Path.{_≡_}
-use Prim.Native.Nat.{_≤_, _<_}
-use Rattle.def_numbers.specs.Prelude.{ℕ, _+_, _*_, _/_, _%_, _^_, Bool, true, _&&_, List, map, length, getD, leb, ltb, eqb}
+use Prim.Native.Nat.{_≤_}
+use Rattle.def_numbers.specs.Prelude.{ℕ, _+_, _*_, _/_, _^_, Bool, _&&_, List, map, length, getD, leb, eqb}
 use Rattle.def_numbers.specs.Basics.{Result, ok, refused, _>>=_, if_then_else_, within, sum, all, tab}
 use Rattle.def_numbers.specs.Limits.{limits}
 use Rattle.def_numbers.specs.Refusals.{need, bad-record}
-use Rattle.def_image.specs.Image.{u32At, bytesFor, counts, tables, recordCount, startAt, Entry, kinds, opens, delimiter}
-use Rattle.def_image.specs.Check.{sparesZero, textRight, delimiterRight, checkIn, checkComponents}
+use Rattle.def_image.specs.Image.{u32At, bytesFor, counts, tables, recordCount, startAt, Entry}
+use Rattle.def_image.specs.Check.{sparesZero, checkIn, checkComponents}
 use Rattle.token_tree.specs.declared.Counts.{Counts}
 use Rattle.token_tree.specs.declared.Tables.{Tables}
-use Rattle.token_tree.specs.Tables.{countsOf, tablesOf, entryIn}
+use Rattle.token_tree.specs.Tables.{countsOf, tablesOf}
+use Rattle.record_rules.specs.declared.Numbers.{Numbers}
+use Rattle.record_rules.specs.Rules.{spareBits, entryWith}
 use Rattle.image_check.specs.declared.records.Places.{Places}
-use Rattle.image_check.specs.declared.records.Numbers.{Numbers}
-use Rattle.image_check.specs.declared.records.Delimiter.{Delimiter}
 
 -- 3 and 4
 abbrev pub countsIn : record { c : ℕ; n : ℕ; r : ℕ; t : ℕ; b : ℕ } → Bool
@@ -42,37 +42,20 @@ widthsRight image l widths total =
     all (λ w. leb w (limits .width)) widths && eqb (l + sum (map bytesFor widths)) total && sparesZero image l widths
 
 abbrev pub spareZero : List ℕ → ℕ → ℕ → Bool
-spareZero image at w = if eqb (w % 8) 0 then true else ltb (getD image (at + w / 8) 0) (2 ^ (w % 8))
+spareZero image at w = spareBits (getD image (at + w / 8) 0) w
 
--- 6 and 7: record k of an image whose tables stand at these places
-abbrev pub entryOn : List ℕ → Places → ℕ → Entry
-entryOn image p k = entryIn image (p .records) (p .text) (p .count) (p .t) k
-
+-- 6 and 7: where the definition finds the records and their texts
 abbrev pub placesOf : List ℕ → Places
 placesOf image = record { records = (tables image) .records; text = (tables image) .text; count = (counts image) .r; t = (counts image) .t }
 
--- every record stands in the image, and neither a record's number nor a place in the text wraps
-pub record Fits (image : List ℕ) (p : Places) : Type 0 where
-  pub count : p .count < 2 ^ 32
-  pub records : p .records + 12 * p .count ≤ length image
-  pub text : p .text ≤ 2 ^ 40
+-- all records stand in the image, and no place in the text wraps
+pub record Fits (image : List ℕ) (records text all : ℕ) : Type 0 where
+  pub inside : records + 12 * all ≤ length image
+  pub low : text ≤ 2 ^ 40
 
--- a record's numbers with the first byte of its text, and with the one that stands in the image
-abbrev pub entryWith : Numbers → ℕ → Entry
-entryWith e byte = record { kind = e .kind; start = e .start; stop = e .stop; skip = e .skip; byte = byte }
-
-abbrev pub entryFrom : List ℕ → Places → Numbers → Entry
-entryFrom image p e = entryWith e (getD image (p .text + e .start) 0)
-
-abbrev pub delimiterOf : Delimiter → record { opening : ℕ; closing : ℕ }
-delimiterOf d = record { opening = d .opening; closing = d .closing }
-
--- an opener whose skip stays in the records that are left; and then its text, with its closer's kind
-abbrev pub skipRight : Entry → ℕ → Bool
-skipRight e left = opens (e .kind) && leb 2 (e .skip) && leb (e .skip) left
-
-abbrev pub openerRight : ℕ → Entry → Entry → Bool
-openerRight t e closer = textRight t e && delimiterRight ((delimiter (e .kind)) .opening) e && eqb (closer .kind) (kinds .closer)
+-- a record's numbers with the first byte of its text, where the texts stand at `text`
+abbrev pub entryFrom : List ℕ → ℕ → Numbers → Entry
+entryFrom image text e = entryWith e (getD image (text + e .start) 0)
 
 -- an answer as a number: 0 passed, any other refuses
 abbrev pub answerOf : ℕ → Result Unit

@@ -1,6 +1,6 @@
 // 5: concatenation and component entries, their sums, and the literals' spare bits.
-use crate::both;
 use crate::four_at;
+use record_rules::both;
 use token_tree::Counts;
 use token_tree::Tables;
 ghost use mathlib.Core.Path.{_≡_};
@@ -30,7 +30,7 @@ fn sizes_right(image: &[u8], from: usize, step: usize, n: u32, total: u32) -> bo
     both(right, sum == (total as u64))
 }
 
-// Whether the bits of a last byte above the width are zero.
+// Whether the bits of a last byte above the width are zero. A width of whole bytes has none, and no byte is read.
 fn spare_right(image: &[u8], at: usize, w: u32) -> bool
     requires { ⌜ at ≤ 2 ^ 62 ⌝ }
     ensures { λ r. ⌜ r ≡ spareZero (now (image .entry)) at w ⌝ }
@@ -38,8 +38,7 @@ fn spare_right(image: &[u8], at: usize, w: u32) -> bool
     if w % 8 == 0 {
         return true;
     }
-    let last = token_tree::byte_at(image, at + (w as usize) / 8);
-    (last as u32) < (1u32 << (w % 8))
+    record_rules::spare_zero(token_tree::byte_at(image, at + (w as usize) / 8), w)
 }
 
 fn widths_right(image: &[u8], components: usize, literals: usize, n: u32, total: u32) -> bool

@@ -4,31 +4,19 @@ mod entries;
 mod records;
 
 use errors::Checked;
+use record_rules::between;
+use record_rules::both;
 use token_tree::Counts;
 use token_tree::Tables;
 ghost use mathlib.Core.Path.{_≡_};
-ghost use mathlib.Core.Bool.{_&&_};
 ghost use Prim.Native.Nat.{_+_, _≤_};
 ghost use lib.Dec.{eqb};
 ghost use lib.ListN.{length};
-ghost use Rattle.def_numbers.specs.Basics.{within};
-ghost use Rattle.def_image.specs.Image.{u32At};
+ghost use Rattle.def_image.specs.Image.{u32At, counts};
 ghost use Rattle.def_image.specs.Check.{checkImage};
 ghost use Rattle.errors.specs.Refused.{resultOf};
 ghost use Rattle.token_tree.specs.Tables.{countsOf, tablesOf};
 ghost use Rattle.image_check.specs.Parts.{countsIn, offsetsIn};
-
-fn both(a: bool, b: bool) -> bool
-    ensures { λ r. ⌜ r ≡ (a && b) ⌝ }
-{
-    if a { b } else { false }
-}
-
-fn between(lo: u32, hi: u32, n: u32) -> bool
-    ensures { λ r. ⌜ r ≡ within lo hi n ⌝ }
-{
-    both(lo <= n, n <= hi)
-}
 
 // Four bytes that are all there.
 fn four_at(s: &[u8], at: usize) -> u32
@@ -36,6 +24,20 @@ fn four_at(s: &[u8], at: usize) -> u32
     ensures { λ r. ⌜ r ≡ u32At (now (s .entry)) at ⌝ }
 {
     token_tree::join4(s[at], s[at + 1], s[at + 2], s[at + 3])
+}
+
+// The header's counts. Called from one place, so that it is inlined and they stay in registers.
+fn header(image: &[u8]) -> Counts
+    requires { ⌜ 40 ≤ length (now image) ⌝ }
+    ensures { λ r. ⌜ countsOf r ≡ counts (now (image .entry)) ⌝ }
+{
+    Counts {
+        c: four_at(image, 0),
+        n: four_at(image, 4),
+        r: four_at(image, 8),
+        t: four_at(image, 12),
+        b: four_at(image, 16),
+    }
 }
 
 fn counts_right(h: Counts) -> bool
@@ -78,11 +80,11 @@ pub fn check_image(image: &[u8]) -> Checked
     if image.len() < 40 {
         return Checked::Refused(errors::refuse(2));
     }
-    let h = token_tree::counts_of(image);
+    let h = header(image);
     if !counts_right(h) {
         return Checked::Refused(errors::refuse(3));
     }
-    let at = token_tree::tables_of(image);
+    let at = token_tree::tables_for(h);
     if !offsets_right(image, at) {
         return Checked::Refused(errors::refuse(4));
     }

@@ -7,8 +7,8 @@ use Rattle.def_numbers.specs.Prelude.{ℕ, suc, _+_, _-_, List}
 use Rattle.def_image.specs.Image.{entryAt}
 use Rattle.items.specs.Run.{lengthAt, lengthOf}
 use Rattle.items.specs.First.{length-suc}
-use Rattle.token_tree.specs.Tables.{entryOf}
-use Rattle.token_tree.specs.declared.RecordEntry.{RecordEntry}
+use Rattle.table_walker.specs.Entries.{entryOf}
+use Rattle.table_walker.specs.declared.RecordEntry.{RecordEntry}
 
 pub length-none : (image : List ℕ) (r : ℕ) → lengthOf image r 0 ≡ 0
 unfolding lengthOf

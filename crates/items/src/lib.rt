@@ -62,7 +62,7 @@ fn between(start: u32, stop: u32) -> usize
 fn length_at(image: &[u8], r: u32) -> usize
     ensures { λ n. ⌜ (n ≡ lengthAt (now (image .entry)) r) × (n < 2 ^ 32) ⌝ }
 {
-    let e = token_tree::read_entry(image, PBind(r));
+    let e = table_walker::read_entry(image, PBind(r));
     between(e.start.0, e.stop.0)
 }
 
@@ -102,7 +102,7 @@ fn first_of(image: &[u8], text: usize, run: Run) -> Next
     requires { ⌜ Reach text run × (0 < run .left) ⌝ }
     ensures { λ r. ⌜ NextIs (now (image .entry)) text run r ⌝ }
 {
-    let e = token_tree::read_entry(image, PBind(run.r));
+    let e = table_walker::read_entry(image, PBind(run.r));
     let m = more_in(e.kind, e.skip, run.left - 1);
     let head = between(e.start.0, e.stop.0);
     let len = head + length_of(image, run.r + 1, m);

@@ -1,5 +1,5 @@
 // The program of document 01: reads standard input, one mode byte and an image, and prints the listing. What it prints for an input is
-// proved of `layout_answer::answer`; here it is only read and written.
+// proved of `layout_run::answer`; here it is only read and written.
 //
 // Where a read or a write fails, the reason goes to standard error. After a failed read nothing is printed. (Rattle has no exit status,
 // so the status is 0 even then.)
@@ -62,7 +62,7 @@ fn answer(buf: &[u8], n: usize) {
         return;
     }
     let mut out = listing_buffer();
-    match layout_answer::answer(&buf[..n], &mut out) {
+    match layout_run::answer(&buf[..n], &mut out) {
         Written::Whole(m) => print_listing(&out, m),
         Written::Cut => {}
     }

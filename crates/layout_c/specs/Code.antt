@@ -1,13 +1,10 @@
--- The outcome of a run as one number: the answer's length, or number · 2^32 + concatenation · 2^16 + component.
-use Rattle.def_numbers.specs.Prelude.{ℕ, _+_, _*_, _^_, List, length, leb}
-use Rattle.def_numbers.specs.Basics.{Result, ok, refused, if_then_else_}
+-- What the functions for C promise.
+use Rattle.def_numbers.specs.Prelude.{ℕ, List, length, leb}
+use Rattle.def_numbers.specs.Basics.{if_then_else_}
 use Rattle.def_run.specs.Listing.{output}
 use Rattle.listing.specs.Outcomes.{filled}
 use Rattle.layout_run.specs.Ran.{ranOn}
-
-abbrev pub codeOf : Result ℕ → ℕ
-codeOf (ok n) = n
-codeOf (refused number concatenation component) = number * 2 ^ 32 + concatenation * 2 ^ 16 + component
+use Rattle.outcome_code.specs.Code.{codeOf}
 
 -- what a run on a lent area comes to, as one number, and the area afterwards
 abbrev pub codedOn : List ℕ → ℕ → List ℕ → ℕ × List ℕ

@@ -18,7 +18,7 @@ use Rattle.answer_fits.specs.Accepts.{run-accepts}
 use Rattle.answer_fits.specs.Proved.{answer-fits}
 use Rattle.refusal_places.specs.Run.{refusal-places}
 use Rattle.refusal_places.specs.Witness.{variable, literal}
-use Rattle.layout_c.specs.Code.{codeOf}
+use Rattle.outcome_code.specs.Code.{codeOf}
 
 -- the header's macros
 abbrev pub numberIn : ℕ → ℕ
@@ -69,6 +69,17 @@ refused-split image mode area n i k e =
     let (most, least, concatenation, component) = refusal-places image mode area n i k e in
     let code : codeOn image mode area ≡ n * 2 ^ 32 + i * 2 ^ 16 + k = ap (λ (r : Result (List ℕ)). codeOf (r >>= λ b. ok (length b))) e in
     let (a, b, c) = split n i k (omega arith) (omega arith) (codeOn image mode area) code in (omega (arith, code, least), a, b, c)
+
+-- the number fits 64 bits
+pub code-small : (image : List ℕ) (mode area : ℕ) → codeOn image mode area < 2 ^ 64
+code-small image mode area = go (run image mode area) refl
+  where
+    go : (r : Result (List ℕ)) → run image mode area ≡ r → codeOn image mode area < 2 ^ 64
+    go (ok bytes) e = let s = accepted-split image mode area bytes e in omega (arith, s .1)
+    go (refused n i k) e =
+        let (most, least, concatenation, component) = refusal-places image mode area n i k e in
+        let code : codeOn image mode area ≡ n * 2 ^ 32 + i * 2 ^ 16 + k = ap (λ (r : Result (List ℕ)). codeOf (r >>= λ b. ok (length b))) e in
+        omega (arith, code)
 
 -- ---- closed examples of both
 

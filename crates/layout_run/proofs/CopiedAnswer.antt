@@ -2,59 +2,32 @@
 use mathlib.Core.Path.{_≡_, refl, sym, ap, _∙_}
 use Prim.Native.Nat.{_≤_, _<_}
 use native.Mathlib.Omega.{arith}
-use lib.Seq.{sets, length-sets, length-take-le}
-use Rattle.def_numbers.specs.Prelude.{ℕ, _+_, _*_, Bool, true, Option, none, List, [], _++_, length, getD, take, drop}
+use lib.Seq.{sets, length-sets}
+use Rattle.def_numbers.specs.Prelude.{ℕ, _+_, _*_, Bool, true, Option, none, List, length, getD, take, drop}
 use Rattle.def_numbers.specs.Basics.{joined}
 use Rattle.def_image.specs.Image.{Placed, counts}
 use Rattle.def_stages.specs.Component.{Component}
 use Rattle.def_stages.specs.Concatenation.{alignNumber}
 use Rattle.def_stages.specs.Overall.{stage4}
-use Rattle.def_run.specs.Answer.{Answer, components, headBytes, componentsBytes, answerBytes}
-use Rattle.misc.specs.Value.{optionUsize}
-use Rattle.misc.specs.declared.OptionUsize.{OptionUsize}
-use Rattle.answer.specs.Heads.{initOf, IsHead}
-use Rattle.answer.specs.Sizes.{length-head}
+use Rattle.def_run.specs.Answer.{Answer, components, componentsBytes, answerBytes}
+use Rattle.answer.specs.Heads.{IsHead}
 use Rattle.answer.specs.declared.Init.the-variants.{Missing}
 use Rattle.answer_fits.specs.Fixed.{AllFixed}
 use Rattle.answer_fits.specs.Statement.{literalsOf, Fits}
 use Rattle.concatenation.specs.Align.{alignOf}
 use Rattle.concatenation.specs.Overall.{answerOf}
 use Rattle.concatenation.specs.declared.overall.OverallResult.the-variants as R
-use Rattle.token_tree.specs.Tables.{countsOf}
-use Rattle.token_tree.specs.declared.Counts.{Counts}
-use Rattle.stage5.specs.Put.{Room}
-use Rattle.layout_run.specs.Common.{beside, widthOf, OnePass, CommonIs}
-use Rattle.layout_run.specs.Copied.{CopyRoom, CopiedIs}
-use Rattle.layout_run.specs.Judged.{givenOf}
+use Rattle.merging.specs.Put.{Room}
+use Rattle.run_parts.specs.Common.{beside, widthOf, OnePass}
+use Rattle.run_parts.specs.Copied.{CopyRoom, CopiedIs}
+use Rattle.layout_run.specs.Judged.{givenOf, CommonIs}
 use Rattle.layout_run.specs.Order.{Admitted}
-use Rattle.layout_run.specs.Written.{mergedAll, answerFrom, Fitting}
-use Rattle.layout_run.specs.declared.pass.All.{All}
+use Rattle.run_parts.specs.Written.{mergedAll, answerFrom, Fitting}
+use Rattle.run_parts.specs.declared.All.{All}
 use Rattle.layout_run.proofs.Copying.{first-of, second-of, only-of}
-use Rattle.layout_run.proofs.Heads.{blocks}
+use Rattle.run_parts.proofs.Heads.{blocks}
 use Rattle.layout_run.proofs.Outcomes.{few-counts, fits, fitting, fixed, written-accepted}
-use Rattle.layout_run.proofs.Whole.{parts, are-read, long-merged, heads-long, comps-long, is-head, answer-is, sized}
-
--- a length beside the area for so many components and literal bytes
-pub room-for : (h : Counts) (image : List ℕ) → countsOf h ≡ counts image → (n b : ℕ) → h .n ≤ n → h .b ≤ b → 72 * h .n + (counts image) .b ≤ 72 * n + b
-room-for h image e n b p q = let z : h .b ≡ (counts image) .b = ap (λ k. k .b) e in omega arith
-
--- the head, and the three parts behind it
-pub copied-is : (before m₁ m₂ m₃ after heads out : List ℕ) (count n : ℕ) (a : All) → CopyRoom (length before) (length heads) (length out) count n (a .w)
-    → (number : ℕ) (width : OptionUsize) → ((k : ℕ) → a .w .at ≡ 0 + 72 * k → k < 4294967296 → number ≡ k) → optionUsize width ≡ widthOf (a .width)
-    → ((image : List ℕ) (text : ℕ) (x : Answer) → IsHead count number 0 true (a .nonzero) (optionUsize width) (initOf image text Missing) x → m₁ ≡ sets before 0 (headBytes x))
-    → m₂ ≡ sets m₁ 32 (take (20 * count) heads) → m₃ ≡ sets m₂ (32 + 20 * count) (take (72 * number) out)
-    → after ≡ sets m₃ (32 + 20 * count + 72 * number) (take (a .w .offset) (drop (72 * n) out))
-    → CopiedIs heads out count n a (32 + 20 * count + 72 * number + a .w .offset) before after
-copied-is before m₁ m₂ m₃ after heads out count n a room number width are wide head p₂ p₃ p₄ = λ merged at answer is.
-    let p = room .at-is in
-    let few = room .few in
-    let m : number ≡ merged = are merged (omega arith) (omega arith) in
-    let h = room .head-blocks in
-    let b = room .blocks in (
-      parts before m₁ m₂ m₃ after (headBytes answer) (take (20 * count) heads) (take (72 * merged) out) (take (a .w .offset) (drop (72 * n) out)) count merged (length-head answer)
-          (length-take-le (20 * count) heads h) (length-take-le (72 * merged) out (omega arith)) (head [] 0 answer (rw (m, wide) is)) p₂ (rw m at p₃) (rw m at p₄),
-      omega arith,
-    )
+use Rattle.run_parts.proofs.Whole.{are-read, long-merged, heads-long, comps-long, is-head, answer-is, sized}
 
 -- the head that is written is the answer's
 same-head : (count total : ℕ) {d e z y : Bool} {w v : Option ℕ} → d ≡ e → z ≡ y → w ≡ v → (a : Answer) → IsHead count total 0 d z w none a → IsHead count total 0 e y v none a

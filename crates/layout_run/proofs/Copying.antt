@@ -1,23 +1,12 @@
--- Bytes of one list written into another: byte by byte, and what stands there afterwards.
-use mathlib.Core.Path.{_≡_, refl, sym, ap, _∙_}
-use Prim.Native.Nat.{_≤_, _<_}
-use native.Mathlib.Numerals.{add-one}
+-- What stands in a list where others were written into it.
+use mathlib.Core.Path.{_≡_, ap, _∙_}
+use Prim.Native.Nat.{_≤_}
 use native.Mathlib.Omega.{arith}
-use lib.ListN.{set, length-drop}
-use lib.Seq.{sets, length-sets, length-take-le, take-at, take-suc, getD-drop}
-use Rattle.def_numbers.specs.Prelude.{ℕ, _+_, _-_, List, [], _∷_, _++_, length, getD, take, drop}
+use lib.ListN.{length-drop}
+use lib.Seq.{sets, length-sets, take-at}
+use Rattle.def_numbers.specs.Prelude.{ℕ, _+_, _-_, List, length, take, drop}
 use Rattle.laws.specs.Sets.{sets-front}
-use Rattle.answer.specs.Writing.{and-then}
-use Rattle.stage5.specs.Blocks.{take-sets, drop-sets}
-
--- one byte more
-pub copy-next : (l : List ℕ) (at : ℕ) (s : List ℕ) (from i : ℕ) (m : List ℕ) → from + i < length s → m ≡ sets l at (take i (drop from s))
-    → set m (at + i) (getD s (from + i) 0) ≡ sets l at (take (i + 1) (drop from s))
-copy-next l at s from i m h e =
-    let left : length (drop from s) ≡ length s - from = length-drop from s in
-    let one : take (i + 1) (drop from s) ≡ take i (drop from s) ++ (getD s (from + i) 0 ∷ []) =
-    ap (λ (k : ℕ). take k (drop from s)) (add-one i) ∙ take-suc (drop from s) i 0 (omega arith) ∙ ap (λ (x : ℕ). take i (drop from s) ++ (x ∷ [])) (getD-drop from s i 0) in
-    and-then l at i (take i (drop from s)) (getD s (from + i) 0 ∷ []) e (length-take-le i (drop from s) (omega arith)) refl ∙ ap (sets l at) (sym one)
+use Rattle.merging.specs.Blocks.{take-sets, drop-sets}
 
 -- what is written from the front is read from there
 take-front : (l bs : List ℕ) (k : ℕ) → length bs ≡ k → k ≤ length l → take k (sets l 0 bs) ≡ bs

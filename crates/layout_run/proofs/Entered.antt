@@ -1,9 +1,11 @@
 -- From what each part says to what the whole says: the checks before the stages, the starting value, and stage 3.
 use mathlib.Core.Path.{_≡_, sym, ap, _∙_}
-use Prim.Native.Nat.{_<_}
+use Prim.Native.Nat.{_≤_, _<_}
+use native.Mathlib.Omega.{arith}
 use Rattle.def_numbers.specs.Prelude.{ℕ, List, getD, length}
 use Rattle.def_numbers.specs.Basics.{Result, ok}
 use Rattle.def_image.specs.Image.{Placed, counts, treeOf}
+use Rattle.def_image.specs.Check.{checkImage}
 use Rattle.def_stages.specs.Component.{Component}
 use Rattle.def_stages.specs.Concatenation.{stage3}
 use Rattle.def_run.specs.Run.{stages, run}
@@ -15,16 +17,17 @@ use Rattle.answer.specs.Heads.{initOf}
 use Rattle.answer.specs.declared.Init.the-variants as I
 use Rattle.token_tree.specs.Tables.{countsOf}
 use Rattle.token_tree.specs.declared.Counts.{Counts}
-use Rattle.tree.specs.Cursor.{firstIn}
-use Rattle.tree.specs.Read.{readFrom, readAll, startAll}
+use Rattle.cursor.specs.Cursor.{firstIn}
+use Rattle.cursor.specs.Read.{readFrom, readAll, startAll}
 use Rattle.tree.specs.Start.{startOf, sourceText}
 use Rattle.tree.specs.declared.start.Start.{Start}
 use Rattle.tree.specs.declared.start.Start.the-variants as S
 use Rattle.usb.specs.declared.Part.{Part}
-use Rattle.layout_run.specs.Found.{Found, StageIs}
+use Rattle.run_parts.specs.Found.{Found, StageIs}
 use Rattle.admission.specs.Asked.{admittedOf}
 use Rattle.layout_run.specs.Order.{stagesIn, bytesOf, cameTo, Admitted, run-after, admitted, stages-in}
-use Rattle.layout_run.specs.declared.concatenations.Stage3.{Stage3}
+use Rattle.run_parts.specs.declared.Stage3.{Stage3}
+use Rattle.layout_run.proofs.Outcomes.{few-counts}
 
 -- ---- the checks before the stages
 
@@ -56,6 +59,13 @@ module _ (image : List ℕ) (s : Start) (said : startOf image s ≡ startAll ima
   bad-start q e = sym (ap (startOf image) e) ∙ said
 
 -- ---- stage 3
+
+-- of a checked image
+pub few-h : (image : List ℕ) (h : Counts) → countsOf h ≡ counts image → checkImage image ≡ ok tt → h .c ≤ 16
+few-h image h e k =
+    let f = few-counts image k .0 in
+    let c = ap (λ x. x .c) e in
+    omega arith
 
 module _ (image : List ℕ) (h : Counts) (e : countsOf h ≡ counts image) (t : Stage3) (said : StageIs image (h .c) (h .n) t) where
   pub stage-found : t .checked ≡ C.Passed → Found image (h .c) (h .n) (t .cs) (t .sizes) (t .merged)

@@ -3,7 +3,7 @@ use mathlib.Core.Path.{_≡_, refl, sym, ap₂, _∙_}
 use Prim.Native.Nat.{_≤_, _<_}
 use native.Mathlib.Omega.{arith}
 use lib.Seq.{sets}
-use Rattle.def_numbers.specs.Prelude.{ℕ, _&&_, true, false, Option, none, some, List, map, length, getD, leb}
+use Rattle.def_numbers.specs.Prelude.{ℕ, _+_, _*_, _&&_, true, false, Option, none, some, List, map, length, getD, leb}
 use Rattle.def_numbers.specs.Basics.{Result, ok, refused, _>>=_, within, joined}
 use Rattle.def_image.specs.Image.{Placed, counts}
 use Rattle.def_image.specs.Check.{checkImage}
@@ -27,15 +27,15 @@ use Rattle.concatenation.specs.declared.overall.Overall as Code
 use Rattle.concatenation.specs.declared.overall.OverallResult.{OverallResult}
 use Rattle.concatenation.specs.declared.overall.OverallResult.the-variants as R
 use Rattle.cut_stages.specs.Statement.{later}
-use Rattle.tree.specs.Checked.{checked-parts}
-use Rattle.tree.specs.Pass.{passed, andThen}
-use Rattle.tree.specs.Read.{readAll, startAll}
-use Rattle.tree.specs.Stages.{stage1All}
-use Rattle.layout_run.specs.Found.{Found}
+use Rattle.cursor.specs.Checked.{checked-parts}
+use Rattle.cursor.specs.Pass.{passed, andThen}
+use Rattle.cursor.specs.Read.{readAll, startAll}
+use Rattle.cursor.specs.Stages.{stage1All}
+use Rattle.run_parts.specs.Found.{Found}
 use Rattle.layout_run.specs.Judged.{givenOf}
 use Rattle.layout_run.specs.Order.{inTurn, stagesIn, bytesOf, cameTo, Admitted, stages-in, reads-in, read-then}
-use Rattle.layout_run.specs.Written.{answerFrom, Fitting, WriteIs}
-use Rattle.layout_run.specs.declared.concatenations.Stage3.{Stage3}
+use Rattle.run_parts.specs.Written.{answerFrom, Fitting, WriteIs}
+use Rattle.run_parts.specs.declared.Stage3.{Stage3}
 
 -- a refusal is the outcome, and leaves the area
 came-refused : (before : List ℕ) (m : Result Answer) (q : Refusal) → m ≡ refusedAs q → _≡_ {A = Result ℕ × List ℕ} (refusedAs q, before) (cameTo before (bytesOf m))
@@ -52,6 +52,10 @@ few c n r t b h = let q = simp tested at h in (omega arith, omega arith, omega a
 
 pub few-counts : (image : List ℕ) → checkImage image ≡ ok tt → ((counts image) .c ≤ 16) × ((counts image) .n ≤ 256) × ((counts image) .b ≤ 8192)
 few-counts image h = let k = counts image in few (k .c) (k .n) (k .r) (k .t) (k .b) (checked-parts image h .0)
+
+-- the room that every image finds beside the area
+pub most-beside : (n k b : ℕ) → n ≡ k → k ≤ 256 → b ≤ 8192 → 72 * n + b ≤ 26624
+most-beside n k b e p q = omega arith
 
 given-is : (image : List ℕ) (text : ℕ) (init : Init) → (elim (initOf image text init) [ none ↦ false | some q ↦ true ]) ≡ givenOf init
 given-is image text (Given base p) = refl

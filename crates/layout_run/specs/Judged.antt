@@ -1,17 +1,19 @@
 -- What each function above the stages promises: the outcome and the area are those of the stages over the image.
 use mathlib.Core.Path.{_≡_}
 use mathlib.Core.Bool.{Bool, true, false}
+use Prim.Native.Nat.{_<_}
 use Rattle.def_numbers.specs.Prelude.{ℕ, List}
 use Rattle.def_numbers.specs.Basics.{ok}
 use Rattle.answer.specs.Heads.{initOf}
 use Rattle.answer.specs.declared.Init.{Init}
 use Rattle.answer.specs.declared.Init.the-variants.{Given, Missing}
+use Rattle.listing.specs.Outcomes.{outcomeOf}
 use Rattle.listing.specs.declared.Outcome.{Outcome}
-use Rattle.tree.specs.Read.{startAll}
-use Rattle.layout_run.specs.declared.concatenations.Stage3.{Stage3}
-use Rattle.layout_run.specs.Found.{Found}
+use Rattle.listing.specs.declared.Outcome.the-variants.{Accepted}
+use Rattle.cursor.specs.Read.{startAll}
+use Rattle.run_parts.specs.declared.Stage3.{Stage3}
+use Rattle.run_parts.specs.Found.{Found}
 use Rattle.layout_run.specs.Order.{stagesIn, bytesOf, cameTo}
-use Rattle.layout_run.specs.Ran.{outcomeOf}
 
 abbrev pub givenOf : Init → Bool
 givenOf (Given base p) = true
@@ -28,3 +30,7 @@ StartedIs image mode init o before after = (text : ℕ) → startAll image ≡ o
 -- and what stage 3 found
 abbrev pub JudgedIs : List ℕ → ℕ → Init → ℕ → ℕ → Stage3 → Outcome → List ℕ → List ℕ → Type 0
 JudgedIs image mode init count n t o before after = Found image count n (t .cs) (t .sizes) (t .merged) → StartedIs image mode init o before after
+
+-- 0, and the area is as it was; or the length of the answer, which stands in the area
+abbrev pub CommonIs : List ℕ → ℕ → ℕ → List ℕ → List ℕ → Type 0
+CommonIs image mode r before after = (r ≡ 0 → after ≡ before) × (0 < r → StagesIs image mode (Accepted r) before after)

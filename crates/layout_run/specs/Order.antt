@@ -17,10 +17,10 @@ use Rattle.admission.specs.Asked.{admittedOf}
 use Rattle.cut_stages.specs.Statement.{later}
 use Rattle.stages_read.specs.Statement.{both}
 use Rattle.stages_read.specs.Proved.{stages-read, read-first}
-use Rattle.tree.specs.Pass.{passed, andThen}
-use Rattle.tree.specs.Stages.{stage1All}
-use Rattle.tree.specs.Read.{readAll, startAll}
-use Rattle.tree.specs.Checked.{example, example-checked, checked-parts, read-checked, stage1-checked, start-checked}
+use Rattle.cursor.specs.Pass.{passed, andThen}
+use Rattle.cursor.specs.Stages.{stage1All}
+use Rattle.cursor.specs.Read.{readAll, startAll}
+use Rattle.cursor.specs.Checked.{example, example-checked, checked-parts, read-checked, stage1-checked, start-checked}
 
 -- a refusal of stage 3: "each over the whole tree before the next", so stage 1's comes first, then stage 2's
 abbrev pub inTurn : List ℕ → Result Unit → Result Unit

@@ -2,14 +2,6 @@
 use Rattle.def_numbers.specs.Prelude.{ℕ, List, length}
 use Rattle.def_numbers.specs.Basics.{Result, ok, _>>=_}
 use Rattle.def_run.specs.Run.{run, areaAfter}
-use Rattle.errors.specs.Refused.{refusedAs}
-use Rattle.listing.specs.declared.Outcome.{Outcome}
-use Rattle.listing.specs.declared.Outcome.the-variants.{Accepted, Refused}
-
--- an outcome: the length of the answer, or a refusal
-abbrev pub outcomeOf : Outcome → Result ℕ
-outcomeOf (Accepted n) = ok n
-outcomeOf (Refused q) = refusedAs q
 
 -- what a run on a lent area comes to, and the area afterwards
 abbrev pub ranOn : List ℕ → ℕ → List ℕ → Result ℕ × List ℕ

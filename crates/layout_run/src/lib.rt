@@ -1,25 +1,26 @@
 // The whole run (document 01): the mode, the image check, the area's length, and stages 1 to 5. The area is written only when
 // nothing can refuse any more.
 mod common;
-mod concatenations;
-mod pass;
-mod write;
+mod output;
+mod stages;
 
 use answer::Init;
 use common::common;
 use concatenation::OverallResult;
-use concatenations::Stage3;
-use concatenations::check_all;
-use concatenations::in_turn;
 use errors::Checked;
 use listing::Outcome;
+pub use output::answer;
+use run_parts::Stage3;
+use stage3::check_all;
+use stage5::write_answer;
+use stages::in_turn;
 use tree::Start;
-use write::write_answer;
 ghost use mathlib.Core.Path.{_≡_};
 ghost use lib.ListN.{length};
 ghost use Rattle.def_image.specs.Image.{counts};
+ghost use Rattle.listing.specs.Outcomes.{outcomeOf};
 ghost use Rattle.layout_run.specs.Order.{Admitted};
-ghost use Rattle.layout_run.specs.Ran.{outcomeOf, ranOn};
+ghost use Rattle.layout_run.specs.Ran.{ranOn};
 ghost use Rattle.layout_run.specs.Judged.{givenOf, JudgedIs, StartedIs, StagesIs};
 
 fn is_given(init: Init) -> bool
@@ -45,7 +46,7 @@ fn judged(
     ensures { λ o. ⌜ JudgedIs (now (image .entry)) mode init count n t o (now (area .entry)) (now (area .exit)) ⌝ }
 {
     let cs = t.cs;
-    match concatenation::stage4(mode, is_given(init), cs, count as usize) {
+    match stage4::stage4(mode, is_given(init), cs, count as usize) {
         OverallResult::Ok(o) => Outcome::Accepted(write_answer(area, image, count, n, t, o, init)),
         OverallResult::Refused(q) => Outcome::Refused(q),
     }

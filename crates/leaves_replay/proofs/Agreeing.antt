@@ -16,3 +16,6 @@ agreeing (Some w) found high low e =
     ∙ ap (λ (b : ℕ). some (valueOf (record { high = high; low = b }))) ((eqb-iff (w .low) low) .0 l))
 agreeing None found high low e =
     rw ((eqb-iff found 0) .0 ((and-iff (eqb found 0) (eqb high 0 && eqb low 0)) .0 e .0)) refl
+
+pub told-alike : (f g h i l m : ℕ) → f ≡ g → h ≡ i → l ≡ m → toldBy f h l ≡ toldBy g i m
+told-alike f g h i l m p q r = rw (p, q, r)

@@ -1,15 +1,14 @@
 -- The words of a line, put together from what was written.
-use mathlib.Core.Path.{_≡_, refl, sym, ap, _∙_}
+use mathlib.Core.Path.{_≡_, ap}
 use mathlib.Core.List.{append-nil}
 use native.Mathlib.Omega.{arith}
+use Prim.Native.Nat.{_≤_}
 use borrow.Author.Tests.{eq-eqb, ne-eqb}
 use Rattle.def_numbers.specs.Prelude.{ℕ, _+_, _*_, _^_, Bool, true, false, List, [], _∷_, _++_}
 use Rattle.def_numbers.specs.Basics.{ascii}
-use Rattle.def_run.specs.Listing.{decimal, widthWord, alignWord, flagWord, isSet, summaryWords, line, listing}
-use Rattle.errors.specs.Refused.{refusedAs}
-use Rattle.errors.specs.declared.Refusal.{Refusal}
+use Rattle.def_run.specs.Listing.{decimal, widthWord, alignWord, flagWord, isSet, summaryWords}
 use Rattle.digits_out.specs.Put.{Put, _⨾_, read-as}
-use Rattle.line_words.specs.Spaced.{spaced, spaced-one, line-counted}
+use Rattle.line_words.specs.Spaced.{spaced}
 
 module _ {l m o : List ℕ} {at r q : ℕ} where
   pub put-counted : (n : ℕ) → Put l at (32 ∷ []) m r → Put m r (decimal (0 * 2 ^ 64 + n)) o q → Put l at (32 ∷ decimal n) o q
@@ -33,20 +32,11 @@ module _ {l m : List ℕ} {at r : ℕ} where
   pub put-aligned : (a k : ℕ) → a ≡ k → Put l at (32 ∷ alignWord k) m r → Put l at (32 ∷ alignWord a) m r
   put-aligned a k e x = rw e x
 
-  pub put-multiple : (a : ℕ) → (a ≡ 0 → ⊥) → (a ≡ 1 → ⊥) → (a ≡ 2 → ⊥) → (a ≡ 3 → ⊥) → (a ≡ 4 → ⊥) → Put l at (32 ∷ ascii "multiple") m r → Put l at (32 ∷ alignWord a) m r
-  put-multiple a e₀ e₁ e₂ e₃ e₄ x = rw (ne-eqb a 0 e₀, ne-eqb a 1 e₁, ne-eqb a 2 e₂, ne-eqb a 3 e₃, ne-eqb a 4 e₄) x
+  pub put-multiple : (a : ℕ) → 3 ≤ a → (a ≡ 3 → ⊥) → (a ≡ 4 → ⊥) → Put l at (32 ∷ ascii "multiple") m r → Put l at (32 ∷ alignWord a) m r
+  put-multiple a h e₃ e₄ x =
+      rw (ne-eqb a 0 (λ e. omega arith), ne-eqb a 1 (λ e. omega arith), ne-eqb a 2 (λ e. omega arith), ne-eqb a 3 e₃, ne-eqb a 4 e₄) x
 
 pub put-summed : {l m n o p : List ℕ} {at r s t u : ℕ} (width align flags : ℕ) → Put l at (32 ∷ widthWord width) m r → Put m r (32 ∷ alignWord align) n s
     → Put n s (32 ∷ flagWord (isSet flags 1) (68 ∷ [])) o t → Put o t (32 ∷ flagWord (isSet flags 2) (90 ∷ [])) p u → Put l at (spaced (summaryWords width align flags)) p u
 unfolding spaced ascii
 put-summed width align flags x y z w = read-as (rw append-nil) (x ⨾ y ⨾ z ⨾ w)
-
--- ---- a refusal
-
-refusing : (w a b c : List ℕ) → w ++ ((32 ∷ a) ++ ((32 ∷ b) ++ ((32 ∷ c) ++ (10 ∷ [])))) ≡ line (w ∷ a ∷ b ∷ c ∷ [])
-refusing w a b c = ap (λ (x : List ℕ). w ++ ((32 ∷ a) ++ ((32 ∷ b) ++ (x ++ (10 ∷ []))))) (sym (spaced-one c)) ∙ line-counted w a b (c ∷ [])
-
-pub put-refusal-of : {l m n o p t : List ℕ} {at q r u v z : ℕ} (a : Refusal) → Put l at (ascii "refused") m q → Put m q (32 ∷ decimal (a .number)) n r
-    → Put n r (32 ∷ decimal (a .concatenation)) o u → Put o u (32 ∷ decimal (a .component)) p v → Put p v (10 ∷ []) t z → Put l at (listing [] (refusedAs a)) t z
-unfolding listing
-put-refusal-of a x y b c d = read-as (refusing (ascii "refused") (decimal (a .number)) (decimal (a .concatenation)) (decimal (a .component))) (x ⨾ y ⨾ b ⨾ c ⨾ d)

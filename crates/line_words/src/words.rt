@@ -4,6 +4,7 @@ use digits_out::put_byte;
 use digits_out::put_bytes;
 ghost use mathlib.Core.Path.{_≡_};
 ghost use mathlib.Core.List.{[], _∷_};
+ghost use Prim.Native.Nat.{_≤_};
 ghost use Rattle.def_run.specs.Listing.{decimal, widthWord, alignWord, flagWord, isSet, summaryWords};
 ghost use Rattle.digits_out.specs.Put.{Put};
 ghost use Rattle.line_words.specs.Spaced.{spaced};
@@ -24,6 +25,20 @@ fn put_width(out: &mut [u8], at: usize, width: u64) -> usize
     put_count(out, at, width)
 }
 
+// The alignments from 3 on.
+fn put_later_align(out: &mut [u8], at: usize, align: u32) -> usize
+    requires { ⌜ 3 ≤ align ⌝ }
+    ensures { λ r. ⌜ Put (now (out .entry)) at (32 ∷ alignWord align) (now (out .exit)) r ⌝ }
+{
+    if align == 3 {
+        return put_bytes(out, at, b" msb");
+    }
+    if align == 4 {
+        return put_bytes(out, at, b" mid");
+    }
+    put_bytes(out, at, b" multiple")
+}
+
 fn put_align(out: &mut [u8], at: usize, align: u32) -> usize
     ensures { λ r. ⌜ Put (now (out .entry)) at (32 ∷ alignWord align) (now (out .exit)) r ⌝ }
 {
@@ -36,13 +51,7 @@ fn put_align(out: &mut [u8], at: usize, align: u32) -> usize
     if align == 2 {
         return put_bytes(out, at, b" lsb");
     }
-    if align == 3 {
-        return put_bytes(out, at, b" msb");
-    }
-    if align == 4 {
-        return put_bytes(out, at, b" mid");
-    }
-    put_bytes(out, at, b" multiple")
+    put_later_align(out, at, align)
 }
 
 // A letter where a flag is set, else a dash.

@@ -1,14 +1,14 @@
--- Line 1, a concatenation's own line, put together from what was written.
+-- Line 1, put together from what was written.
 use mathlib.Core.Path.{_≡_, refl, sym, ap, _∙_}
 use borrow.Author.Tests.{eq-eqb, ne-eqb}
-use Rattle.def_numbers.specs.Prelude.{ℕ, _+_, _*_, _/_, _%_, List, [], _∷_, _++_}
+use Rattle.def_numbers.specs.Prelude.{ℕ, _/_, _%_, List, [], _∷_, _++_}
 use Rattle.def_numbers.specs.Basics.{ascii}
 use Rattle.def_image.specs.Image.{u32At}
-use Rattle.def_run.specs.Answer.{widthAt, textAt, groupAt}
+use Rattle.def_run.specs.Answer.{widthAt, textAt}
 use Rattle.def_run.specs.Listing.{line, decimal, shown, isSet, flagWord, summaryWords}
 use Rattle.digits_out.specs.Put.{Put, _⨾_, read-as}
 use Rattle.line_words.specs.Spaced.{spaced, line-counted, line-last}
-use Rattle.lines_out.specs.Parts.{headLine, groupLine}
+use Rattle.lines_out.specs.Parts.{headLine}
 
 -- ---- the starting value
 
@@ -33,16 +33,3 @@ pub put-head-of : {k l m n o p t : List ℕ} {at q r u v y z : ℕ} (image s : L
     → Put o v (32 ∷ flagWord (isSet (u32At s 16) 4) (61 ∷ shown (textAt image s 24))) p y → Put p y (10 ∷ []) t z → Put k at (headLine image s) t z
 put-head-of image s groups fields width flags align e f g h i a b c d x y =
     read-as (headed (ascii "layout") (decimal groups) (decimal fields) (flagWord (isSet (u32At s 16) 4) (61 ∷ shown (textAt image s 24))) (summaryWords width align flags) ∙ rw (e, f, g, h, i)) (a ⨾ b ⨾ c ⨾ d ⨾ x ⨾ y)
-
--- ---- a concatenation's own line
-
-pub put-group-of : {l m n o p t : List ℕ} {at q r u v z : ℕ} (s : List ℕ) (i size align flags width : ℕ)
-    → size ≡ u32At s (32 + 20 * i) → align ≡ u32At s (32 + 20 * i + 4) → flags ≡ u32At s (32 + 20 * i + 8) → width ≡ widthAt s (32 + 20 * i + 12)
-    → Put l at (99 ∷ []) m q → Put m q (32 ∷ decimal i) n r → Put n r (32 ∷ decimal size) o u → Put o u (spaced (summaryWords width align flags)) p v → Put p v (10 ∷ []) t z
-    → Put l at (groupLine i (groupAt s i)) t z
-unfolding ascii
-put-group-of s i size align flags width e f g h x y a b c =
-    read-as (line-counted (99 ∷ []) (decimal i) (decimal size) (summaryWords width align flags) ∙ same) (x ⨾ y ⨾ a ⨾ b ⨾ c)
-  where
-    same : line ((99 ∷ []) ∷ decimal i ∷ decimal size ∷ summaryWords width align flags) ≡ groupLine i (groupAt s i)
-    same = rw (e, f, g, h)

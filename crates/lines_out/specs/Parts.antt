@@ -5,7 +5,7 @@ use Rattle.def_numbers.specs.Prelude.{ℕ, Bool, true, false, List, [], _∷_, 
 use Rattle.def_numbers.specs.Basics.{if_then_else_, joined, tab, ascii}
 use Rattle.def_image.specs.Image.{u32At, bytesAt, bytesFor}
 use Rattle.line_words.specs.Spaced.{spaced, line-parts}
-use Rattle.def_run.specs.Answer.{Field, Group, Bound, widthAt, textAt, boundAt, groupAt, fieldAt, readAnswer}
+use Rattle.def_run.specs.Answer.{Field, Bound, widthAt, textAt, boundAt, groupAt, fieldAt, readAnswer}
 use Rattle.def_run.specs.Listing.{line, decimal, hex, shown, boundWord, endWord, summaryWords, flagWord, isSet, fieldLine, groupLines, answerLines}
 
 -- the end of the component at a place
@@ -40,11 +40,6 @@ field-parts f = go (eqb (f .kind) 1) (eqb (f .kind) 2)
     go true u = line-parts (ascii "literal") bounds (joined (map hex (reverse (f .literal))) ∷ [])
     go false true = line-parts (ascii "variable") bounds (shown (f .text) ∷ [])
     go false false = line-parts (ascii "filler") bounds []
-
--- ---- the lines of the concatenations
-
-abbrev pub groupLine : ℕ → Group → List ℕ
-groupLine i g = line (ascii "c" ∷ decimal i ∷ decimal (g .size) ∷ summaryWords (g .width) (g .align) (g .flags))
 
 -- ---- line 1
 

@@ -1,4 +1,4 @@
-// Line 1, and a concatenation's own line.
+// Line 1.
 use crate::fields::put_text_at;
 use crate::fields::width_at;
 use digits_out::put_byte;
@@ -9,10 +9,10 @@ use token_tree::u32_at;
 ghost use mathlib.Core.Path.{_≡_};
 ghost use mathlib.Core.List.{_∷_};
 ghost use Rattle.def_image.specs.Image.{u32At};
-ghost use Rattle.def_run.specs.Answer.{textAt, groupAt};
+ghost use Rattle.def_run.specs.Answer.{textAt};
 ghost use Rattle.def_run.specs.Listing.{shown, flagWord, isSet};
 ghost use Rattle.digits_out.specs.Put.{Put};
-ghost use Rattle.lines_out.specs.Parts.{headLine, groupLine};
+ghost use Rattle.lines_out.specs.Parts.{headLine};
 
 // The starting value.
 fn put_init(out: &mut [u8], at: usize, image: &[u8], s: &[u8]) -> usize
@@ -41,21 +41,5 @@ pub fn put_head(out: &mut [u8], at: usize, image: &[u8], s: &[u8]) -> usize
     let after = put_count(out, after, fields as u64);
     let after = put_summary(out, after, width, align, flags);
     let after = put_init(out, after, image, s);
-    put_byte(out, after, 10)
-}
-
-// The line of concatenation i.
-pub fn put_group(out: &mut [u8], at: usize, s: &[u8], i: u32) -> usize
-    ensures { λ r. ⌜ Put (now (out .entry)) at (groupLine i (groupAt (now (s .entry)) i)) (now (out .exit)) r ⌝ }
-{
-    let place = 32 + 20 * (i as usize);
-    let size = u32_at(s, place);
-    let align = u32_at(s, place + 4);
-    let flags = u32_at(s, place + 8);
-    let width = width_at(s, place + 12);
-    let after = put_byte(out, at, b'c');
-    let after = put_count(out, after, i as u64);
-    let after = put_count(out, after, size as u64);
-    let after = put_summary(out, after, width, align, flags);
     put_byte(out, after, 10)
 }

@@ -15,7 +15,7 @@ use Rattle.def_image.specs.Image.{u32At}
 use Rattle.def_run.specs.Answer.{widthAt, groupAt, fieldAt}
 use Rattle.def_run.specs.Listing.{line, decimal, summaryWords, fieldLine, groupLines}
 use Rattle.digits_out.specs.Put.{Put, _⨾_, read-as, Toward, toward, toward-end}
-use Rattle.lines_out.specs.Parts.{groupLine}
+use Rattle.group_line.specs.Line.{groupLine}
 use Rattle.listing.specs.Outcomes.{stopOf}
 
 -- ---- parts of a table

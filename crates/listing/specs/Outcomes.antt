@@ -11,6 +11,11 @@ use Rattle.listing.specs.declared.Outcome.the-variants.{Accepted, Refuse
 use Rattle.listing.specs.declared.Written.{Written}
 use Rattle.listing.specs.declared.Written.the-variants.{Whole, Cut}
 
+-- an outcome: the length of the answer, or a refusal
+abbrev pub outcomeOf : Outcome → Result ℕ
+outcomeOf (Accepted n) = ok n
+outcomeOf (Refused q) = refusedAs q
+
 -- the answer is the area's first bytes
 abbrev pub resultAs : List ℕ → Outcome → Result (List ℕ)
 resultAs area (Accepted n) = ok (take n area)

@@ -1,6 +1,6 @@
 // The lines of the concatenations, each with those of its components.
+use group_line::put_group;
 use lines_out::fields::put_field;
-use lines_out::heads::put_group;
 use token_tree::u32_at;
 ghost use mathlib.Core.Path.{_≡_};
 ghost use mathlib.Core.List.{map};

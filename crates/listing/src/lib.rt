@@ -3,8 +3,8 @@ mod groups;
 
 use crate::groups::put_groups;
 use errors::Refusal;
-use line_words::put_refusal;
 use lines_out::heads::put_head;
+use refusal_line::put_refusal;
 ghost use mathlib.Core.Path.{_≡_};
 ghost use lib.ListN.{length, take};
 ghost use Rattle.def_run.specs.Answer.{readAnswer};

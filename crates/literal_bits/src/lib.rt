@@ -1,5 +1,7 @@
 // Bits moved between slices of bytes, a byte at a time, and bytes set to 0. Bit i of a slice is bit i % 8 of its byte i / 8.
 // Nothing is asked of a caller: a byte that is missing counts as 0, and a bit that has no place is not written.
+use byte_bits::byte_of;
+use byte_bits::pair;
 ghost use mathlib.Core.Path.{_≡_};
 ghost use Prim.Native.Nat.{_+_, _*_, _/_, _%_, _^_, _<_, _≤_, min};
 ghost use lib.ListN.{length, getD, replicate};
@@ -14,26 +16,12 @@ fn byte_at(s: &[u8], at: usize) -> u8
     if at < s.len() { s[at] } else { 0 }
 }
 
-fn pair(a: u8, b: u8) -> u16
-    ensures { λ r. ⌜ r ≡ a + 256 * b ⌝ }
-{
-    (a as u16) + 256 * (b as u16)
-}
-
 // The bits from a place on, eight of them or more.
 fn bits_at(s: &[u8], from: usize) -> u16
     ensures { λ r. ⌜ r ≡ window (now (s .entry)) from ⌝ }
 {
     let q = from / 8;
     pair(byte_at(s, q), byte_at(s, q + 1)) >> ((from % 8) as u16)
-}
-
-// Eight bits of two bytes, from bit r of the first.
-fn byte_of(a: u8, b: u8, r: u16) -> u8
-    requires { ⌜ r < 8 ⌝ }
-    ensures { λ x. ⌜ x ≡ (a + 256 * b) / 2 ^ r % 256 ⌝ }
-{
-    ((pair(a, b) >> r) % 256) as u8
 }
 
 fn two_to(k: usize) -> usize
@@ -78,10 +66,9 @@ fn put_whole(dst: &mut [u8], q: usize, src: &[u8], from: usize, m: usize)
     ensures { λ _. ⌜ now (dst .exit) ≡ withBits (now (dst .entry)) (8 * q) (now (src .entry)) from (8 * m) ⌝ }
 {
     let k = from / 8;
-    let r = (from % 8) as u16;
     let mut i = 0;
     while i < m {
-        dst[q + i] = byte_of(src[k + i], src[k + i + 1], r);
+        dst[q + i] = byte_of(src[k + i], src[k + i + 1], from);
         i += 1;
     }
 }

@@ -6,15 +6,11 @@ use native.Mathlib.Omega.{arith}
 use borrow.Author.Tests.{lt-ltb}
 use Rattle.def_numbers.specs.Prelude.{ℕ, _+_, _*_, _^_, Bool, true, false, List, length}
 use Rattle.def_image.specs.Image.{u32At, tables}
-use Rattle.component.specs.declared.places.Place.{Place}
-use Rattle.tree.specs.Cursor.{inRange, nextIn, standingIn, spotIn}
-use Rattle.tree.specs.declared.cursor.Cursor.{Cursor}
+use Rattle.component_types.specs.declared.places.Place.{Place}
+use Rattle.cursor.specs.Cursor.{inRange, nextIn, standingIn, spotIn}
+use Rattle.cursor.specs.declared.cursor.Cursor.{Cursor}
 use Rattle.one_pass.specs.Place.{Low, Small, InTables, LocatedIs, movedTo}
 use Rattle.one_pass.specs.declared.place.Found.{Found}
-
--- where it does not fit nothing is said
-pub unfit : {G : Type 0} (t : Bool) → t ≡ false → t ≡ true → G
-unfit t p q = absurd (true≢false (sym q ∙ p))
 
 pub stands : (image : List ℕ) (k r l components records text base left t width : ℕ)
     → components ≡ (tables image) .components → records ≡ (tables image) .records → text ≡ (tables image) .text
@@ -55,3 +51,8 @@ located-at image c n r f s e _ = let h = low-of n r c s in (e ∙ rw (in-range c
 pub moved-next : (image : List ℕ) (c : Cursor) (p : Place) → Low c → p ≡ spotIn image c .place → movedTo c p ≡ nextIn image c
 unfolding spotIn nextIn standingIn
 moved-next image c p h e = rw (e, in-range c h)
+
+-- an entry of the components ends before the text
+pub entry-in : (components text k c n r : ℕ) → components ≡ 40 + 4 * c → text ≡ 40 + 4 * c + 8 * n + 12 * r → k < n
+    → (48 ≤ text) × (components + 8 * k + 8 ≤ text)
+entry-in components text k c n r p t h = (omega (arith, t, h), omega (arith, p, t, h))

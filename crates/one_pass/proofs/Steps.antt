@@ -11,16 +11,16 @@ use Rattle.def_stages.specs.Concatenation.{addWidth, checkType}
 use Rattle.def_stages.specs.Overall.{isFiller}
 use Rattle.laws.specs.Tests.{by-test}
 use Rattle.misc.specs.Value.{valueOf}
-use Rattle.component.specs.declared.places.Place.{Place}
-use Rattle.component_fast.specs.Short.{wide, shortOf, endIn}
-use Rattle.component_fast.specs.Common.{ReadAs, commonRange, commonOf, knownWidth}
-use Rattle.component_fast.specs.declared.bound.ShortUsb.{ShortUsb}
-use Rattle.component_fast.specs.declared.typed.Common.{Common}
+use Rattle.component_types.specs.declared.places.Place.{Place}
+use Rattle.common_shapes.specs.Short.{wide, shortOf, endIn}
+use Rattle.common_shapes.specs.Common.{ReadAs, commonRange, commonOf, knownWidth}
+use Rattle.common_shapes.specs.declared.short.ShortUsb.{ShortUsb}
+use Rattle.common_shapes.specs.declared.common.Common.{Common}
 use Rattle.concatenation.specs.Running.{stepOf}
 use Rattle.running_check.specs.Running.{addAs}
-use Rattle.running_check.proofs.Widths.{low-only, negative}
-use Rattle.one_pass.specs.Sum.{Admitted, KindFits, isFull, runningIn, summedOf}
-use Rattle.one_pass.specs.declared.sum.Sum.{Sum}
+use Rattle.width_sum.proofs.Widths.{low-only, negative}
+use Rattle.pass_sums.specs.Sum.{Admitted, KindFits, isFull, runningIn, summedOf}
+use Rattle.pass_sums.specs.declared.sum.Sum.{Sum}
 
 -- ---- the width
 

@@ -12,35 +12,36 @@ use Rattle.laws.specs.Results.{ok-same}
 use Rattle.misc.specs.Value.{optionUsize}
 use Rattle.misc.specs.declared.OptionUsize.{OptionUsize}
 use Rattle.misc.specs.declared.OptionUsize.the-variants as U
-use Rattle.component.specs.Places.{unparsedIn}
-use Rattle.component_fast.specs.Common.{ReadAs, CommonIs, commonOf}
-use Rattle.component_fast.specs.declared.typed.Common.{Common}
+use Rattle.component_types.specs.Places.{unparsedIn}
+use Rattle.common_shapes.specs.Common.{ReadAs, CommonIs, commonOf}
+use Rattle.common_shapes.specs.declared.common.Common.{Common}
 use Rattle.concatenation.specs.Running.{stepOf, finishOf}
 use Rattle.concatenation.specs.Overall.{placeOf}
 use Rattle.alignment.specs.declared.align.FillerAlign.the-variants as A
 use Rattle.concatenation.specs.declared.overall.Place as Code
 use Rattle.concatenation.specs.declared.overall.Place.the-variants as P
-use Rattle.tree.specs.Cursor.{nextIn, spotIn}
-use Rattle.tree.specs.Pass.{advance, advance-add}
-use Rattle.tree.specs.Read.{readAt, unparsedAt}
-use Rattle.tree.specs.declared.cursor.Cursor.{Cursor}
-use Rattle.tree.specs.declared.cursor.Spot.{Spot}
-use Rattle.stage3.specs.Tally.{Tally, noTally, tallied, stepTally, totalOf, endOf, foundOf}
-use Rattle.stage3.specs.Walk.{turnOf, walk}
-use Rattle.stage3.specs.declared.Found.{Found}
-use Rattle.stage3.proofs.Loops.{walk-start, walk-end, walk-then}
-use Rattle.stage5.specs.State.{CloseIs, StepIs}
-use Rattle.stage5.specs.State as Put
-use Rattle.stage5.specs.declared.Writing.{Writing}
-use Rattle.stage5.specs.declared.merging.Merging.{Merging}
-use Rattle.stage5.proofs.Turns.{walk-starts, walk-goes, walk-ends}
-use Rattle.one_pass.specs.Pass.{Pass, WrittenIs, widthIn}
+use Rattle.cursor.specs.Cursor.{nextIn, spotIn}
+use Rattle.cursor.specs.Pass.{advance, advance-add}
+use Rattle.cursor.specs.Read.{readAt, unparsedAt}
+use Rattle.cursor.specs.declared.cursor.Cursor.{Cursor}
+use Rattle.cursor.specs.declared.cursor.Spot.{Spot}
+use Rattle.tally.specs.Tally.{Tally, noTally, tallied, stepTally, totalOf, endOf, foundOf}
+use Rattle.tally.specs.Walk.{turnOf, walk}
+use Rattle.tally.specs.declared.Found.{Found}
+use Rattle.tally.proofs.Loops.{walk-start, walk-end, walk-then}
+use Rattle.merging.specs.State.{CloseIs, StepIs}
+use Rattle.merging.specs.State as Put
+use Rattle.merging.specs.declared.Writing.{Writing}
+use Rattle.merging.specs.declared.merging.Merging.{Merging}
+use Rattle.merging.proofs.Turns.{walk-starts, walk-goes, walk-ends}
+use Rattle.pass_blocks.specs.Written.{WrittenIs}
+use Rattle.one_pass.specs.Pass.{Pass, widthIn}
 use Rattle.one_pass.specs.Place.{LocatedIs, movedTo}
-use Rattle.one_pass.specs.Sum.{Admitted, noSum, runningIn, summedOf}
+use Rattle.pass_sums.specs.Sum.{Admitted, noSum, runningIn, summedOf}
 use Rattle.one_pass.specs.Turn.{commonAt, Turned, Gone}
 use Rattle.one_pass.specs.declared.State.{State}
 use Rattle.one_pass.specs.declared.place.Found as Place
-use Rattle.one_pass.specs.declared.sum.Sum.{Sum}
+use Rattle.pass_sums.specs.declared.sum.Sum.{Sum}
 use Rattle.one_pass.proofs.Places.{moved-next}
 use Rattle.one_pass.proofs.Steps.{step-sum, source-sum}
 

@@ -1,6 +1,5 @@
 -- What one pass over a concatenation gives.
 pub mod Pass
 pub mod Place
-pub mod Sum
 pub mod Turn
 pub mod Witness

@@ -5,32 +5,19 @@ use Rattle.def_numbers.specs.Prelude.{ℕ, _-_, Bool, true, Option, none, some,
 use Rattle.def_numbers.specs.Basics.{ok, if_then_else_}
 use Rattle.def_stages.specs.Component.{startingValue}
 use Rattle.misc.specs.Value.{optionUsize}
-use Rattle.component_fast.specs.Common.{ReadAs, commonOf}
-use Rattle.component_fast.specs.declared.typed.Common.{Common}
 use Rattle.concatenation.specs.Overall.{placeOf}
 use Rattle.alignment.specs.declared.align.FillerAlign.the-variants as A
-use Rattle.tree.specs.Cursor.{spotIn}
-use Rattle.tree.specs.Pass.{advance}
-use Rattle.tree.specs.Read.{unparsedAt}
-use Rattle.tree.specs.declared.cursor.Cursor.{Cursor}
-use Rattle.tree.specs.declared.cursor.Spot.{Spot}
-use Rattle.stage3.specs.Tally.{noTally, foundOf}
-use Rattle.stage3.specs.Walk.{walk}
-use Rattle.stage3.specs.declared.Found.{Found}
-use Rattle.stage5.specs.Put.{PutIs}
-use Rattle.stage5.specs.State.{StepIs}
-use Rattle.stage5.specs.declared.Writing.{Writing}
-use Rattle.stage5.specs.declared.merging.Merging.{Merging}
+use Rattle.cursor.specs.Cursor.{spotIn}
+use Rattle.cursor.specs.Pass.{advance}
+use Rattle.cursor.specs.Read.{unparsedAt}
+use Rattle.cursor.specs.declared.cursor.Cursor.{Cursor}
+use Rattle.tally.specs.Tally.{noTally, foundOf}
+use Rattle.tally.specs.Walk.{walk}
+use Rattle.tally.specs.declared.Found.{Found}
+use Rattle.merging.specs.Put.{PutIs}
+use Rattle.merging.specs.declared.Writing.{Writing}
+pub use Rattle.pass_sums.specs.Sum.{widthIn}
 use Rattle.one_pass.specs.declared.Passed.{Passed}
-
--- a width that may be known
-abbrev pub widthIn : Bool → ℕ → Option ℕ
-widthIn known width = if known then some width else none
-
--- a component more is written, as stage 5 does
-abbrev pub WrittenIs : List ℕ → Spot → Common → Merging → Merging → List ℕ → List ℕ → Type 0
-WrittenIs image spot q s r before after =
-    ReadAs image (spot .place) q → StepIs (record { base = spot .base; value = commonOf image (spot .place) q }) s r before after
 
 -- Stage 3 finds this of concatenation i, of n components from a cursor, where its width is not zero; none of them is an unbounded
 -- filler; the last has no starting value; and stage 5 has written them from the place w on.

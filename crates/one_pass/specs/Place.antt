@@ -3,9 +3,9 @@ use mathlib.Core.Path.{_≡_}
 use Prim.Native.Nat.{_≤_, _<_}
 use Rattle.def_numbers.specs.Prelude.{ℕ, _+_, _^_, true, List, length}
 use Rattle.def_image.specs.Image.{bytesFor, counts, tables}
-use Rattle.component.specs.declared.places.Place.{Place}
-use Rattle.tree.specs.Cursor.{spotIn}
-use Rattle.tree.specs.declared.cursor.Cursor.{Cursor}
+use Rattle.component_types.specs.declared.places.Place.{Place}
+use Rattle.cursor.specs.Cursor.{spotIn}
+use Rattle.cursor.specs.declared.cursor.Cursor.{Cursor}
 use Rattle.one_pass.specs.declared.place.Found.{Found}
 
 -- a cursor far from where sums in the code could wrap

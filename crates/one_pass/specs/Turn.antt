@@ -7,20 +7,20 @@ use Rattle.def_image.specs.Image.{Placed}
 use Rattle.def_stages.specs.Component.{Component, prefixOf}
 use Rattle.def_stages.specs.Concatenation.{merge}
 use Rattle.answer_fits.specs.Fixed.{AllFixed}
-use Rattle.component.specs.Places.{unparsedIn}
-use Rattle.component_fast.specs.Common.{ReadAs, commonOf}
-use Rattle.component_fast.specs.declared.typed.Common.{Common}
-use Rattle.tree.specs.Cursor.{nextIn, spotIn}
-use Rattle.tree.specs.Pass.{advance}
-use Rattle.tree.specs.Read.{readIn}
-use Rattle.tree.specs.declared.cursor.Cursor.{Cursor}
-use Rattle.tree.specs.declared.cursor.Spot.{Spot}
-use Rattle.stage3.specs.Tally.{Tally, noTally}
-use Rattle.stage3.specs.Walk.{walk}
-use Rattle.stage5.specs.Put.{Room}
-use Rattle.stage5.specs.State.{StepIs, Midway}
-use Rattle.stage5.specs.declared.Writing.{Writing}
-use Rattle.one_pass.specs.Sum.{Admitted, summedOf, runningIn}
+use Rattle.component_types.specs.Places.{unparsedIn}
+use Rattle.common_shapes.specs.Common.{ReadAs, commonOf}
+use Rattle.common_shapes.specs.declared.common.Common.{Common}
+use Rattle.cursor.specs.Cursor.{nextIn, spotIn}
+use Rattle.cursor.specs.Pass.{advance}
+use Rattle.cursor.specs.Read.{readIn}
+use Rattle.cursor.specs.declared.cursor.Cursor.{Cursor}
+use Rattle.cursor.specs.declared.cursor.Spot.{Spot}
+use Rattle.tally.specs.Tally.{Tally, noTally}
+use Rattle.tally.specs.Walk.{walk}
+use Rattle.merging.specs.Put.{Room}
+use Rattle.merging.specs.State.{StepIs, Midway}
+use Rattle.merging.specs.declared.Writing.{Writing}
+use Rattle.pass_sums.specs.Sum.{Admitted, summedOf, runningIn}
 use Rattle.one_pass.specs.declared.State.{State}
 
 -- the component at a spot, with its text start

@@ -14,14 +14,14 @@ use Rattle.laws.specs.Results.{ok-same}
 use Rattle.misc.specs.declared.OptionUsize.the-variants as U
 use Rattle.alignment.specs.declared.align.FillerAlign.the-variants as A
 use Rattle.concatenation.specs.declared.overall.Place.the-variants as P
-use Rattle.tree.specs.Cursor.{firstIn, nextIn, standingIn, spotIn}
-use Rattle.tree.specs.Pass.{advance}
-use Rattle.tree.specs.Read.{readAt, readIn, unparsedAt}
-use Rattle.stage3.specs.Tally.{noTally, foundOf}
-use Rattle.stage3.specs.Walk.{turnOf, walk}
-use Rattle.stage3.specs.declared.Found.{Found}
-use Rattle.stage5.specs.Put.{PutIs, putAll, writtenTo}
-use Rattle.stage5.specs.declared.Writing.{Writing}
+use Rattle.cursor.specs.Cursor.{firstIn, nextIn, standingIn, spotIn}
+use Rattle.cursor.specs.Pass.{advance}
+use Rattle.cursor.specs.Read.{readAt, readIn, unparsedAt}
+use Rattle.tally.specs.Tally.{noTally, foundOf}
+use Rattle.tally.specs.Walk.{turnOf, walk}
+use Rattle.tally.specs.declared.Found.{Found}
+use Rattle.merging.specs.Put.{PutIs, putAll, writtenTo}
+use Rattle.merging.specs.declared.Writing.{Writing}
 use Rattle.one_pass.specs.Pass.{Pass}
 use Rattle.one_pass.specs.declared.Passed.{Passed}
 

@@ -1,22 +1,20 @@
 // Stages 1 to 5 of a concatenation in one pass, each component read once: where all its components are of common shape and nothing
 // is refused. Where that is not so nothing is said, and the stages are gone through in turn.
+use cursor::Cursor;
+use merging::Merging;
+use merging::Writing;
+use pass_blocks::close;
+use pass_blocks::written;
+use pass_sums::Sum;
+use pass_sums::admits;
+use pass_sums::no_sum;
+use pass_sums::summed;
 use place::located;
 use place::moved;
-use put::close;
-use put::written;
-use stage5::Merging;
-use stage5::Writing;
-use sum::Sum;
-use sum::admits;
-use sum::no_sum;
-use sum::summed;
-use tree::Cursor;
 ghost use Rattle.one_pass.specs.Pass.{PassIs};
 ghost use Rattle.one_pass.specs.Turn.{TurnIs};
 
 mod place;
-mod put;
-mod sum;
 
 // Whether all fits; the sum of the widths and whether all are known, and whether one is surely not zero; the cursor after the
 // concatenation, and the place behind its merged components.

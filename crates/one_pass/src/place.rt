@@ -1,14 +1,14 @@
 // The component at a cursor, by direct loads, and the next one's cursor.
-use component::Place;
+use component_types::Place;
+use cursor::Cursor;
+use cursor::Spot;
 use items::Run;
-use tree::Cursor;
-use tree::Spot;
 ghost use mathlib.Core.Path.{_≡_};
 ghost use mathlib.Core.Bool.{true, false};
 ghost use Prim.Native.Nat.{_+_, _≤_};
 ghost use lib.ListN.{length};
 ghost use Rattle.def_image.specs.Image.{u32At};
-ghost use Rattle.tree.specs.Cursor.{standingIn};
+ghost use Rattle.cursor.specs.Cursor.{standingIn};
 ghost use Rattle.one_pass.specs.Place.{Low, Small, InTables, LocatedIs, movedTo};
 
 // A component, or nothing where it is out of range or not all in the image.

@@ -1,27 +1,17 @@
 // Reading a number: i128_try_parse of src/ranges.rs.
 use misc::I128;
 use misc::OptionI128;
+use number_parts::OptionU128;
+use number_parts::U128;
+use number_parts::positive;
 ghost use mathlib.Core.Path.{_≡_};
 ghost use Prim.Native.Nat.{_+_, _*_, _^_, _≤_, _<_};
 ghost use lib.IntN.{pos};
 ghost use Rattle.def_numbers.specs.Numbers.{digits, signedAs, inner, radixOf, unsignedParse, tryParse};
 ghost use Rattle.misc.specs.Value.{optionOf};
-ghost use Rattle.parse.specs.Parts.{worthByte, Worths, number, numberOf, capped, cappedOption, negated, radixOption};
-
-pub mod digit;
-mod short;
-
-// A number without a sign, in two halves.
-struct U128 {
-    high: u64,
-    low: u64,
-}
-
-// Option<u128>
-enum OptionU128 {
-    Some(U128),
-    None,
-}
+ghost use Rattle.digit.specs.Worth.{worthByte, Worths};
+ghost use Rattle.number_parts.specs.Halves.{number, numberOf};
+ghost use Rattle.number_parts.specs.Parts.{capped, cappedOption, negated, radixOption};
 
 // x * m + add, by halves of x.
 fn mul_small(x: u64, m: u64, add: u64) -> U128
@@ -93,23 +83,6 @@ fn magnitude(radix: u64, text: &[u8]) -> OptionU128
 {
     let worths = digit::WORTH;
     magnitude_by(&worths, radix, text)
-}
-
-// The number as it stands, where it is below 2^127.
-fn positive(m: OptionU128) -> OptionI128
-    ensures { λ r. ⌜ optionOf r ≡ signedAs pos (numberOf m) ⌝ }
-{
-    let OptionU128::Some(w) = m else {
-        return OptionI128::None;
-    };
-    if w.high < 0x8000_0000_0000_0000 {
-        OptionI128::Some(I128 {
-            high: w.high,
-            low: w.low,
-        })
-    } else {
-        OptionI128::None
-    }
 }
 
 // The number with a minus, where it is at most 2^127.
@@ -207,7 +180,7 @@ fn any_parse(s: &[u8]) -> OptionI128
 pub fn i128_try_parse(s: &[u8]) -> OptionI128
     ensures { λ r. ⌜ optionOf r ≡ tryParse (now (s .entry)) ⌝ }
 {
-    let n = short::read(s);
+    let n = number_parts::read(s);
     if n < 0x8000_0000_0000_0000 {
         return OptionI128::Some(I128 { high: 0, low: n });
     }

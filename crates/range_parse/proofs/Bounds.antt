@@ -21,13 +21,13 @@ use Rattle.usb.specs.Usb.{partOf, usbOf}
 use Rattle.usb.specs.declared.Part.{Part}
 use Rattle.range_parse.specs.Bound.{partBetween, sidesBy}
 use Rattle.bound_steps.specs.Sides.{joinParts, join-is}
-use Rattle.bound_steps.specs.Signs.{chosenOf}
+use Rattle.bound_signs.specs.Signs.{chosenOf}
 use Rattle.range_parse.specs.Signs.{SignsAre, SignIs}
 use Rattle.range_parse.specs.Walked.{Mark, Marked, passed, signAt, cutAt}
 use Rattle.bound_steps.specs.declared.sides.Sides.{Sides}
 use Rattle.range_parse.specs.declared.signs.Found.{Found}
-use Rattle.bound_steps.specs.declared.signs.Sign.{Sign}
-use Rattle.bound_steps.specs.declared.signs.Signs.{Signs}
+use Rattle.bound_signs.specs.declared.signs.Sign.{Sign}
+use Rattle.bound_signs.specs.declared.signs.Signs.{Signs}
 use Rattle.range_parse.proofs.Search.{cut-none, cut-some}
 use Rattle.range_parse.proofs.Texts.{part-is}
 use Rattle.range_parse.proofs.Walks.{length-add, length-one}

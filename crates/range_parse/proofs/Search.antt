@@ -15,9 +15,9 @@ use Rattle.items.specs.Token.{token-is}
 use Rattle.items.specs.declared.Item.{Item}
 use Rattle.items.specs.declared.Run.{Run}
 use Rattle.range_parse.specs.Walked.{Walked, Mark, Marked, passed, signAt, cutAt}
-use Rattle.bound_steps.specs.Signs.{adjacentTo, pairBy, steppedBy}
+use Rattle.bound_signs.specs.Signs.{adjacentTo, pairBy, steppedBy}
 use Rattle.range_parse.specs.Signs.{SignsAre}
-use Rattle.bound_steps.specs.declared.signs.Signs.{Signs}
+use Rattle.bound_signs.specs.declared.signs.Signs.{Signs}
 use Rattle.range_parse.proofs.Cuts.{ahead, resume, Fresh, cutHere, last-step, pair-step, ahead-none, or-none, last-done, pair-done}
 use Rattle.range_parse.proofs.Walks.{length-add, length-one, items-none, items-one, walked-start, passed-next, walked-next, token-r, token-at, token-left, sign-is, mark-here, items-next}
 

@@ -3,7 +3,7 @@ use Rattle.def_numbers.specs.Prelude.{ℕ, _+_, _-_, Bool, true, not, eqb}
 use Rattle.def_numbers.specs.Basics.{if_then_else_}
 use Rattle.items.specs.declared.Run.{Run}
 use Rattle.usb.specs.declared.Part.{Part}
-use Rattle.bound_steps.specs.declared.signs.Sign.{Sign}
+use Rattle.bound_signs.specs.declared.signs.Sign.{Sign}
 use Rattle.bound_steps.specs.declared.sides.Sides.{Sides}
 
 -- the text of items from an offset up to another, if there are any

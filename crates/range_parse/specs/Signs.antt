@@ -6,7 +6,7 @@ use Rattle.def_numbers.specs.Numbers.{char}
 use Rattle.def_stages.specs.Ranges.{orElse, cutBound}
 use Rattle.items.specs.Run.{itemsOf, lengthOf}
 use Rattle.items.specs.declared.Run.{Run}
-use Rattle.bound_steps.specs.declared.signs.Sign.{Sign}
+use Rattle.bound_signs.specs.declared.signs.Sign.{Sign}
 use Rattle.range_parse.specs.Walked.{Marked, cutAt}
 use Rattle.range_parse.specs.declared.signs.Found.{Found}
 

@@ -1,8 +1,8 @@
 // A bound: "It is written as one token or one `(` group."
 use crate::signs;
+use bound_signs::Sign;
+use bound_signs::chosen;
 use bound_steps::Sides;
-use bound_steps::Sign;
-use bound_steps::chosen;
 use errors::refuse;
 use items::Next;
 use items::Run;

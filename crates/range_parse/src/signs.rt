@@ -1,6 +1,6 @@
 // The signs of a bound, found on one walk over its items.
-use bound_steps::Signs;
-use bound_steps::stepped;
+use bound_signs::Signs;
+use bound_signs::stepped;
 use items::Next;
 use items::Run;
 ghost use mathlib.Core.Path.{_≡_};

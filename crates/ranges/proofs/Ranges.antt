@@ -1,19 +1,18 @@
--- Ranges in code and in the definition: width, ends, and the tests of simplifying, one after the other.
+-- Ranges in code and in the definition: ends, and the tests of simplifying, one after the other.
 use mathlib.Core.Path.{_≡_, refl, sym, ap, _∙_}
 use mathlib.Core.Bool.{Bool, true, false, _&&_, _||_}
 use mathlib.Core.Option.{Option, none, some}
 use mathlib.Core.List.{List}
 use Prim.Native.Nat.{ℕ}
 use lib.Dec.{eqb}
-use lib.IntN.{ℤ, pos, _-ℤ_}
+use lib.IntN.{ℤ, pos}
 use lib.Signed.{ltZ, nonNeg}
-use Rattle.def_numbers.specs.Basics.{Result, ok, refused, _>>=_, sameBytes}
-use Rattle.def_numbers.specs.Numbers.{narrow}
+use Rattle.def_numbers.specs.Basics.{Result, ok, refused, _>>=_}
 use Rattle.def_numbers.specs.Refusals.{need, negative-bound, reversed, zero-width, open-start}
 use Rattle.def_stages.specs.Ranges as D
 use Rattle.def_stages.specs.Ranges.{staticVal, staticRange, staticWidth}
 use Rattle.def_stages.specs.Component.{simplifyUsb, simplifyEnd, simplifyRange, ifStatic, ifStaticEnd, ifKnown, isZero, hasEnd}
-use Rattle.misc.specs.Value.{valueOf, optionOf}
+use Rattle.misc.specs.Value.{optionOf}
 use Rattle.misc.specs.declared.OptionI128.{OptionI128}
 use Rattle.errors.specs.declared.Refusal.{Refusal}
 use Rattle.errors.specs.declared.Checked.{Checked}
@@ -25,11 +24,11 @@ use Rattle.usb.specs.declared.OptionUsb.{OptionUsb}
 use Rattle.usb.specs.declared.OptionUsb.the-variants as O
 use Rattle.usb.specs.declared.ResultUsb.{ResultUsb}
 use Rattle.usb.specs.declared.ResultUsb.the-variants as U
-use Rattle.usb.specs.Usb.{bytesOf, usbOf, optionUsbOf, usbrOf, resultUsb}
+use Rattle.usb.specs.Usb.{usbOf, optionUsbOf, usbrOf, resultUsb}
 use Rattle.ranges.specs.declared.range.ResultEnd.{ResultEnd}
 use Rattle.ranges.specs.declared.range.ResultEnd.the-variants as E
 use Rattle.bounds.specs.Checks.{needed, andThen, passes, endNumber, endVal}
-use Rattle.ranges.specs.Checks.{isSome, isNumberEnd, widthOf, rangeChecks, checkedRange, restOf, resultEnd}
+use Rattle.ranges.specs.Checks.{isSome, isNumberEnd, rangeChecks, checkedRange, restOf, resultEnd}
 use Rattle.bounds.proofs.Answers.{need-is}
 use Rattle.bounds.proofs.Bounds.{empty-is, end-is}
 
@@ -40,16 +39,6 @@ module _ (image : List ℕ) (at : ℕ) where
 
   pub static-told : (r : Usbr) {s e b : Bool} → s ≡ eqb (r .start .s .len) 0 → e ≡ isNumberEnd (r .«end») → b ≡ (s && e) → b ≡ staticRange (usbrOf image at r)
   static-told r p q h = h ∙ rw (p, q) (numbers (r .start) (r .«end»))
-
-  module _ (a b : Usb) (t : Bool) (told : t ≡ sameBytes (bytesOf image at (a .s)) (bytesOf image at (b .s))) where
-    pub width-known : {x : Option ℤ} → t ≡ true → x ≡ narrow (valueOf (b .x) -ℤ valueOf (a .x)) → x ≡ widthOf (usbOf image at a) (usbOf image at b)
-    width-known e h = h ∙ sym (rw (sym told ∙ e))
-
-    pub width-unknown : t ≡ false → none ≡ widthOf (usbOf image at a) (usbOf image at b)
-    width-unknown e = sym (rw (sym told ∙ e))
-
-  pub width-told : (r : Usbr) (e : Usb) {x : Option ℤ} → r .«end» ≡ O.Some e → x ≡ widthOf (usbOf image at (r .start)) (usbOf image at e) → x ≡ staticWidth (usbrOf image at r)
-  width-told r e p h = rw p h
 
   some-is : (e : OptionUsb) → isSome e ≡ elim (optionUsbOf image at e) [ none ↦ false | some e′ ↦ true ]
   some-is (O.Some e) = refl

@@ -1,7 +1,6 @@
 -- The tests of a range on plain numbers: none is a bound with a text, a width that is not known, or no end.
-use Rattle.def_numbers.specs.Prelude.{ℕ, Bool, true, false, _&&_, Option, none, List, eqb, ℤ, pos, _-ℤ_, ltZ, nonNeg}
-use Rattle.def_numbers.specs.Basics.{Result, ok, _>>=_, if_then_else_, sameBytes}
-use Rattle.def_numbers.specs.Numbers.{narrow}
+use Rattle.def_numbers.specs.Prelude.{ℕ, Bool, true, false, _&&_, Option, List, eqb, ℤ, pos, ltZ, nonNeg}
+use Rattle.def_numbers.specs.Basics.{Result, ok, _>>=_}
 use Rattle.def_numbers.specs.Refusals.{numberOf, negative-bound, reversed, zero-width}
 use Rattle.def_stages.specs.Ranges as Ranges
 use Rattle.def_stages.specs.Ranges.{staticVal, staticWidth}
@@ -10,6 +9,7 @@ use Rattle.errors.specs.Refused.{refusedAs}
 use Rattle.usb.specs.declared.OptionUsb.{OptionUsb}
 use Rattle.usb.specs.declared.OptionUsb.the-variants as O
 use Rattle.usb.specs.Usb.{optionUsbOf}
+pub use Rattle.range_width.specs.Width.{widthOf}
 use Rattle.bounds.specs.Checks.{needed, andThen, passes, endVal}
 use Rattle.ranges.specs.declared.range.ResultEnd.{ResultEnd}
 use Rattle.ranges.specs.declared.range.ResultEnd.the-variants as R
@@ -21,10 +21,6 @@ isNumberEnd O.None = false
 abbrev pub isSome : OptionUsb → Bool
 isSome (O.Some u) = true
 isSome O.None = false
-
--- the width between two bounds
-abbrev pub widthOf : Ranges.Usb → Ranges.Usb → Option ℤ
-widthOf a b = if sameBytes (a .s .bytes) (b .s .bytes) then narrow (b .x -ℤ a .x) else none
 
 -- 21 to 23, of the numbers of start, end and width
 abbrev pub rangeChecks : Option ℤ → Option ℤ → Option ℤ → Result Unit

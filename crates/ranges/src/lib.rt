@@ -5,5 +5,5 @@ mod range;
 pub use range::simplify;
 pub use range::simplify_filler;
 pub use range::static_range;
-pub use range::static_width;
-pub use range::width;
+pub use range_width::static_width;
+pub use range_width::width;

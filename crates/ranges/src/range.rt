@@ -4,12 +4,12 @@ ghost use mathlib.Core.Bool.{_||_};
 ghost use Prim.Native.Nat.{ℕ};
 ghost use mathlib.Core.List.{List};
 ghost use Rattle.def_numbers.specs.Refusals.{need, open-start};
-ghost use Rattle.def_stages.specs.Ranges.{staticRange, staticWidth};
+ghost use Rattle.def_stages.specs.Ranges.{staticRange};
 ghost use Rattle.def_stages.specs.Component.{simplifyRange, simplifyEnd, isZero, hasEnd};
 ghost use Rattle.misc.specs.Value.{optionOf};
 ghost use Rattle.errors.specs.Refused.{resultOf};
 ghost use Rattle.usb.specs.Usb.{usbOf, optionUsbOf, usbrOf, resultUsbr};
-ghost use Rattle.ranges.specs.Checks.{isSome, isNumberEnd, widthOf, rangeChecks, checkedRange, restOf, resultEnd};
+ghost use Rattle.ranges.specs.Checks.{isSome, isNumberEnd, rangeChecks, checkedRange, restOf, resultEnd};
 use bounds::above_zero;
 use bounds::both;
 use bounds::either;
@@ -24,7 +24,7 @@ use bounds::static_val;
 use errors::Checked;
 use errors::Refusal;
 use misc::OptionI128;
-use texts::same_text;
+use range_width::static_width;
 use usb::OptionUsb;
 use usb::ResultUsb;
 use usb::ResultUsbr;
@@ -61,27 +61,6 @@ pub fn static_range(r: Usbr) -> bool
 {
     let end = r.end;
     both(is_number(r.start), is_number_end(end))
-}
-
-// The width from a to b, where they have the same text and it fits.
-pub fn width(image: &[u8], text: usize, a: Usb, b: Usb) -> OptionI128
-    ensures { λ r. ⌜ optionOf r ≡ widthOf (usbOf (now (image .entry)) text a) (usbOf (now (image .entry)) text b) ⌝ }
-{
-    if same_text(image, text, a.s, b.s) {
-        return sums::checked_sub(b.x, a.x);
-    }
-    OptionI128::None
-}
-
-// The width, where start and end have the same text.
-pub fn static_width(image: &[u8], text: usize, r: Usbr) -> OptionI128
-    ensures { λ w. ⌜ optionOf w ≡ staticWidth (usbrOf (now (image .entry)) text r) ⌝ }
-{
-    let end = r.end;
-    let OptionUsb::Some(e) = end else {
-        return OptionI128::None;
-    };
-    width(image, text, r.start, e)
 }
 
 fn simplify_end(image: &[u8], text: usize, e: OptionUsb) -> ResultEnd

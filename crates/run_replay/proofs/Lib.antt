@@ -1,2 +1,1 @@
--- A law that the proofs cite.
 pub mod Told

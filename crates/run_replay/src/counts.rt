@@ -1,10 +1,10 @@
 // How often each outcome occurred, and its print.
 use crate::CUT_PAIR;
-use crate::runs::DIFFERENT;
+use crate::DIFFERENT;
 use libc::STDOUT_FILENO;
 
-pub(crate) fn count(counts: &mut [u64], at: usize) {
-    if at < counts.len() {
+pub(crate) fn count(counts: &mut [u64; 48], at: usize) {
+    if at < 48 {
         let n = counts[at];
         if n < 1_000_000 {
             counts[at] = n + 1;

@@ -8,8 +8,9 @@ use Rattle.def_stages.specs.Component.{Component, ComponentType, literal, varia
 use Rattle.def_stages.specs.Concatenation.{Running, addWidth, checkType, hasFullRange, isAlign, align-none, alignOf as placedAlign}
 use Rattle.misc.specs.Value.{optionOf}
 use Rattle.running_check.specs.declared.running.Shape.{Shape}
-use Rattle.running_check.specs.Running.{HasShape, kindOf, stepOf, fitting, addAs, checkOpen, checkLiteral, withFull, checkAs}
-use Rattle.running_check.proofs.Widths.{fits-back, exceeds-back}
+use Rattle.running_check.specs.Running.{HasShape, kindOf, stepOf, addAs, checkOpen, checkLiteral, withFull, checkAs}
+use Rattle.width_sum.specs.Fitting.{fitting}
+use Rattle.width_sum.proofs.Widths.{fits-back, exceeds-back}
 
 pub add-unknown : (v : ℤ) (r : Running) → r .width ≡ none → addAs (some v) r ≡ ok (record { width = none; align = r .align; deterministic = r .deterministic; nonzero = true })
 add-unknown v r h = rw h

@@ -41,10 +41,7 @@ stepOf i k first last c r = placed i 0 (addWidth c r) >>= λ r₁. placed i k (c
 abbrev pub finishOf : ℕ → Running → Result Unit
 finishOf i r = placed i 0 (need (elim (r .width) [ none ↦ true | some w ↦ ltb 0 w ]) zero-total-width)
 
--- the same over what a shape says: a number that fits 64 bits
-abbrev pub fitting : ℕ → Option ℕ
-fitting n = if ltb n (2 ^ 64) then some n else none
-
+-- the same over what a shape says
 -- addWidth
 abbrev pub addAs : Option ℤ → Running → Result Running
 addAs w r =

@@ -12,13 +12,11 @@ ghost use mathlib.Core.Path.{_≡_};
 ghost use mathlib.Core.Bool.{not};
 ghost use mathlib.Core.Option.{some};
 ghost use lib.Dec.{eqb};
-ghost use Prim.Native.Nat.{_+_};
-ghost use lib.IntN.{natAbs};
 ghost use Rattle.def_numbers.specs.Basics.{placed, refused as refusedDef};
 ghost use Rattle.def_stages.specs.Component.{Component};
 ghost use Rattle.errors.specs.Refused.{resultOf};
-ghost use Rattle.misc.specs.Value.{valueOf, optionOf, optionUsize};
-ghost use Rattle.running_check.specs.Running.{runningOf, steppedOf, HasShape, stepOf, finishOf, fitting, addAs, checkLiteral, withFull, checkOpen, checkAs, keptOf, verdictOf, Advances};
+ghost use Rattle.misc.specs.Value.{valueOf, optionOf};
+ghost use Rattle.running_check.specs.Running.{runningOf, steppedOf, HasShape, stepOf, finishOf, addAs, checkLiteral, withFull, checkOpen, checkAs, keptOf, verdictOf, Advances};
 
 // What stage 3 asks of a component: its kind (1 literal, 2 variable, 3 filler), static_width, and two tests.
 pub struct Shape {
@@ -39,41 +37,6 @@ pub struct Running {
 pub enum Stepped {
     Ok(Running),
     Refused(Refusal),
-}
-
-// The number without its sign, where it fits 64 bits. (After stage 2 no known width is negative.)
-fn magnitude(x: I128) -> OptionUsize
-    ensures { λ r. ⌜ optionUsize r ≡ fitting (natAbs (valueOf x)) ⌝ }
-{
-    if x.high == 0 {
-        return OptionUsize::Some(x.low as usize);
-    }
-    if x.high < 0xFFFF_FFFF_FFFF_FFFF {
-        return OptionUsize::None;
-    }
-    if x.low == 0 {
-        return OptionUsize::None;
-    }
-    OptionUsize::Some((0xFFFF_FFFF_FFFF_FFFF - x.low + 1) as usize)
-}
-
-fn add_fitting(n: usize, m: usize) -> OptionUsize
-    ensures { λ r. ⌜ optionUsize r ≡ fitting (n + m) ⌝ }
-{
-    if m <= 0xFFFF_FFFF_FFFF_FFFF - n {
-        OptionUsize::Some(n + m)
-    } else {
-        OptionUsize::None
-    }
-}
-
-fn sum(n: usize, x: I128) -> OptionUsize
-    ensures { λ r. ⌜ optionUsize r ≡ fitting (n + natAbs (valueOf x)) ⌝ }
-{
-    match magnitude(x) {
-        OptionUsize::Some(m) => add_fitting(n, m),
-        OptionUsize::None => OptionUsize::None,
-    }
 }
 
 fn refused(number: u32, i: u32, k: u32) -> Stepped
@@ -100,7 +63,7 @@ fn add_known(i: u32, x: I128, r: Running) -> Stepped
             nonzero: true,
         });
     };
-    match sum(n, x) {
+    match width_sum::sum(n, x) {
         OptionUsize::Some(w) => Stepped::Ok(Running {
             width: OptionUsize::Some(w),
             align,

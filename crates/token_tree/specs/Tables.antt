@@ -1,12 +1,10 @@
 -- The structs of the reader, as the definition's records.
 use mathlib.Core.Path.{_≡_, refl, ap, _∙_}
-use Prim.Native.Nat.{_≤_}
-use Rattle.def_numbers.specs.Prelude.{ℕ, _+_, _*_, List, length, getD, eqb}
+use Rattle.def_numbers.specs.Prelude.{ℕ, _+_, _*_, List, getD, eqb}
 use Rattle.def_numbers.specs.Basics.{if_then_else_}
-use Rattle.def_image.specs.Image.{u32At, counts, tables, Entry, entryAt}
+use Rattle.def_image.specs.Image.{u32At, counts, tablesFor, tables, Entry, entryAt}
 use Rattle.token_tree.specs.declared.Counts.{Counts}
 use Rattle.token_tree.specs.declared.Tables.{Tables}
-use Rattle.token_tree.specs.declared.RecordEntry.{RecordEntry}
 
 abbrev pub countsOf : Counts → record { c : ℕ; n : ℕ; r : ℕ; t : ℕ; b : ℕ }
 countsOf h = record { c = h .c; n = h .n; r = h .r; t = h .t; b = h .b }
@@ -14,13 +12,10 @@ countsOf h = record { c = h .c; n = h .n; r = h .r; t = h .t; b = h .b }
 abbrev pub tablesOf : Tables → record { concatenations : ℕ; components : ℕ; records : ℕ; text : ℕ; literals : ℕ; stop : ℕ }
 tablesOf t = record { concatenations = t .concatenations; components = t .components; records = t .records; text = t .text; literals = t .literals; stop = t .stop }
 
-abbrev pub entryOf : RecordEntry → Entry
-entryOf e = record { kind = e .kind; start = e .start .0; stop = e .stop .0; skip = e .skip; byte = e .byte }
-
--- p is no further than the end, and the same bytes are read from it as from `at`
-pub record SameFrom (s : List ℕ) (at p : ℕ) : Type 0 where
-  pub short : p ≤ length s
-  pub same : (d : ℕ) → getD s (p + d) 0 ≡ getD s (at + d) 0
+-- the tables for counts that were read are the image's
+pub tables-told : (image : List ℕ) (t : Tables) (h : Counts) → tablesOf t ≡ tablesFor (h .c) (h .n) (h .r) (h .t) (h .b)
+    → countsOf h ≡ counts image → tablesOf t ≡ tables image
+tables-told image t h p q = p ∙ ap (λ x. tablesFor (x .c) (x .n) (x .r) (x .t) (x .b)) q
 
 -- "a record's text ends at the next start, the last at T": of record r of `count`, the next start standing at `next`
 abbrev pub stopIn : List ℕ → ℕ → ℕ → ℕ → ℕ → ℕ

@@ -2,12 +2,11 @@
 // is missing counts as 0.
 pub use image_words::byte_at;
 pub use image_words::join4;
-pub use image_words::stop_of;
 ghost use mathlib.Core.Path.{_≡_};
 ghost use Prim.Native.Nat.{_+_, _*_, _^_, _<_, _≤_};
 ghost use lib.ListN.{length, getD};
-ghost use Rattle.def_image.specs.Image.{u32At, counts, tablesFor, tables, componentCount, recordCount, literalWidth, startAt, entryAt};
-ghost use Rattle.token_tree.specs.Tables.{countsOf, tablesOf, entryOf, SameFrom, entryIn};
+ghost use Rattle.def_image.specs.Image.{u32At, counts, tablesFor, tables, componentCount, recordCount, literalWidth, startAt};
+ghost use Rattle.token_tree.specs.Tables.{countsOf, tablesOf};
 
 // A text place, a record number and a component number, kept apart as the crate keeps its pointers.
 pub struct PText(pub u32);
@@ -33,15 +32,6 @@ pub struct Tables {
     pub text: usize,
     pub literals: usize,
     pub stop: usize,
-}
-
-// A record: its kind, where its text starts and stops, its skip, and the first byte of its text.
-pub struct RecordEntry {
-    pub kind: u32,
-    pub start: PText,
-    pub stop: PText,
-    pub skip: u32,
-    pub byte: u8,
 }
 
 // The byte n places on, whatever the two numbers.
@@ -114,7 +104,7 @@ pub fn counts_of(image: &[u8]) -> Counts
     }
 }
 
-fn tables_for(h: Counts) -> Tables
+pub fn tables_for(h: Counts) -> Tables
     ensures { λ r. ⌜ tablesOf r ≡ tablesFor (h .c) (h .n) (h .r) (h .t) (h .b) ⌝ }
 {
     let components = 40 + 4 * (h.c as usize);
@@ -175,86 +165,4 @@ pub fn start_at(image: &[u8], r: PBind) -> PText
     ensures { λ p. ⌜ p .0 ≡ startAt (now (image .entry)) (r .0) ⌝ }
 {
     PText(u32_at(image, record_place(image, r.0) + 4))
-}
-
-// A place no further than the end, from which the same bytes are read: no sum after it can wrap.
-fn no_further(s: &[u8], at: usize) -> usize
-    ensures { λ p. ⌜ SameFrom (now (s .entry)) at p ⌝ }
-{
-    if at < s.len() { at } else { s.len() }
-}
-
-// A record of whose bytes, or of the start after it, some may be missing.
-fn short_entry(image: &[u8], records: usize, text: usize, count: u32, t: u32, r: u32) -> RecordEntry
-    ensures { λ e. ⌜ entryOf e ≡ entryIn (now (image .entry)) records text count t r ⌝ }
-{
-    let at = no_further(image, records) + 12 * (r as usize);
-    let start = u32_at(image, at + 4);
-    RecordEntry {
-        kind: u32_at(image, at),
-        start: PText(start),
-        stop: PText(stop_of(u32_at(image, at + 16), count, t, r)),
-        skip: u32_at(image, at + 8),
-        byte: byte_at(image, no_further(image, text) + (start as usize)),
-    }
-}
-
-// Record r of a table at `records`, of `count` records, whose texts stand at `text` and stop at t. For any numbers.
-pub fn entry_in(
-    image: &[u8],
-    records: usize,
-    text: usize,
-    count: u32,
-    t: u32,
-    r: u32,
-) -> RecordEntry
-    ensures { λ e. ⌜ entryOf e ≡ entryIn (now (image .entry)) records text count t r ⌝ }
-{
-    let at = no_further(image, records) + 12 * (r as usize);
-    if image.len() < 20 {
-        return short_entry(image, records, text, count, t, r);
-    }
-    if image.len() - 20 < at {
-        return short_entry(image, records, text, count, t, r);
-    }
-    let start = four_at(image, at + 4);
-    RecordEntry {
-        kind: four_at(image, at),
-        start: PText(start),
-        stop: PText(stop_of(four_at(image, at + 16), count, t, r)),
-        skip: four_at(image, at + 8),
-        byte: byte_at(image, no_further(image, text) + (start as usize)),
-    }
-}
-
-pub fn entry_at(image: &[u8], r: PBind) -> RecordEntry
-    ensures { λ e. ⌜ entryOf e ≡ entryAt (now (image .entry)) (r .0) ⌝ }
-{
-    let h = counts_of(image);
-    let t = tables_for(h);
-    entry_in(image, t.records, t.text, h.r, h.t, r.0)
-}
-
-// The table walker: the lent image and a record's number together. The stages call `read_entry`.
-pub struct Walker<'a> {
-    pub image: &'a [u8],
-    pub at: u32,
-}
-
-pub fn walker_at<'a>(image: &'a [u8], r: PBind) -> Walker<'a>
-    ensures { λ w. ⌜ (w .image ≡ image .entry) × (w .at ≡ r .0) ⌝ }
-{
-    Walker { image, at: r.0 }
-}
-
-pub fn entry<'a>(w: Walker<'a>) -> RecordEntry
-    ensures { λ e. ⌜ entryOf e ≡ entryAt (now (w .entry .image)) (w .entry .at) ⌝ }
-{
-    entry_at(w.image, PBind(w.at))
-}
-
-pub fn read_entry(image: &[u8], r: PBind) -> RecordEntry
-    ensures { λ e. ⌜ entryOf e ≡ entryAt (now (image .entry)) (r .0) ⌝ }
-{
-    entry(walker_at(image, r))
 }

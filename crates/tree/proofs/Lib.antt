@@ -1,4 +1,2 @@
 -- Laws that the functions' proofs cite.
-pub mod Loops
-pub mod Ranges
 pub mod Starting

@@ -11,15 +11,15 @@ use Rattle.token_tree.specs.Tables.{countsOf}
 use Rattle.token_tree.specs.declared.Counts.{Counts}
 use Rattle.usb.specs.Usb as Usb
 use Rattle.usb.specs.declared.Part.{Part}
-use Rattle.component.specs.Places.{unparsedIn, placedAt, startIn}
-use Rattle.component.specs.declared.places.StartResult.{StartResult}
-use Rattle.component.specs.declared.places.StartResult.the-variants as R
-use Rattle.tree.specs.declared.cursor.Cursor.{Cursor}
-use Rattle.tree.specs.declared.cursor.Spot.{Spot}
-use Rattle.tree.specs.Chain.{atMost}
-use Rattle.tree.specs.Cursor.{firstIn, spotIn}
-use Rattle.tree.specs.Pass.{advance}
-use Rattle.tree.specs.Read.{unparsedAt, startAll}
+use Rattle.component_types.specs.Places.{unparsedIn, placedAt, startIn}
+use Rattle.component_types.specs.declared.places.StartResult.{StartResult}
+use Rattle.component_types.specs.declared.places.StartResult.the-variants as R
+use Rattle.cursor.specs.declared.cursor.Cursor.{Cursor}
+use Rattle.cursor.specs.declared.cursor.Spot.{Spot}
+use Rattle.cursor.specs.Chain.{atMost}
+use Rattle.cursor.specs.Cursor.{firstIn, spotIn}
+use Rattle.cursor.specs.Pass.{advance}
+use Rattle.cursor.specs.Read.{unparsedAt, startAll}
 use Rattle.tree.specs.Start.{sourceText}
 
 -- how many components concatenation 0 has

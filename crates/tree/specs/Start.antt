@@ -7,9 +7,9 @@ use Rattle.errors.specs.Refused.{refusedAs}
 use Rattle.usb.specs.Usb as Usb
 use Rattle.tree.specs.declared.start.Start.{Start}
 use Rattle.tree.specs.declared.start.Start.the-variants as S
-use Rattle.tree.specs.Chain.{atMost}
-use Rattle.tree.specs.Cursor.{firstIn, spotIn}
-use Rattle.tree.specs.Pass.{advance}
+use Rattle.cursor.specs.Chain.{atMost}
+use Rattle.cursor.specs.Cursor.{firstIn, spotIn}
+use Rattle.cursor.specs.Pass.{advance}
 
 -- the byte of the image where the text of the last component of concatenation 0 begins
 unfoldable pub sourceText : List ℕ → ℕ

@@ -1,25 +1,24 @@
 // Stage 1, or stages 1 and 2, of every component in order: the first refusal, with its places.
-use super::cursor::Cursor;
-use super::cursor::advanced;
-use super::cursor::at_most;
-use super::cursor::first;
-use super::cursor::next;
-use super::cursor::place_at;
 use super::read::stage2_component;
-use component::ComponentResult;
-use component::Place;
+use component_types::ComponentResult;
+use component_types::Place;
+use cursor::Cursor;
+use cursor::advanced;
+use cursor::at_most;
+use cursor::first;
+use cursor::is_last;
+use cursor::next;
+use cursor::place_at;
 use errors::Checked;
 ghost use mathlib.Core.Path.{_≡_};
-ghost use mathlib.Core.Bool.{_&&_};
-ghost use lib.Dec.{eqb};
 ghost use Rattle.def_numbers.specs.Basics.{Result, placed, if_then_else_};
-ghost use Rattle.component.specs.Places.{unparsedIn};
-ghost use Rattle.component.specs.Values.{resultIn};
+ghost use Rattle.component_types.specs.Places.{unparsedIn};
+ghost use Rattle.component_types.specs.Values.{resultIn};
 ghost use Rattle.errors.specs.Refused.{resultOf};
-ghost use Rattle.tree.specs.Cursor.{firstIn};
-ghost use Rattle.tree.specs.Pass.{passed, andThen};
-ghost use Rattle.tree.specs.Read.{readAll};
-ghost use Rattle.tree.specs.Stages.{stageBy, stageAt, stageOf, stageIn, stageFrom, stage1All};
+ghost use Rattle.cursor.specs.Cursor.{firstIn};
+ghost use Rattle.cursor.specs.Pass.{passed, andThen};
+ghost use Rattle.cursor.specs.Read.{readAll};
+ghost use Rattle.cursor.specs.Stages.{stageBy, stageAt, stageOf, stageIn, stageFrom, stage1All};
 
 // Whether a check was passed: then what comes after it is what counts.
 fn passes(s: Checked) -> bool
@@ -60,16 +59,6 @@ fn stage_at(image: &[u8], second: bool, scanned: bool, c: Cursor) -> Checked
         ComponentResult::Ok(_) => Checked::Passed,
         ComponentResult::Refused(q) => Checked::Refused(q),
     }
-}
-
-// The most significant of concatenation 0 is scanned for a starting value.
-pub fn is_last(i: u32, m: u32) -> bool
-    ensures { λ b. ⌜ b ≡ (eqb i 0 && eqb m 0) ⌝ }
-{
-    if i == 0 {
-        return m == 0;
-    }
-    false
 }
 
 // Of component j of concatenation i, where m others of it come after.

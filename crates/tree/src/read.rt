@@ -1,10 +1,10 @@
 // Stages 1 and 2 of one component.
-use component::ComponentResult;
-use component::Place;
+use component_types::ComponentResult;
+use component_types::Place;
 ghost use mathlib.Core.Path.{_≡_};
-ghost use Rattle.component.specs.Places.{unparsedIn};
-ghost use Rattle.component.specs.Values.{resultIn};
-ghost use Rattle.tree.specs.Read.{stage2Component};
+ghost use Rattle.component_types.specs.Places.{unparsedIn};
+ghost use Rattle.component_types.specs.Values.{resultIn};
+ghost use Rattle.cursor.specs.Read.{stage2Component};
 
 // Stage 2 of a component that no stage has read. One of common shape is read in one go.
 pub fn stage2_component(image: &[u8], place: Place, scanned: bool) -> ComponentResult
@@ -16,7 +16,7 @@ pub fn stage2_component(image: &[u8], place: Place, scanned: bool) -> ComponentR
     }
     let s = component::stage1_component(image, place, scanned);
     match s {
-        ComponentResult::Ok(c) => component::simplify(image, place, c),
+        ComponentResult::Ok(c) => component_simplify::simplify(image, place, c),
         ComponentResult::Refused(q) => ComponentResult::Refused(q),
     }
 }

@@ -1,13 +1,14 @@
 // The starting value of the whole image.
-use super::cursor::advanced;
-use super::cursor::at_most;
-use super::cursor::first;
-use super::cursor::place_at;
-use component::StartResult;
+use super::colon;
+use component_types::StartResult;
+use cursor::advanced;
+use cursor::at_most;
+use cursor::first;
+use cursor::place_at;
 use errors::Refusal;
 use usb::Part;
 ghost use mathlib.Core.Path.{_≡_};
-ghost use Rattle.tree.specs.Read.{startAll};
+ghost use Rattle.cursor.specs.Read.{startAll};
 ghost use Rattle.tree.specs.Start.{startOf};
 
 // None, the part of its component's text with that component's text start, or a refusal.
@@ -27,7 +28,7 @@ pub fn starting_value(image: &[u8]) -> Start
         return Start::None;
     }
     let spot = place_at(image, advanced(image, first(), s - 1));
-    let found = component_fast::starting_value(image, spot.place, s - 1);
+    let found = colon::starting_value(image, spot.place, s - 1);
     match found {
         StartResult::None => Start::None,
         StartResult::Some(p) => Start::Given(spot.base, p),

@@ -5,10 +5,11 @@ use Rattle.admission.proofs.enough.Tie as tie
 
 returns : tie.Need-returns
 returns c =
-    enough-is (c .before .before .before .before .before .args .image .now) (c .before .before .before .before .before .args .area)
-    (c .before .before .before .counts-of .result) (c .before .before .before .counts-of .ensures)
+    let a = c .before .before .before .before .args in
+    enough-is (a .image .now) (a .area) _ _ _ (c .before .before .u32-at .ensures) (c .before .u32-at2 .ensures) (c .u32-at3 .ensures)
 
 pub enough-spec : {M : Type 1} → statement M
 enough-spec =
     tie.close
-    (tie.spec (λ c κs. search needs) (λ c. search needs) (λ c. search needs) (λ c. search needs) (λ c. search needs) (λ c. search needs) (λ c. search needs) (λ c. search needs) (λ c. search needs) returns)
+    (tie.spec (λ c κs. search needs) (λ c. search needs) (λ c κs. search needs) (λ c. search needs) (λ c κs. search needs) (λ c. search needs)
+    (λ c. search needs) (λ c. search needs) (λ c. search needs) (λ c. search needs) (λ c. search needs) returns)

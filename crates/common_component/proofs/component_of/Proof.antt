@@ -1,4 +1,4 @@
-use Rattle.component_fast.proofs.Made.{component-made}
+use Rattle.common_shapes.proofs.Made.{component-made}
 use borrow.Author.Needs.{needs}
 use Rattle.common_component.proofs.component_of.Statement.{statement}
 use Rattle.common_component.proofs.component_of.Tie as tie

@@ -1,4 +1,4 @@
-use Rattle.component_fast.proofs.Made.{end-some, end-none}
+use Rattle.common_shapes.proofs.Made.{end-some, end-none}
 use borrow.Author.Needs.{needs}
 use Rattle.common_component.proofs.end_of.Statement.{statement}
 use Rattle.common_component.proofs.end_of.Tie as tie

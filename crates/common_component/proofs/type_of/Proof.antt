@@ -1,4 +1,4 @@
-use Rattle.component_fast.proofs.Made.{type-literal, type-variable, type-filler}
+use Rattle.common_shapes.proofs.Made.{type-literal, type-variable, type-filler}
 use Rattle.common_component.proofs.type_of.Statement.{statement}
 use Rattle.common_component.proofs.type_of.Tie as tie
 

@@ -1,4 +1,4 @@
-use Rattle.component_fast.proofs.Made.{usb-made}
+use Rattle.common_shapes.proofs.Made.{usb-made}
 use borrow.Author.Needs.{needs}
 use Rattle.common_component.proofs.usb_of.Statement.{statement}
 use Rattle.common_component.proofs.usb_of.Tie as tie

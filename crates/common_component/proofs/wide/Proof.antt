@@ -1,4 +1,4 @@
-use Rattle.component_fast.proofs.Made.{wide-short, wide-negative}
+use Rattle.common_shapes.proofs.Made.{wide-short, wide-negative}
 use Rattle.common_component.proofs.wide.Statement.{statement}
 use Rattle.common_component.proofs.wide.Tie as tie
 

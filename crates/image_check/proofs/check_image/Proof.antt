@@ -2,30 +2,37 @@
 use mathlib.Core.Path.{_≡_, sym, ap, _∙_}
 use borrow.Author.Needs.{needs}
 use borrow.Author.Tests.{not-true, not-false}
+use Rattle.def_image.specs.Image.{tables}
 use Rattle.def_image.specs.Check.{countsRight, offsetsRight}
-use Rattle.token_tree.specs.Tables.{countsOf, tablesOf}
+use Rattle.token_tree.specs.Tables.{countsOf, tablesOf, tables-told}
 use Rattle.image_check.specs.Parts.{countsIn, offsetsIn, Laid}
 use Rattle.image_check.proofs.Whole.{some-records, image-ends, records-sum, too-short, miscounted, misplaced, wrong-entry, all-but-records}
 use Rattle.image_check.proofs.check_image.Statement.{statement}
 use Rattle.image_check.proofs.check_image.Tie as tie
 
 counts-read : (c : tie.After-counts-right) → countsRight (c .before .before .before .before .args .image .now) ≡ c .counts-right .result
-counts-read c = sym (c .counts-right .ensures ∙ ap countsIn (c .before .counts-of .ensures))
+counts-read c = sym (c .counts-right .ensures ∙ ap countsIn (c .before .header .ensures))
+
+-- the tables by the header's counts are the image's
+placed : (c : tie.After-tables-for) → tablesOf (c .tables-for .result) ≡ tables (c .before .before .before .before .before .before .args .image .now)
+placed c =
+    let h = c .before .before .before in
+    tables-told (h .before .before .before .args .image .now) (c .tables-for .result) (h .header .result) (c .tables-for .ensures) (h .header .ensures)
 
 offsets-read : (c : tie.After-offsets-right) → offsetsRight (c .before .before .before .before .before .before .before .args .image .now) ≡ c .offsets-right .result
 offsets-read c =
     let image = c .before .before .before .before .before .before .before .args .image .now in
-    sym (c .offsets-right .ensures ∙ ap (offsetsIn image) (c .before .tables-of .ensures))
+    sym (c .offsets-right .ensures ∙ ap (offsetsIn image) (placed (c .before)))
 
-laid : (c : tie.Else3) → Laid (c .before .before .before .before .before .before .before .before .args .image .now) (c .before .before .before .before .before .counts-of .result) (c .before .before .tables-of .result)
+laid : (c : tie.Else3) → Laid (c .before .before .before .before .before .before .before .before .args .image .now) (c .before .before .before .before .before .header .result) (c .before .before .tables-for .result)
 laid c =
     let p = c .before in
     let n = p .before .before .before in
     record {
-      counted = n .before .counts-of .ensures;
-      placed = p .before .tables-of .ensures;
-      some = some-records (countsOf (n .before .counts-of .result)) (sym (n .counts-right .ensures) ∙ not-false (n .counts-right .result) (p .before .before .if2 .left));
-      ends = image-ends (n .before .before .before .before .args .image .now) (tablesOf (p .before .tables-of .result)) (sym (p .offsets-right .ensures) ∙ not-false (p .offsets-right .result) (c .if3 .left));
+      counted = n .before .header .ensures;
+      placed = placed (p .before);
+      some = some-records (countsOf (n .before .header .result)) (sym (n .counts-right .ensures) ∙ not-false (n .counts-right .result) (p .before .before .if2 .left));
+      ends = image-ends (n .before .before .before .before .args .image .now) (tablesOf (p .before .tables-for .result)) (sym (p .offsets-right .ensures) ∙ not-false (p .offsets-right .result) (c .if3 .left));
     }
 
 returns : tie.Need-returns
@@ -61,7 +68,7 @@ records-check-requires c κs =
     let e = c .before in
     let n = e .before .before .before .before .before in (
       laid (e .before),
-      records-sum (n .before .before .before .before .args .image .now) (n .before .counts-of .result) (n .before .counts-of .ensures)
+      records-sum (n .before .before .before .before .args .image .now) (n .before .header .result) (n .before .header .ensures)
           (sym (e .entries-right .ensures) ∙ not-false (e .entries-right .result) (c .if4 .left)),
     )
 

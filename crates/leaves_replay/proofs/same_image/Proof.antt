@@ -13,7 +13,7 @@ cast-result : tie.Need-cast-result
 cast-result c = search needs
 
 returns : tie.Need-returns
-returns c = cc
+returns c = rw (c .before .layout-check .ensures, c .byte-at .ensures)
 
 pub same-image-spec : {M : Type 1} → statement M
 same-image-spec = tie.close (tie.spec layout-check-requires byte-at-requires cast-result returns)

@@ -1,7 +1,7 @@
 -- `leaves_replay::same_number` meets its contract: what agrees with the entry is equal to it. Assumes nothing.
 use borrow.Author.Needs.{needs}
 use mathlib.Core.Path.{sym, _∙_}
-use Rattle.leaves_replay.proofs.Agreeing.{agreeing}
+use Rattle.leaves_replay.proofs.Agreeing.{agreeing, told-alike}
 use Rattle.leaves_replay.proofs.same_number.Statement.{statement}
 use Rattle.leaves_replay.proofs.same_number.Tie as tie
 
@@ -24,7 +24,7 @@ returns : tie.Need-returns
 returns c e =
     sym (c .before .before .before .before .i128-try-parse .ensures)
     ∙ agreeing (c .before .before .before .before .i128-try-parse .result) (c .before .before .before .byte-at .result) (c .before .before .u64-at .result) (c .before .u64-at2 .result) (sym (c .agree .ensures) ∙ e)
-    ∙ cc
+    ∙ told-alike _ _ _ _ _ _ (c .before .before .before .byte-at .ensures) (c .before .before .u64-at .ensures) (c .before .u64-at2 .ensures)
 
 pub same-number-spec : {M : Type 1} → statement M
 same-number-spec =

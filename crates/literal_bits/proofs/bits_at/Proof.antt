@@ -4,7 +4,7 @@ use Rattle.literal_bits.proofs.bits_at.Statement.{statement}
 use Rattle.literal_bits.proofs.bits_at.Tie as tie
 
 returns : tie.Need-returns
-returns c = cc
+returns c = rw (c .pair .ensures, c .before .byte-at2 .ensures, c .before .before .byte-at .ensures)
 
 pub bits-at-spec : {M : Type 1} → statement M
 bits-at-spec =

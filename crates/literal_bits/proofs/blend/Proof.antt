@@ -8,7 +8,7 @@ use Rattle.literal_bits.proofs.blend.Statement.{statement}
 use Rattle.literal_bits.proofs.blend.Tie as tie
 
 returns : tie.Need-returns
-returns c = cc
+returns c = rw (c .two-to3 .ensures .0, c .before .two-to2 .ensures .0, c .before .before .two-to .ensures .0)
 
 total : (c : tie.After-two-to3)
     → let old = c .before .before .before .args .old in

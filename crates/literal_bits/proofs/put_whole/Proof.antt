@@ -11,10 +11,10 @@ use Rattle.literal_bits.proofs.put_whole.Statement.{statement}
 use Rattle.literal_bits.proofs.put_whole.Tie as tie
 
 abbrev Inv-loop : tie.InvT-loop
-Inv-loop dst₀ q src from m k r i₀ dst i = (i ≤ m) × (length dst ≡ length dst₀) × (dst ≡ withBits dst₀ (8 * q) src from (8 * i))
+Inv-loop dst₀ q src from m k i₀ dst i = (i ≤ m) × (length dst ≡ length dst₀) × (dst ≡ withBits dst₀ (8 * q) src from (8 * i))
 
 abbrev μ-loop : tie.MeasureT-loop
-μ-loop dst₀ q src from m k r i₀ dst i = m - i
+μ-loop dst₀ q src from m k i₀ dst i = m - i
 
 loop-holds : tie.Need-loop-holds Inv-loop μ-loop
 loop-holds c =
@@ -49,14 +49,13 @@ put-whole-spec =
     (tie.spec
     Inv-loop
     μ-loop
-    (λ c. omega arith)
     loop-holds
     (λ c. omega arith)
     (λ c. omega arith)
     (λ c. omega arith)
     (λ c. omega arith)
     (λ c. omega arith)
-    (λ c κs. omega arith)
+    (λ c κs. search needs)
     (λ c. omega arith)
     (λ c. omega arith)
     (λ c. omega arith)

@@ -6,7 +6,7 @@ use borrow.Author.Needs.{needs}
 use borrow.Author.Tests.{not-false}
 use Rattle.def_numbers.specs.Prelude.{length}
 use Rattle.one_pass.specs.Turn.{Gone}
-use Rattle.one_pass.proofs.Places.{unfit}
+use Rattle.pass_sums.proofs.Sums.{unfit}
 use Rattle.one_pass.proofs.Walks.{gone-none, gone-on, gone-all}
 use Rattle.one_pass.proofs.pass_once.Statement.{statement}
 use Rattle.one_pass.proofs.pass_once.Tie as tie

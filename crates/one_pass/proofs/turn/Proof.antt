@@ -1,7 +1,7 @@
 use borrow.Author.Needs.{needs}
 use borrow.Author.Tests.{not-false}
 use mathlib.Core.Path.{refl}
-use Rattle.one_pass.proofs.Places.{unfit}
+use Rattle.pass_sums.proofs.Sums.{unfit}
 use Rattle.one_pass.proofs.Walks.{turn-on}
 use Rattle.one_pass.proofs.turn.Statement.{statement}
 use Rattle.one_pass.proofs.turn.Tie as tie
@@ -10,12 +10,6 @@ moved-requires : tie.Need-moved-requires
 moved-requires c κs =
     let l = c .before .before .before .before .before .before .located in
     l .ensures (not-false (l .result .fits) (c .before .before .before .before .if1 .left)) .1
-
-summed-requires : tie.Need-summed-requires
-summed-requires c κs =
-    let a = c .before .before .admits in
-    let h = a .ensures (not-false (a .result) (c .before .if2 .left)) in
-    (h .short, h .sum-short)
 
 returns-3 : tie.Need-returns-3
 returns-3 c =
@@ -26,12 +20,13 @@ returns-3 c =
     let m = c .before .before .before .before .before .moved in
     let s = c .before .before .before .before .summed in
     let p = c .before .before .written in
+    let h = k .ensures (not-false (k .result) (c .before .before .before .before .before .before .if2 .left)) in
     λ _. turn-on (a .image .now) (a .mode) (a .i) (a .t) (l .result) (q .result) (m .result) (s .result) (p .result) (a .area .now) _ (l .ensures)
-    (not-false (l .result .fits) (c .before .before .before .before .before .before .before .before .before .before .if1 .left)) (q .ensures) (k .ensures (not-false (k .result) (c .before .before .before .before .before .before .if2 .left)))
-    (m .ensures) (s .ensures) (p .ensures)
+    (not-false (l .result .fits) (c .before .before .before .before .before .before .before .before .before .before .if1 .left)) (q .ensures) h
+    (m .ensures) (s .ensures (h .short) (h .sum-short)) (p .ensures)
 
 pub turn-spec : {M : Type 1} → statement M
 turn-spec =
     tie.close
-    (tie.spec (λ c κs. search needs) (λ c. unfit _ refl) (λ c κs. search needs) (λ c κs. search needs) (λ c. unfit _ refl) moved-requires summed-requires
+    (tie.spec (λ c κs. search needs) (λ c. unfit _ refl) (λ c κs. search needs) (λ c κs. search needs) (λ c. unfit _ refl) moved-requires (λ c κs. search needs)
     (λ c κs. search needs) (λ c. search needs) returns-3)

@@ -3,7 +3,7 @@ use mathlib.Core.Path.{sym, ap, _∙_}
 use denote.Ref.{now}
 use Rattle.misc.specs.Value.{optionOf}
 use Rattle.misc.specs.declared.OptionI128.{OptionI128}
-use Rattle.parse.proofs.Reading.{turned, try-empty, try-plain, try-minus}
+use Rattle.number_parts.proofs.Reading.{turned, try-empty, try-plain, try-minus}
 use borrow.Author.Needs.{needs}
 use Rattle.parse.proofs.any_parse.Statement.{statement}
 use Rattle.parse.proofs.any_parse.Tie as tie

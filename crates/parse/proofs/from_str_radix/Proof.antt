@@ -3,8 +3,8 @@ use mathlib.Core.Path.{ap, _∙_}
 use lib.IntN.{pos}
 use denote.Ref.{now}
 use Rattle.def_numbers.specs.Numbers.{signedAs}
-use Rattle.parse.specs.Parts.{negated}
-use Rattle.parse.proofs.Reading.{inner-empty, inner-minus, inner-plus, inner-bare}
+use Rattle.number_parts.specs.Parts.{negated}
+use Rattle.number_parts.proofs.Reading.{inner-empty, inner-minus, inner-plus, inner-bare}
 use borrow.Author.Needs.{needs}
 use Rattle.parse.proofs.from_str_radix.Statement.{statement}
 use Rattle.parse.proofs.from_str_radix.Tie as tie

@@ -1,7 +1,7 @@
 -- `parse::i128_try_parse` meets its contract: a short number is its own value, and the rest is read by the general way.
 use mathlib.Core.Path.{_∙_}
 use borrow.Author.Needs.{needs}
-use Rattle.parse.proofs.ShortDecimal.{low-alone}
+use Rattle.number_parts.proofs.ShortDecimal.{low-alone}
 use Rattle.parse.proofs.i128_try_parse.Statement.{statement}
 use Rattle.parse.proofs.i128_try_parse.Tie as tie
 

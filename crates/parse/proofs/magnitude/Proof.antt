@@ -1,6 +1,6 @@
 -- `parse::magnitude` meets its contract: the constant table has its rule.
 use borrow.Author.Needs.{needs}
-use Rattle.parse.proofs.Worths.{worths, worths-right}
+use Rattle.digit.proofs.Worths.{worths, worths-right}
 use Rattle.parse.proofs.magnitude.Statement.{statement}
 use Rattle.parse.proofs.magnitude.Tie as tie
 

@@ -6,9 +6,10 @@ use denote.Ref.{now}
 use lib.ListN.{length, drop}
 use borrow.Author.Needs.{needs}
 use Rattle.def_numbers.specs.Numbers.{digitsFrom}
-use Rattle.parse.specs.Parts.{number, numberOf, capped}
-use Rattle.parse.proofs.Product.{halves-fit}
-use Rattle.parse.proofs.Digits.{nothing, finished, ended, passed, again}
+use Rattle.number_parts.specs.Halves.{number, numberOf}
+use Rattle.number_parts.specs.Parts.{capped}
+use Rattle.number_parts.proofs.Product.{halves-fit}
+use Rattle.number_parts.proofs.Digits.{nothing, finished, ended, passed, again}
 use Rattle.parse.proofs.magnitude_by.Statement.{statement}
 use Rattle.parse.proofs.magnitude_by.Tie as tie
 

@@ -3,7 +3,7 @@ use native.Mathlib.Omega.{arith}
 use native.Mathlib.Nat.{mul-le-mul-left}
 use Prim.Native.Nat.{_/_, _%_, _^_}
 use borrow.Author.Needs.{needs}
-use Rattle.parse.proofs.Product.{by-parts}
+use Rattle.number_parts.proofs.Product.{by-parts}
 use Rattle.parse.proofs.mul_small.Statement.{statement}
 use Rattle.parse.proofs.mul_small.Tie as tie
 

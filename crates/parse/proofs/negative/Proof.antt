@@ -1,6 +1,6 @@
 -- `parse::negative` meets its contract: a law for each way through it.
 use mathlib.Core.Path.{_∙_}
-use Rattle.parse.proofs.Signs.{negative-fits, negative-high, negative-low, negative-least}
+use Rattle.number_parts.proofs.Signs.{negative-fits, negative-high, negative-low, negative-least}
 use borrow.Author.Needs.{needs}
 use Rattle.parse.proofs.negative.Statement.{statement}
 use Rattle.parse.proofs.negative.Tie as tie

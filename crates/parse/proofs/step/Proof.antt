@@ -1,7 +1,7 @@
 -- `parse::step` meets its contract: the product by halves, and whether anything is over.
 use native.Mathlib.Omega.{arith}
 use borrow.Author.Needs.{needs}
-use Rattle.parse.proofs.Product.{step-fits, step-past}
+use Rattle.number_parts.proofs.Product.{step-fits, step-past}
 use Rattle.parse.proofs.step.Statement.{statement}
 use Rattle.parse.proofs.step.Tie as tie
 

@@ -2,7 +2,7 @@
 use mathlib.Core.Path.{_∙_}
 use native.Mathlib.Omega.{arith}
 use denote.Ref.{now}
-use Rattle.parse.proofs.Reading.{short-decimal, decimal, no-radix, in-radix}
+use Rattle.number_parts.proofs.Reading.{short-decimal, decimal, no-radix, in-radix}
 use borrow.Author.Needs.{needs}
 use Rattle.parse.proofs.unsigned_parse.Statement.{statement}
 use Rattle.parse.proofs.unsigned_parse.Tie as tie

@@ -2,9 +2,9 @@ use borrow.Author.Needs.{needs}
 use mathlib.Core.Path.{_≡_, ap, sym, _∙_}
 use Prim.Native.Nat.{_≤_, _<_, _-_, _+_}
 use native.Mathlib.Omega.{arith}
-use Rattle.stage3.specs.Tally.{Tally, noTally, tallyOf}
-use Rattle.stage3.specs.Walk.{walk}
-use Rattle.stage3.proofs.Loops.{walk-start, walk-end, walk-on, walk-off, next-merged}
+use Rattle.tally.specs.Tally.{Tally, noTally, tallyOf}
+use Rattle.tally.specs.Walk.{walk}
+use Rattle.tally.proofs.Loops.{walk-start, walk-end, walk-on, walk-off, next-merged}
 use Rattle.stage3.proofs.check.Statement.{statement}
 use Rattle.stage3.proofs.check.Tie as tie
 

@@ -9,10 +9,10 @@ use Rattle.def_image.specs.Image.{Placed}
 use Rattle.def_stages.specs.Component.{Component}
 use Rattle.def_stages.specs.Concatenation.{merge}
 use Rattle.answer_fits.specs.Fixed.{AllFixed}
-use Rattle.tree.specs.Read.{readIn}
-use Rattle.stage5.specs.Put.{Room}
-use Rattle.stage5.specs.State.{Midway}
-use Rattle.stage5.proofs.Turns.{walk-starts, walk-goes, walk-ends}
+use Rattle.cursor.specs.Read.{readIn}
+use Rattle.merging.specs.Put.{Room}
+use Rattle.merging.specs.State.{Midway}
+use Rattle.merging.proofs.Turns.{walk-starts, walk-goes, walk-ends}
 use Rattle.stage5.proofs.put_merged.Statement.{statement}
 use Rattle.stage5.proofs.put_merged.Tie as tie
 

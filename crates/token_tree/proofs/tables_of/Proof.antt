@@ -1,5 +1,5 @@
 use borrow.Author.Needs.{needs}
-use Rattle.token_tree.proofs.Entries.{tables-told}
+use Rattle.token_tree.specs.Tables.{tables-told}
 use Rattle.token_tree.proofs.tables_of.Statement.{statement}
 use Rattle.token_tree.proofs.tables_of.Tie as tie
 

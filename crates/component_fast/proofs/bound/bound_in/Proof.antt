@@ -1,6 +1,6 @@
 use native.Mathlib.Omega.{arith}
 use borrow.Author.Tests.{not-false}
-use Rattle.component_fast.proofs.Bounds.{bound-word}
+use Rattle.common_shapes.proofs.Bounds.{bound-word}
 use borrow.Author.Needs.{needs}
 use Rattle.component_fast.proofs.bound.bound_in.Statement.{statement}
 use Rattle.component_fast.proofs.bound.bound_in.Tie as tie

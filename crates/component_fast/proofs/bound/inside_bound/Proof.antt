@@ -1,7 +1,7 @@
 use mathlib.Core.Logic.{⊎-elim}
 use native.Mathlib.Omega.{arith}
 use borrow.Author.Tests.{not-false}
-use Rattle.component_fast.proofs.Bounds.{inside-word, inside-signed, other-five}
+use Rattle.common_shapes.proofs.Bounds.{inside-word, inside-signed, other-five}
 use borrow.Author.Needs.{needs}
 use Rattle.component_fast.proofs.bound.inside_bound.Statement.{statement}
 use Rattle.component_fast.proofs.bound.inside_bound.Tie as tie

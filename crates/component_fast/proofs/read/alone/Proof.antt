@@ -1,8 +1,8 @@
 use mathlib.Core.Path.{refl}
 use borrow.Author.Tests.{not-false}
-use Rattle.component_fast.specs.Typed.{noEnd}
+use Rattle.common_shapes.specs.Typed.{noEnd}
 use Rattle.component_fast.proofs.Founds.{alone-is}
-use Rattle.component_fast.proofs.Made.{nothing}
+use Rattle.common_shapes.proofs.Made.{nothing}
 use borrow.Author.Needs.{needs}
 use Rattle.component_fast.proofs.read.alone.Statement.{statement}
 use Rattle.component_fast.proofs.read.alone.Tie as tie

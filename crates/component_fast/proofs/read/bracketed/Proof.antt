@@ -1,7 +1,8 @@
 use mathlib.Core.Path.{refl}
+use native.Mathlib.Omega.{arith}
 use borrow.Author.Tests.{not-false}
 use Rattle.component_fast.proofs.Founds.{bracketed-is, left-is, skip-is, stands-two}
-use Rattle.component_fast.proofs.Made.{nothing}
+use Rattle.common_shapes.proofs.Made.{nothing}
 use borrow.Author.Needs.{needs}
 use Rattle.component_fast.proofs.read.bracketed.Statement.{statement}
 use Rattle.component_fast.proofs.read.bracketed.Tie as tie
@@ -11,6 +12,18 @@ returns c = nothing (c .other .result .kind) (c .other .ensures)
 
 returns-2 : tie.Need-returns-2
 returns-2 c = nothing (c .other2 .result .kind) (c .other2 .ensures)
+
+add-at : tie.Need-add-at
+add-at c = omega (arith, c .length-at2 .ensures .1, c .before .before .before .before .before .before .before .before .length-at .ensures .1)
+
+range-in-requires : tie.Need-range-in-requires
+range-in-requires c κs =
+    let m = c .before in
+    let n = m .before .before .before .before .before .before .before .before in
+    let l = n .length-at .ensures .1 in
+    let l2 = m .length-at2 .ensures .1 in
+    let (_, text, four, small, long, _) = n .before .before .pre in
+    (text, omega (arith, small), omega (arith, l, l2), omega (arith, four), omega (arith, four, long))
 
 returns-3 : tie.Need-returns-3
 returns-3 c =
@@ -35,4 +48,4 @@ bracketed-spec =
     tie.close
     (tie.spec (λ c κs. search needs) (λ c κs. search needs) (λ c κs. search needs) (λ c κs. search needs) (λ c κs. search needs) returns
     (λ c. search needs) (λ c. search needs) (λ c κs. search needs) (λ c κs. search needs) returns-2 (λ c. search needs) (λ c κs. search needs)
-    (λ c. search needs) (λ c. search needs) (λ c. search needs) (λ c κs. search needs) (λ c κs. search needs) returns-3)
+    add-at (λ c. search needs) (λ c. search needs) range-in-requires (λ c κs. search needs) returns-3)

@@ -6,7 +6,7 @@ use Rattle.def_image.specs.Image.{tables}
 use mathlib.Core.Path.{sym, _∙_}
 use Rattle.component_fast.proofs.Fillers.{filler-read, stands-three, third-place, not-none}
 use Rattle.component_fast.proofs.Founds.{records-small}
-use Rattle.component_fast.proofs.Made.{nothing, filler-made}
+use Rattle.common_shapes.proofs.Made.{nothing, filler-made}
 use borrow.Author.Needs.{needs}
 use Rattle.component_fast.proofs.read.filler.Statement.{statement}
 use Rattle.component_fast.proofs.read.filler.Tie as tie

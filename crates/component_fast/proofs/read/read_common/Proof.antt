@@ -1,7 +1,7 @@
 use mathlib.Core.Path.{sym, _∙_}
 use borrow.Author.Tests.{not-false}
 use Rattle.component_fast.proofs.Founds.{text-small}
-use Rattle.component_fast.proofs.Made.{nothing}
+use Rattle.common_shapes.proofs.Made.{nothing}
 use borrow.Author.Needs.{needs}
 use Rattle.component_fast.proofs.read.read_common.Statement.{statement}
 use Rattle.component_fast.proofs.read.read_common.Tie as tie

@@ -1,4 +1,4 @@
-use Rattle.component_fast.specs.Start.{only}
+use Rattle.common_shapes.specs.Start.{only}
 use Rattle.component_fast.proofs.Starts.{ends-bracket}
 use borrow.Author.Needs.{needs}
 use Rattle.component_fast.proofs.start.ends_after.Statement.{statement}

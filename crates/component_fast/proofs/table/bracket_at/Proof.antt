@@ -1,4 +1,4 @@
-use Rattle.component_fast.proofs.Tests.{bracket-kind, bracket-skip}
+use Rattle.common_shapes.proofs.Tests.{bracket-kind, bracket-skip}
 use borrow.Author.Needs.{needs}
 use Rattle.component_fast.proofs.table.bracket_at.Statement.{statement}
 use Rattle.component_fast.proofs.table.bracket_at.Tie as tie

@@ -1,4 +1,4 @@
-use Rattle.component_fast.proofs.Tests.{dot-read}
+use Rattle.common_shapes.proofs.Tests.{dot-read}
 use borrow.Author.Needs.{needs}
 use Rattle.component_fast.proofs.table.dot_at.Statement.{statement}
 use Rattle.component_fast.proofs.table.dot_at.Tie as tie

@@ -1,5 +1,5 @@
 use borrow.Author.Tests.{not-true, not-false}
-use Rattle.component_fast.proofs.Tests.{first-other, first-dot}
+use Rattle.common_shapes.proofs.Tests.{first-other, first-dot}
 use borrow.Author.Needs.{needs}
 use Rattle.component_fast.proofs.table.two_dots.Statement.{statement}
 use Rattle.component_fast.proofs.table.two_dots.Tie as tie

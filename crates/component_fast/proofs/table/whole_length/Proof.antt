@@ -1,5 +1,5 @@
 use mathlib.Core.Path.{sym, _∙_}
-use Rattle.component_fast.proofs.Tokens.{length-last, length-next}
+use Rattle.common_shapes.proofs.Tokens.{length-last, length-next}
 use borrow.Author.Needs.{needs}
 use Rattle.component_fast.proofs.table.whole_length.Statement.{statement}
 use Rattle.component_fast.proofs.table.whole_length.Tie as tie

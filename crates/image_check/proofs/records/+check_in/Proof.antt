@@ -9,22 +9,24 @@ use borrow.Fn.Kinds.{In}
 use borrow.Fn.PlainCycle.{Measures, is, falls, and}
 use Rattle.def_numbers.specs.Basics.{Result}
 use Rattle.def_image.specs.Check.{closeRight}
-use Rattle.image_check.specs.Parts.{Says, entryOn, entryWith, entryFrom, openerRight}
+use Rattle.token_tree.specs.Tables.{entryIn}
+use Rattle.image_check.specs.Parts.{Says, entryFrom}
+use Rattle.record_rules.specs.Rules.{entryWith, openerRight}
 use Rattle.image_check.proofs.Groups.{Opener, skip-told, word-refused, word-goes, skip-refused, opener-refused, deep-refused, inside-refused, close-refused, group-goes, says-end}
 use Rattle.image_check.proofs.records.check_in.Reads as check-in
 use Rattle.image_check.proofs.records.check_in.Kinds as check-in-kinds
 use Rattle.image_check.proofs.records.+check_in.Lts-check_in as check-in-lts
 use Rattle.image_check.proofs.records.byte_of.Reads as byte-of-reads
-use Rattle.image_check.proofs.records.close_right.Reads as close-right-reads
+use Rattle.record_rules.proofs.close_right.Reads as close-right-reads
 use Rattle.image_check.proofs.records.numbers_at.Reads as numbers-at-reads
-use Rattle.image_check.proofs.records.opener_right.Reads as opener-right-reads
-use Rattle.image_check.proofs.records.skip_right.Reads as skip-right-reads
-use Rattle.image_check.proofs.records.word_right.Reads as word-right-reads
+use Rattle.record_rules.proofs.opener_right.Reads as opener-right-reads
+use Rattle.record_rules.proofs.skip_right.Reads as skip-right-reads
+use Rattle.record_rules.proofs.word_right.Reads as word-right-reads
 use Rattle.image_check.proofs.records.+check_in.{statement}
 use Rattle.image_check.proofs.records.+check_in.Tie.{close}
 
 abbrev μ-check-in : Measures 1 check-in-kinds.ps ℕ
-μ-check-in κs a = a .1 .1 .1 .0
+μ-check-in κs a = a .1 .1 .1 .1 .1 .1 .0
 
 abbrev given : ℕ → In 1 check-in-kinds.ps
 given t = and 1 check-in-kinds.ps (is 1 check-in-kinds.ps μ-check-in t) check-in.Pre
@@ -51,12 +53,12 @@ told t = (
 )
 
 abbrev Inv : check-in-lts.InvT-loop
-Inv image p from count depth k₀ left₀ k left =
+Inv image records text all limit from count depth k₀ left₀ k left =
     (k + left ≡ from + count) × (left ≤ count)
-    × ((x : Result Unit) → Says (p .t) (entryOn image p) depth k left x → Says (p .t) (entryOn image p) depth from count x)
+    × ((x : Result Unit) → Says limit (entryIn image records text all limit) depth k left x → Says limit (entryIn image records text all limit) depth from count x)
 
 abbrev μ-loop : check-in-lts.MeasureT-loop
-μ-loop image p from count depth k₀ left₀ k left = left
+μ-loop image records text all limit from count depth k₀ left₀ k left = left
 
 loop-holds : (t : ℕ) → check-in-lts.Need-loop-holds (told t) (given t) check-in.Post Inv μ-loop
 loop-holds t c = (search needs, search needs, λ x says. says)
@@ -69,7 +71,7 @@ word-wrong t c =
     let a = b .before .before .before .before .args in
     let v = b .before .before .loop in
     v .inv .2 _
-    (word-refused (a .p .t) (entryOn (a .image .now) (a .p)) (a .depth) (v .k) (v .left) (b .before .loop-test .taken) (entryFrom (a .image .now) (a .p) (b .numbers-at .result)) (b .numbers-at .ensures)
+    (word-refused (a .t) (entryIn (a .image .now) (a .records) (a .text) (a .all) (a .t)) (a .depth) (v .k) (v .left) (b .before .loop-test .taken) (entryFrom (a .image .now) (a .text) (b .numbers-at .result)) (b .numbers-at .ensures (a .text))
     (omega (arith, w .before .if1 .taken)) (sym (w .word-right .ensures) ∙ not-true (w .word-right .result) (c .if2 .taken)))
 
 word-again : (t : ℕ) → check-in-lts.Need-loop-again (told t) (given t) check-in.Post Inv μ-loop
@@ -81,7 +83,7 @@ word-again t c =
       omega (arith, v .inv .0),
       omega (arith, v .inv .1),
       λ x says. v .inv .2 x
-          (word-goes (a .p .t) (entryOn (a .image .now) (a .p)) (a .depth) (v .k) (v .left) (b .before .loop-test .taken) (entryFrom (a .image .now) (a .p) (b .numbers-at .result)) (b .numbers-at .ensures)
+          (word-goes (a .t) (entryIn (a .image .now) (a .records) (a .text) (a .all) (a .t)) (a .depth) (v .k) (v .left) (b .before .loop-test .taken) (entryFrom (a .image .now) (a .text) (b .numbers-at .result)) (b .numbers-at .ensures (a .text))
           (omega (arith, w .before .if1 .taken)) (sym (w .word-right .ensures) ∙ not-false (w .word-right .result) (c .if2 .left)) x says),
     )
 
@@ -90,12 +92,12 @@ word-again t c =
 stays : (t : ℕ) (c : check-in-lts.After-struct-known2 (told t) (given t) check-in.Post Inv μ-loop)
     → let b = c .before .before .before .before .before in
     let a = b .before .before .before .before .args in
-    Opener (entryFrom (a .image .now) (a .p) (b .numbers-at .result)) (b .before .before .loop .left)
+    Opener (entryFrom (a .image .now) (a .text) (b .numbers-at .result)) (b .before .before .loop .left)
 stays t c =
     let s = c .before .before in
     let b = s .before .before .before in
     let a = b .before .before .before .before .args in
-    let o = skip-told (entryFrom (a .image .now) (a .p) (b .numbers-at .result)) _ (sym (s .skip-right .ensures) ∙ not-false (s .skip-right .result) (c .before .if3 .left)) in
+    let o = skip-told (entryFrom (a .image .now) (a .text) (b .numbers-at .result)) _ (sym (s .skip-right .ensures) ∙ not-false (s .skip-right .result) (c .before .if3 .left)) in
     record { group = o .group; two = o .two; most = omega (arith, o .most) }
 
 skip-wrong : (t : ℕ) → check-in-lts.Need-returns-2 (told t) (given t) check-in.Post Inv μ-loop
@@ -105,7 +107,7 @@ skip-wrong t c =
     let a = b .before .before .before .before .args in
     let v = b .before .before .loop in
     v .inv .2 _
-    (skip-refused (a .p .t) (entryOn (a .image .now) (a .p)) (a .depth) (v .k) (v .left) (b .before .loop-test .taken) (entryFrom (a .image .now) (a .p) (b .numbers-at .result)) (b .numbers-at .ensures)
+    (skip-refused (a .t) (entryIn (a .image .now) (a .records) (a .text) (a .all) (a .t)) (a .depth) (v .k) (v .left) (b .before .loop-test .taken) (entryFrom (a .image .now) (a .text) (b .numbers-at .result)) (b .numbers-at .ensures (a .text))
     (λ z. absurd (omega (arith, z, s .before .if1 .left))) (sym (s .skip-right .ensures) ∙ not-true (s .skip-right .result) (c .if3 .taken)))
 
 room : (t : ℕ) (c : check-in-lts.After-struct-known2 (told t) (given t) check-in.Post Inv μ-loop)
@@ -120,12 +122,12 @@ opener-read : (t : ℕ) (c : check-in-lts.After-opener-right (told t) (given t) 
     → let n = c .before .before in
     let b = n .before .before .before .before .before .before in
     let a = b .before .before .before .before .args in
-    openerRight (a .p .t) (entryFrom (a .image .now) (a .p) (b .numbers-at .result)) (entryFrom (a .image .now) (a .p) (n .numbers-at2 .result)) ≡ c .opener-right .result
+    openerRight (a .t) (entryFrom (a .image .now) (a .text) (b .numbers-at .result)) (entryFrom (a .image .now) (a .text) (n .numbers-at2 .result)) ≡ c .opener-right .result
 opener-read t c =
     let n = c .before .before in
     let b = n .before .before .before .before .before .before in
     let a = b .before .before .before .before .args in
-    ap (λ x. openerRight (a .p .t) (entryWith (b .numbers-at .result) x) (entryWith (n .numbers-at2 .result) 0)) (sym (c .before .byte-of .ensures)) ∙ sym (c .opener-right .ensures)
+    ap (λ x. openerRight (a .t) (entryWith (b .numbers-at .result) x) (entryWith (n .numbers-at2 .result) 0)) (sym (c .before .byte-of .ensures)) ∙ sym (c .opener-right .ensures)
 
 opener-wrong : (t : ℕ) → check-in-lts.Need-returns-3 (told t) (given t) check-in.Post Inv μ-loop
 opener-wrong t c =
@@ -135,10 +137,10 @@ opener-wrong t c =
     let a = b .before .before .before .before .args in
     let v = b .before .before .loop in
     let image = a .image .now in
-    let e = entryFrom image (a .p) (b .numbers-at .result) in
+    let e = entryFrom image (a .text) (b .numbers-at .result) in
     v .inv .2 _
-    (opener-refused (a .p .t) (entryOn image (a .p)) (a .depth) (v .k) (v .left) (b .before .loop-test .taken) e (b .numbers-at .ensures)
-    (stays t (n .before)) (entryFrom image (a .p) (n .numbers-at2 .result)) (n .numbers-at2 .ensures) (opener-read t o ∙ not-true (o .opener-right .result) (c .if4 .taken)))
+    (opener-refused (a .t) (entryIn image (a .records) (a .text) (a .all) (a .t)) (a .depth) (v .k) (v .left) (b .before .loop-test .taken) e (b .numbers-at .ensures (a .text))
+    (stays t (n .before)) (entryFrom image (a .text) (n .numbers-at2 .result)) (n .numbers-at2 .ensures (a .text)) (opener-read t o ∙ not-true (o .opener-right .result) (c .if4 .taken)))
 
 deep-wrong : (t : ℕ) → check-in-lts.Need-returns-4 (told t) (given t) check-in.Post Inv μ-loop
 deep-wrong t c =
@@ -148,10 +150,10 @@ deep-wrong t c =
     let a = b .before .before .before .before .args in
     let v = b .before .before .loop in
     let image = a .image .now in
-    let e = entryFrom image (a .p) (b .numbers-at .result) in
+    let e = entryFrom image (a .text) (b .numbers-at .result) in
     v .inv .2 _
-    (deep-refused (a .p .t) (entryOn image (a .p)) (a .depth) (v .k) (v .left) (b .before .loop-test .taken) e (b .numbers-at .ensures)
-    (stays t (n .before)) (entryFrom image (a .p) (n .numbers-at2 .result)) (n .numbers-at2 .ensures) (opener-read t o ∙ not-false (o .opener-right .result) (c .before .if4 .left))
+    (deep-refused (a .t) (entryIn image (a .records) (a .text) (a .all) (a .t)) (a .depth) (v .k) (v .left) (b .before .loop-test .taken) e (b .numbers-at .ensures (a .text))
+    (stays t (n .before)) (entryFrom image (a .text) (n .numbers-at2 .result)) (n .numbers-at2 .ensures (a .text)) (opener-read t o ∙ not-false (o .opener-right .result) (c .before .if4 .left))
     (omega (arith, c .if5 .taken)))
 
 -- not as deep as groups may be
@@ -176,10 +178,10 @@ inside-wrong t c =
     let a = b .before .before .before .before .args in
     let v = b .before .before .loop in
     let image = a .image .now in
-    let e = entryFrom image (a .p) (b .numbers-at .result) in
+    let e = entryFrom image (a .text) (b .numbers-at .result) in
     v .inv .2 _
-    (inside-refused (a .p .t) (entryOn image (a .p)) (a .depth) (v .k) (v .left) (b .before .loop-test .taken) e (b .numbers-at .ensures)
-    (stays t (n .before)) (entryFrom image (a .p) (n .numbers-at2 .result)) (n .numbers-at2 .ensures) (opener-read t o ∙ not-false (o .opener-right .result) (i .before .before .before .if4 .left))
+    (inside-refused (a .t) (entryIn image (a .records) (a .text) (a .all) (a .t)) (a .depth) (v .k) (v .left) (b .before .loop-test .taken) e (b .numbers-at .ensures (a .text))
+    (stays t (n .before)) (entryFrom image (a .text) (n .numbers-at2 .result)) (n .numbers-at2 .ensures (a .text)) (opener-read t o ∙ not-false (o .opener-right .result) (i .before .before .before .if4 .left))
     (shallow t (i .before)) (i .check-in .result) (i .check-in .ensures) (c .if6 .taken))
 
 -- the closer's text and skip were looked at
@@ -187,12 +189,12 @@ closer-read : (t : ℕ) (c : check-in-lts.After-close-right (told t) (given t) c
     → let n = c .before .before .before .before .before .before .before .before .before in
     let b = n .before .before .before .before .before .before in
     let a = b .before .before .before .before .args in
-    closeRight (a .p .t) (entryFrom (a .image .now) (a .p) (b .numbers-at .result)) (entryFrom (a .image .now) (a .p) (n .numbers-at2 .result)) ≡ c .close-right .result
+    closeRight (a .t) (entryFrom (a .image .now) (a .text) (b .numbers-at .result)) (entryFrom (a .image .now) (a .text) (n .numbers-at2 .result)) ≡ c .close-right .result
 closer-read t c =
     let n = c .before .before .before .before .before .before .before .before .before in
     let b = n .before .before .before .before .before .before in
     let a = b .before .before .before .before .args in
-    ap (λ x. closeRight (a .p .t) (entryWith (b .numbers-at .result) 0) (entryWith (n .numbers-at2 .result) x)) (sym (c .before .byte-of2 .ensures)) ∙ sym (c .close-right .ensures)
+    ap (λ x. closeRight (a .t) (entryWith (b .numbers-at .result) 0) (entryWith (n .numbers-at2 .result) x)) (sym (c .before .byte-of2 .ensures)) ∙ sym (c .close-right .ensures)
 
 closer-wrong : (t : ℕ) → check-in-lts.Need-returns-6 (told t) (given t) check-in.Post Inv μ-loop
 closer-wrong t c =
@@ -204,10 +206,10 @@ closer-wrong t c =
     let a = b .before .before .before .before .args in
     let v = b .before .before .loop in
     let image = a .image .now in
-    let e = entryFrom image (a .p) (b .numbers-at .result) in
+    let e = entryFrom image (a .text) (b .numbers-at .result) in
     v .inv .2 _
-    (close-refused (a .p .t) (entryOn image (a .p)) (a .depth) (v .k) (v .left) (b .before .loop-test .taken) e (b .numbers-at .ensures)
-    (stays t (n .before)) (entryFrom image (a .p) (n .numbers-at2 .result)) (n .numbers-at2 .ensures) (opener-read t o ∙ not-false (o .opener-right .result) (i .before .before .before .if4 .left))
+    (close-refused (a .t) (entryIn image (a .records) (a .text) (a .all) (a .t)) (a .depth) (v .k) (v .left) (b .before .loop-test .taken) e (b .numbers-at .ensures (a .text))
+    (stays t (n .before)) (entryFrom image (a .text) (n .numbers-at2 .result)) (n .numbers-at2 .ensures (a .text)) (opener-read t o ∙ not-false (o .opener-right .result) (i .before .before .before .if4 .left))
     (shallow t (i .before)) (i .check-in .result) (i .check-in .ensures) (l .before .before .if6 .left)
     (closer-read t l ∙ not-true (l .close-right .result) (c .if7 .taken)))
 
@@ -221,13 +223,13 @@ group-again t c =
     let a = b .before .before .before .before .args in
     let v = b .before .before .loop in
     let image = a .image .now in
-    let e = entryFrom image (a .p) (b .numbers-at .result) in
+    let e = entryFrom image (a .text) (b .numbers-at .result) in
     let fits = stays t (n .before) in (
       omega (arith, v .inv .0, fits),
       omega (arith, v .inv .1, fits),
       λ x says. v .inv .2 x
-          (group-goes (a .p .t) (entryOn image (a .p)) (a .depth) (v .k) (v .left) (b .before .loop-test .taken) e (b .numbers-at .ensures)
-          fits (entryFrom image (a .p) (n .numbers-at2 .result)) (n .numbers-at2 .ensures) (opener-read t o ∙ not-false (o .opener-right .result) (i .before .before .before .if4 .left))
+          (group-goes (a .t) (entryIn image (a .records) (a .text) (a .all) (a .t)) (a .depth) (v .k) (v .left) (b .before .loop-test .taken) e (b .numbers-at .ensures (a .text))
+          fits (entryFrom image (a .text) (n .numbers-at2 .result)) (n .numbers-at2 .ensures (a .text)) (opener-read t o ∙ not-false (o .opener-right .result) (i .before .before .before .if4 .left))
           (shallow t (i .before)) (i .check-in .result) (i .check-in .ensures) (l .before .before .if6 .left)
           (closer-read t l ∙ not-false (l .close-right .result) (c .before .before .if7 .left)) x says),
     )
@@ -236,7 +238,7 @@ all-said : (t : ℕ) → check-in-lts.Need-returns-7 (told t) (given t) check-in
 all-said t c =
     let a = c .before .before .before .args in
     let v = c .before .loop in
-    v .inv .2 _ (says-end (a .p .t) (entryOn (a .image .now) (a .p)) (a .depth) (v .k) (v .left) (c .loop-test .left))
+    v .inv .2 _ (says-end (a .t) (entryIn (a .image .now) (a .records) (a .text) (a .all) (a .t)) (a .depth) (v .k) (v .left) (c .loop-test .left))
 
 pub +check-in-spec : {M : Type 1} → statement M
 +check-in-spec = close μ-check-in λ t.
@@ -247,7 +249,7 @@ pub +check-in-spec : {M : Type 1} → statement M
     Inv
     μ-loop
     (loop-holds t)
-    (λ c κs. (c .before .before .before .pre .1 .0, omega arith))
+    (λ c κs. (c .before .before .before .pre .1 .0 .inside, omega arith))
     (λ c κs. omega (arith, c .if1 .taken))
     (word-wrong t)
     (λ c. omega arith)
@@ -258,8 +260,8 @@ pub +check-in-spec : {M : Type 1} → statement M
     (skip-wrong t)
     (λ c. omega (arith, stays t c))
     (λ c. omega (arith, stays t c))
-    (λ c κs. (c .before .before .before .before .before .before .before .before .before .pre .1 .0, omega (arith, stays t c)))
-    (λ c κs. c .before .before .before .before .before .before .before .before .before .before .pre .1 .0)
+    (λ c κs. (c .before .before .before .before .before .before .before .before .before .pre .1 .0 .inside, omega (arith, stays t c)))
+    (λ c κs. c .before .before .before .before .before .before .before .before .before .before .pre .1 .0 .low)
     (λ c κs. search needs)
     (opener-wrong t)
     (deep-wrong t)
@@ -268,7 +270,7 @@ pub +check-in-spec : {M : Type 1} → statement M
     (λ c. omega arith)
     (inside-falls t)
     (inside-wrong t)
-    (λ c κs. c .before .before .before .before .before .before .before .before .before .before .before .before .before .before .before .before .before .pre .1 .0)
+    (λ c κs. c .before .before .before .before .before .before .before .before .before .before .before .before .before .before .before .before .before .pre .1 .0 .low)
     (λ c κs. search needs)
     (closer-wrong t)
     (λ c. omega (arith, stays t (c .before .before .before .before .before .before .before .before .before .before .before .before), room t (c .before .before .before .before .before .before .before .before .before .before .before .before)))

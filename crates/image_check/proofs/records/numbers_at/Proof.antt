@@ -5,7 +5,7 @@ use Rattle.image_check.proofs.records.numbers_at.Tie as tie
 
 returns : tie.Need-returns
 unfolding entryIn
-returns c =
+returns c text =
     let start = c .before .before in
     rw (start .before .four-at .ensures, start .four-at2 .ensures, c .before .stop-at .ensures, c .four-at3 .ensures)
 

@@ -32,9 +32,8 @@ components-check-requires c κs =
     let l = start .pre .0 in
     let at = tables-told (a .image .now) (a .h) (a .at) l in (
       record {
-        count = omega arith;
-        records = omega (arith, ap (λ t. t .records) at, ap (λ t. t .stop) at, l .ends);
-        text = omega (arith, ap (λ t. t .text) at);
+        inside = omega (arith, ap (λ t. t .records) at, ap (λ t. t .stop) at, l .ends);
+        low = omega (arith, ap (λ t. t .text) at);
       },
       places-own (a .image .now) (a .h) (a .at) l,
       ap (λ t. t .components) (l .placed),

@@ -4,24 +4,21 @@ use native.Mathlib.Omega.{arith}
 use borrow.Author.Needs.{needs}
 use borrow.Author.Tests.{eq-eqb, ne-eqb}
 use Rattle.def_image.specs.Image.{u32At}
-use Rattle.token_tree.specs.Tables.{entryIn}
 use Rattle.image_check.proofs.records.stop_at.Statement.{statement}
 use Rattle.image_check.proofs.records.stop_at.Tie as tie
 
 returns : tie.Need-returns
-unfolding entryIn
 returns c =
-    let a = c .before .before .before .args in
-    rw (eq-eqb (a .k + 1) (a .p .count) (c .if1 .taken))
+    let a = c .before .before .args in
+    rw (eq-eqb (a .k + 1) (a .all) (c .if1 .taken))
 
 returns-2 : tie.Need-returns-2
-unfolding entryIn
 returns-2 c =
-    let a = c .before .before .before .before .before .args in
-    let next : a .p .records + 12 * a .k + 16 ≡ a .p .records + 12 * (a .k + 1) + 4 = omega arith in
-    rw (ne-eqb (a .k + 1) (a .p .count) (c .before .before .if1 .left)) (c .four-at .ensures ∙ ap (u32At (a .image .now)) next)
+    let a = c .before .before .before .args in
+    let next : a .records + 12 * a .k + 16 ≡ a .records + 12 * (a .k + 1) + 4 = omega arith in
+    rw (ne-eqb (a .k + 1) (a .all) (c .before .if1 .left)) (c .four-at .ensures ∙ ap (u32At (a .image .now)) next)
 
 pub stop-at-spec : {M : Type 1} → statement M
 stop-at-spec =
     tie.close
-    (tie.spec (λ c. search needs) (λ c. search needs) returns (λ c. search needs) (λ c. search needs) (λ c. search needs) (λ c κs. search needs) returns-2)
+    (tie.spec (λ c. search needs) returns (λ c. search needs) (λ c. search needs) (λ c. search needs) (λ c κs. search needs) returns-2)

@@ -2,7 +2,8 @@ use borrow.Author.Needs.{needs}
 use Prim.Native.Nat.{_<_, _^_}
 use native.Mathlib.Omega.{arith}
 use borrow.Author.Tests.{not-false}
-use Rattle.one_pass.proofs.Places.{unfit, in-tables, located-at}
+use Rattle.pass_sums.proofs.Sums.{unfit}
+use Rattle.one_pass.proofs.Places.{in-tables, located-at}
 use Rattle.one_pass.proofs.place.located.Statement.{statement}
 use Rattle.one_pass.proofs.place.located.Tie as tie
 
@@ -22,7 +23,7 @@ standing-requires c κs =
     let n = c .before .before .before .before .before .number-at in
     let r = c .before .before .before .before .number-at2 in
     let m = c .before .number-at3 in
-    let b : m .result < 2 ^ 32 = omega arith in
+    let b : m .result < 2 ^ 32 = m .ok in
     in-tables (a .image .now) (a .c) (m .result) (n .result) (r .result) (m .ensures) (n .ensures) (r .ensures)
     (s .ensures (not-false (s .result) (c .before .before .if2 .left))) (c .if3 .left) b
 

@@ -1,6 +1,6 @@
 use borrow.Author.Needs.{needs}
 use mathlib.Core.Path.{refl}
-use Rattle.one_pass.proofs.Places.{unfit}
+use Rattle.pass_sums.proofs.Sums.{unfit}
 use Rattle.one_pass.proofs.place.small.Statement.{statement}
 use Rattle.one_pass.proofs.place.small.Tie as tie
 

@@ -2,7 +2,7 @@
 use mathlib.Core.Path.{refl, sym, subst, _∙_}
 use native.Mathlib.Omega.{arith}
 use borrow.Author.Needs.{needs}
-use Rattle.bound_steps.proofs.Marks.{stepped-last}
+use Rattle.bound_signs.proofs.Marks.{stepped-last}
 use Rattle.range_parse.proofs.Search.{Searching, searching-start, searching-next, searching-done}
 use Rattle.range_parse.proofs.Walks.{taken-of, ended-of}
 use Rattle.range_parse.proofs.signs.signs_in.Statement.{statement}

@@ -1,4 +1,4 @@
--- `run_replay::counts::print_counts` is safe and ends: each number has its count. Assumes nothing.
+-- `replay_parts::counts::print_counts` is safe and ends: each number has its count. Assumes nothing.
 use borrow.Author.Needs.{needs}
 use Prim.Native.Nat.{_-_}
 use Rattle.run_replay.proofs.counts.print_counts.Statement.{statement}

@@ -1,6 +1,6 @@
 use borrow.Author.Needs.{needs}
-use Rattle.stage3.specs.Tally.{tallyOf}
-use Rattle.stage3.proofs.Steps.{turn-on, turn-off}
+use Rattle.tally.specs.Tally.{tallyOf}
+use Rattle.tally.proofs.Steps.{turn-on, turn-off}
 use Rattle.stage3.proofs.turn.turn.Statement.{statement}
 use Rattle.stage3.proofs.turn.turn.Tie as tie
 
@@ -12,7 +12,7 @@ returns c =
     let r = c .before .before .before .before .stage2-component in
     let v = c .before .before .read .given in
     turn-on (a .image .now) (a .i) (a .j) (a .m) (a .at) (tallyOf (a .s)) (p .result) (b .result) (p .ensures) (b .ensures) (r .result) (r .ensures) (v .0 .0) _ (v .1)
-    (c .stepped .ensures)
+    (c .stepped .ensures (search needs))
 
 returns-2 : tie.Need-returns-2
 returns-2 c =

@@ -2,9 +2,9 @@ use borrow.Author.Needs.{needs}
 use mathlib.Core.Path.{_≡_, ap, sym, _∙_}
 use Prim.Native.Nat.{_≤_, _<_, _-_, _+_}
 use native.Mathlib.Omega.{arith}
-use Rattle.tree.specs.Chain.{atMost}
-use Rattle.tree.specs.Cursor.{firstIn}
-use Rattle.tree.proofs.Loops.{comesFrom, from-start, from-next, from-end, stops, goes-on}
+use Rattle.cursor.specs.Chain.{atMost}
+use Rattle.cursor.specs.Cursor.{firstIn}
+use Rattle.cursor.proofs.Loops.{comesFrom, from-start, from-next, from-end, stops, goes-on}
 use Rattle.tree.proofs.passes.concatenations.Statement.{statement}
 use Rattle.tree.proofs.passes.concatenations.Tie as tie
 

@@ -1,5 +1,5 @@
 use borrow.Author.Needs.{needs}
-use Rattle.tree.proofs.Loops.{is-located}
+use Rattle.cursor.proofs.Loops.{is-located}
 use Rattle.tree.proofs.passes.located.Statement.{statement}
 use Rattle.tree.proofs.passes.located.Tie as tie
 

@@ -1,5 +1,5 @@
 use borrow.Author.Needs.{needs}
-use Rattle.tree.proofs.Loops.{is-passed, is-refused}
+use Rattle.cursor.proofs.Loops.{is-passed, is-refused}
 use Rattle.tree.proofs.passes.passes.Statement.{statement}
 use Rattle.tree.proofs.passes.passes.Tie as tie
 

@@ -1,5 +1,5 @@
 use borrow.Author.Needs.{needs}
-use Rattle.tree.proofs.Loops.{first-all}
+use Rattle.cursor.proofs.Loops.{first-all}
 use Rattle.tree.proofs.passes.stage1_components.Statement.{statement}
 use Rattle.tree.proofs.passes.stage1_components.Tie as tie
 

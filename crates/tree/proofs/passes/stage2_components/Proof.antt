@@ -1,5 +1,5 @@
 use borrow.Author.Needs.{needs}
-use Rattle.tree.proofs.Loops.{second-all}
+use Rattle.cursor.proofs.Loops.{second-all}
 use Rattle.tree.proofs.passes.stage2_components.Statement.{statement}
 use Rattle.tree.proofs.passes.stage2_components.Tie as tie
 

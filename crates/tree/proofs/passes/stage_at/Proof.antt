@@ -1,5 +1,5 @@
 use borrow.Author.Needs.{needs}
-use Rattle.tree.proofs.Loops.{at-ok, at-refused}
+use Rattle.cursor.proofs.Loops.{at-ok, at-refused}
 use Rattle.tree.proofs.passes.stage_at.Statement.{statement}
 use Rattle.tree.proofs.passes.stage_at.Tie as tie
 

@@ -1,5 +1,5 @@
 use borrow.Author.Needs.{needs}
-use Rattle.tree.proofs.Loops.{by-second, by-first}
+use Rattle.cursor.proofs.Loops.{by-second, by-first}
 use Rattle.tree.proofs.passes.stage_by.Statement.{statement}
 use Rattle.tree.proofs.passes.stage_by.Tie as tie
 

@@ -2,7 +2,7 @@ use borrow.Author.Needs.{needs}
 use mathlib.Core.Path.{_≡_, ap, sym, _∙_}
 use Prim.Native.Nat.{_≤_, _<_, _-_, _+_}
 use native.Mathlib.Omega.{arith}
-use Rattle.tree.proofs.Loops.{comesIn, in-start, in-next, in-end, stops, goes-on}
+use Rattle.cursor.proofs.Loops.{comesIn, in-start, in-next, in-end, stops, goes-on}
 use Rattle.tree.proofs.passes.stage_in.Statement.{statement}
 use Rattle.tree.proofs.passes.stage_in.Tie as tie
 

@@ -1,5 +1,5 @@
 use borrow.Author.Needs.{needs}
-use Rattle.tree.proofs.Loops.{of-is}
+use Rattle.cursor.proofs.Loops.{of-is}
 use Rattle.tree.proofs.passes.stage_of.Statement.{statement}
 use Rattle.tree.proofs.passes.stage_of.Tie as tie
 

@@ -1,0 +1,2 @@
+-- The signs of a bound.
+pub mod Signs

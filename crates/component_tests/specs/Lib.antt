@@ -1,0 +1,2 @@
+-- Tests of a component.
+pub mod Tests

@@ -1,0 +1,12 @@
+// A component as the code holds it: where it stands in the image, and as a value.
+pub use places::Place;
+pub use places::StartResult;
+pub use values::Bits;
+pub use values::Component;
+pub use values::ComponentResult;
+pub use values::ComponentType;
+pub use values::least;
+pub use values::ordered;
+
+mod places;
+mod values;

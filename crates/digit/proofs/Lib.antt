@@ -1,0 +1,3 @@
+-- The table's rule.
+pub mod Table
+pub mod Worths

@@ -1,0 +1,2 @@
+-- What a byte is worth as a digit.
+pub mod Worth

@@ -1,0 +1,13 @@
+// The listing of an input with nothing in it.
+use listing::Outcome;
+use listing::Written;
+ghost use Rattle.def_numbers.specs.Prelude.{[]};
+ghost use Rattle.def_run.specs.Listing.{output};
+ghost use Rattle.listing.specs.Shown.{Shown};
+
+// "Empty input is number 2."
+pub fn write_empty(out: &mut [u8]) -> Written
+    ensures { λ w. ⌜ Shown (now (out .entry)) (output []) (now (out .exit)) w ⌝ }
+{
+    listing::write_listing(b"", b"", Outcome::Refused(errors::refuse(2)), out)
+}

@@ -1,0 +1,2 @@
+-- A concatenation's own line.
+pub mod Line

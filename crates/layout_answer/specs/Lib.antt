@@ -1,3 +1,0 @@
--- What the program `layout` makes of its input.
-pub mod Shown
-pub mod Printed

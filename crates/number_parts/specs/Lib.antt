@@ -1,0 +1,3 @@
+-- What the parts of reading a number give.
+pub mod Halves
+pub mod Parts

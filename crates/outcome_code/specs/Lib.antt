@@ -1,0 +1,2 @@
+-- What the number means.
+pub mod Code

@@ -1,2 +1,0 @@
--- What the parts of reading a number give.
-pub mod Parts

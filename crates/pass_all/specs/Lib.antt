@@ -1,0 +1,2 @@
+-- What a pass over one concatenation gives to the others.
+pub mod Agrees

@@ -1,0 +1,2 @@
+-- One component more, written.
+pub mod Written

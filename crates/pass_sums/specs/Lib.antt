@@ -1,0 +1,2 @@
+-- The running check as a sum.
+pub mod Sum

@@ -1,0 +1,2 @@
+-- The width between two bounds.
+pub mod Width

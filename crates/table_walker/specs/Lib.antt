@@ -1,0 +1,2 @@
+-- The walker's record, as the definition's.
+pub mod Entries
