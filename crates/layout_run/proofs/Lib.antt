@@ -1,6 +1,4 @@
 -- The laws that the functions' proofs cite.
-pub mod CopiedAnswer
-pub mod Copying
 pub mod Entered
 pub mod Listing
 pub mod Outcomes

@@ -30,7 +30,3 @@ StartedIs image mode init o before after = (text : ℕ) → startAll image ≡ o
 -- and what stage 3 found
 abbrev pub JudgedIs : List ℕ → ℕ → Init → ℕ → ℕ → Stage3 → Outcome → List ℕ → List ℕ → Type 0
 JudgedIs image mode init count n t o before after = Found image count n (t .cs) (t .sizes) (t .merged) → StartedIs image mode init o before after
-
--- 0, and the area is as it was; or the length of the answer, which stands in the area
-abbrev pub CommonIs : List ℕ → ℕ → ℕ → List ℕ → List ℕ → Type 0
-CommonIs image mode r before after = (r ≡ 0 → after ≡ before) × (0 < r → StagesIs image mode (Accepted r) before after)

@@ -1,11 +1,9 @@
 // The whole run (document 01): the mode, the image check, the area's length, and stages 1 to 5. The area is written only when
 // nothing can refuse any more.
-mod common;
 mod output;
 mod stages;
 
 use answer::Init;
-use common::common;
 use concatenation::OverallResult;
 use errors::Checked;
 use listing::Outcome;
@@ -78,24 +76,12 @@ fn staged(area: &mut [u8], image: &[u8], mode: u32) -> Outcome
     }
 }
 
-// The stages, in one pass where that can be.
-fn once_or_in_turn(area: &mut [u8], image: &[u8], mode: u32) -> Outcome
-    requires { ⌜ Admitted (now image) (length (now area)) ⌝ }
-    ensures { λ o. ⌜ StagesIs (now (image .entry)) mode o (now (area .entry)) (now (area .exit)) ⌝ }
-{
-    let n = common(area, image, mode);
-    if n == 0 {
-        return staged(area, image, mode);
-    }
-    Outcome::Accepted(n)
-}
-
 // For every image, mode number and area: the outcome, and the area at exit, are the definition's.
 pub fn run(image: &[u8], mode: u32, area: &mut [u8]) -> Outcome
     ensures { λ o. ⌜ (outcomeOf o, now (area .exit)) ≡ ranOn (now (image .entry)) mode (now (area .entry)) ⌝ }
 {
     match admission::admitted(image, mode, area.len()) {
-        Checked::Passed => once_or_in_turn(area, image, mode),
+        Checked::Passed => staged(area, image, mode),
         Checked::Refused(q) => Outcome::Refused(q),
     }
 }

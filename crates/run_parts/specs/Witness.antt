@@ -1,9 +1,9 @@
--- What one pass promises can be met, with its premises: document 01's listing, under mode 2.
+-- The premises of stage 5 can be met: document 01's listing, with the least area for it.
 use mathlib.Core.Path.{_≡_, refl, sym}
 use mathlib.Core.Bool.{true≢false}
 use native.Mathlib.Omega.{arith}
 use lib.ListN.{replicate}
-use Rattle.def_numbers.specs.Prelude.{ℕ, true, some, List, [], _∷_, _++_, pos}
+use Rattle.def_numbers.specs.Prelude.{ℕ, true, some, List, [], _∷_, pos}
 use Rattle.def_numbers.specs.Basics.{ok, ascii, joined}
 use Rattle.def_image.specs.Image.{Placed, kinds}
 use Rattle.def_image.specs.Tree.{Tree, end, word, group, imageOf}
@@ -12,7 +12,6 @@ use Rattle.def_stages.specs.Component.{Component, variable}
 use Rattle.def_stages.specs.Concatenation.{Concatenation, align-none, fixedLiteral}
 use Rattle.def_examples.specs.Compute.{computed}
 use Rattle.answer_fits.specs.Fixed.{AllFixed, none-left, one-more}
-use Rattle.errors.specs.declared.Checked.the-variants as C
 use Rattle.misc.specs.declared.OptionUsize.the-variants as U
 use Rattle.concatenation.specs.Overall as S
 use Rattle.alignment.specs.declared.align.FillerAlign.the-variants as A
@@ -21,12 +20,11 @@ use Rattle.concatenation.specs.declared.overall.Summary.{Summary}
 use Rattle.cursor.specs.Chain.{atMost}
 use Rattle.cursor.specs.Cursor.{nextIn, standingIn, spotIn}
 use Rattle.cursor.specs.Pass.{advance}
-use Rattle.cursor.specs.Read.{readAt, readIn, readFrom, startAll}
-use Rattle.merging.specs.Put.{putAll, Room}
-use Rattle.run_parts.specs.Common.{beside, OnePass}
+use Rattle.cursor.specs.Read.{readAt, readIn, readFrom}
+use Rattle.merging.specs.Put.{Room}
+use Rattle.merging.specs.declared.Writing.{Writing}
 use Rattle.run_parts.specs.Found.{Found}
 use Rattle.run_parts.specs.Written.{mergedAll}
-use Rattle.run_parts.specs.declared.All.{All}
 
 -- 5u4 and 10u4, and rec[..8]
 unfoldable tree : Tree
@@ -90,32 +88,13 @@ fixed =
     (one-more (record { fixed = λ _. refl; bits = refl })
     (one-more (record { fixed = λ t. absurd (true≢false (sym t)); bits = refl }) none-left))
 
-abbrev out : List ℕ
-out = replicate 217 255
+-- behind the head and two blocks of concatenations
+abbrev from : Writing
+from = record { at = 72; literals = 216; offset = 0 }
 
-room : Room out (beside 3) (mergedAll read)
+abbrev area : List ℕ
+area = replicate 217 255
+
+room : Room area from (mergedAll read)
 unfolding computed source sink
 room = record { blocks = omega arith; literal-block = omega arith; offsets = omega arith }
-
--- one component, alignment none, deterministic and nonzero, 8 bits
-abbrev block : List ℕ
-block = 1 ∷ 0 ∷ 0 ∷ 0 ∷ 0 ∷ 0 ∷ 0 ∷ 0 ∷ 3 ∷ 0 ∷ 0 ∷ 0 ∷ 8 ∷ 0 ∷ 0 ∷ 0 ∷ 0 ∷ 0 ∷ 0 ∷ 0 ∷ []
-
-abbrev all : All
-all = record { fits = true; width = 8; nonzero = true; w = record { at = 144; literals = 216; offset = 1 } }
-
-once : OnePass (imageOf tree) 2 2 3 all (replicate 40 255) (block ++ block) out (putAll out (beside 3) (mergedAll read))
-unfolding computed tree source sink readFrom readIn readAt atMost advance nextIn standingIn spotIn startAll found
-once =
-    record {
-      t = record { cs = summary ∷ summary ∷ []; sizes = 1 ∷ 1 ∷ []; merged = 2; checked = C.Passed };
-      found = found;
-      start = refl;
-      overall = record { align = A.None; width = U.Some 8; known = 0; deterministic = true; nonzero = true };
-      judged = λ _. refl;
-      align-is = refl;
-      width-is = refl;
-      deterministic-is = refl;
-      nonzero-is = refl;
-      written = λ _ _. (refl, refl, refl);
-    }

@@ -1,7 +1,6 @@
 // What the parts of a run hand to each other.
 use concatenation::Summary;
 use errors::Checked;
-use merging::Writing;
 
 // Stage 3 of every concatenation: what stage 4 reads of each, its number of components after merging, and the sum of these numbers; or a
 // refusal.
@@ -10,13 +9,4 @@ pub struct Stage3 {
     pub sizes: [u32; 16],
     pub merged: u32,
     pub checked: Checked,
-}
-
-// One pass over every concatenation: whether all fits, the common width (0 where none is known), whether it is surely not zero, and the
-// place behind the components.
-pub struct All {
-    pub fits: bool,
-    pub width: usize,
-    pub nonzero: bool,
-    pub w: Writing,
 }

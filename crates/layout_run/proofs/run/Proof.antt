@@ -3,8 +3,8 @@ use Rattle.layout_run.proofs.Entered.{entered, whole-entered, whole-ref
 use Rattle.layout_run.proofs.run.Statement.{statement}
 use Rattle.layout_run.proofs.run.Tie as tie
 
-once-or-in-turn-requires : tie.Need-once-or-in-turn-requires
-once-or-in-turn-requires c κs =
+staged-requires : tie.Need-staged-requires
+staged-requires c κs =
     let a = c .before .before .before .before .before .before .args in
     let s = c .before .before .before .admitted in
     entered (a .image .now) (a .mode) (a .area .now) (s .result) (s .ensures) (c .before .enum-told .given .1)
@@ -14,7 +14,7 @@ returns c =
     let a = c .before .before .before .before .before .before .before .before .before .args in
     let s = c .before .before .before .before .before .before .admitted in
     whole-entered (a .image .now) (a .mode) (a .area .now) (s .result) (s .ensures) (λ i. c .before .before .before .before .before .before .before .before .shared-slice-known .given i .fits) (c .before .before .before .before .enum-told .given .1) _
-    (c .before .before .once-or-in-turn .ensures)
+    (c .before .before .staged .ensures)
 
 returns-2 : tie.Need-returns-2
 returns-2 c =
@@ -24,4 +24,4 @@ returns-2 c =
 
 pub run-spec : {M : Type 1} → statement M
 run-spec =
-    tie.close (tie.spec (λ c κs. search needs) (λ c. search needs) once-or-in-turn-requires (λ c. search needs) (λ c. search needs) returns returns-2)
+    tie.close (tie.spec (λ c κs. search needs) (λ c. search needs) staged-requires (λ c. search needs) (λ c. search needs) returns returns-2)

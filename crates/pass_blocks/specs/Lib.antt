@@ -1,2 +1,0 @@
--- One component more, written.
-pub mod Written

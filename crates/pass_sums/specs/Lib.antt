@@ -1,2 +1,0 @@
--- The running check as a sum.
-pub mod Sum
