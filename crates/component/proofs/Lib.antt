@@ -1,4 +1,4 @@
 -- Laws that the functions' proofs cite.
 pub mod Parsed
 pub mod Starts
-pub mod Types
+pub mod Typing

@@ -2,9 +2,9 @@
 use mathlib.Core.Path.{_≡_}
 use mathlib.Core.Logic.{_⊎_}
 use Prim.Native.Nat.{_≤_}
-use Rattle.def_numbers.specs.Prelude.{ℕ, List, length, take, drop}
+use Rattle.def_numbers.specs.Prelude.{ℕ, Bool, List, length, take, drop}
 use Rattle.def_numbers.specs.Basics.{Result, ok, _>>=_}
-use Rattle.def_image.specs.Image.{bitsAt}
+use Rattle.def_image.specs.Image.{Unparsed, bitsAt}
 use Rattle.def_stages.specs.Component as Def
 use Rattle.errors.specs.Refused.{refusedAs}
 use Rattle.errors.specs.declared.Refusal.{Refusal}
@@ -35,6 +35,10 @@ componentOf image p c = record { c-type = typeOf image p (c .«c_type»); range 
 abbrev pub resultIn : List ℕ → Place → ComponentResult → Result Def.Component
 resultIn image p (R.Ok c) = ok (componentOf image p c)
 resultIn image p (R.Refused r) = refusedAs r
+
+-- stage 2 of a component that no stage has read
+abbrev pub stage2Component : Bool → Unparsed → Result Def.Component
+stage2Component scanned u = Def.stage1Component scanned u >>= Def.simplify
 
 -- a refusal says the same whatever it is an answer for
 pub refused-then : {A B : Type 0} (q : Refusal) (m : Result A) (f : A → Result B) → refusedAs {A = A} q ≡ m → refusedAs {A = B} q ≡ (m >>= f)

@@ -10,14 +10,13 @@ use Rattle.errors.specs.Refused.{resultOf, refusedAs}
 use Rattle.errors.specs.declared.Checked.{Checked}
 use Rattle.errors.specs.declared.Checked.the-variants as C
 use Rattle.errors.specs.declared.Refusal.{Refusal}
-use Rattle.def_stages.specs.Component.{stage1Component, simplify}
+use Rattle.def_stages.specs.Component.{stage1Component}
 use Rattle.def_stages.specs.Component as Def
 use Rattle.laws.specs.Tests.{eqb-false}
 use Rattle.token_tree.specs.Tables.{countsOf}
 use Rattle.token_tree.specs.declared.Counts.{Counts}
 use Rattle.component_types.specs.Places.{unparsedIn}
-use Rattle.component_types.specs.Values.{resultIn, componentOf}
-use Rattle.component_types.specs.declared.places.Place.{Place}
+use Rattle.component_types.specs.Values.{componentOf, resultIn, stage2Component}
 use Rattle.component_types.specs.declared.values.Component.{Component}
 use Rattle.component_types.specs.declared.values.ComponentResult.{ComponentResult}
 use Rattle.component_types.specs.declared.values.ComponentResult.the-variants as R
@@ -26,7 +25,7 @@ use Rattle.cursor.specs.declared.cursor.Spot.{Spot}
 use Rattle.cursor.specs.Chain.{atMost}
 use Rattle.cursor.specs.Cursor.{firstIn, nextIn, spotIn}
 use Rattle.cursor.specs.Pass.{passed, andThen, passed-map, passed-placed, advance}
-use Rattle.cursor.specs.Read.{stage2Component, readAll}
+use Rattle.cursor.specs.Read.{readAll}
 use Rattle.cursor.specs.ReadTree.{read-walk}
 use Rattle.cursor.specs.Stages.{stageBy, stageAt, stageOf, stageIn, stageFrom, stageAll, stage1All, in-none, in-step, from-none, from-step}
 
@@ -155,11 +154,3 @@ stops false total here rest answer n e h = sym (e ∙ h)
 pub goes-on : (b : Bool) (total here rest answer : Result Unit) → not b ≡ false → total ≡ here → here ≡ (if b then rest else answer) → total ≡ rest
 goes-on true total here rest answer n e h = e ∙ h
 goes-on false total here rest answer n e h = cc
-
--- stage 1, and stage 2 of what it leaves
-module _ (image : List ℕ) (place : Place) (u : Result Def.Component) (s : ComponentResult) (e : resultIn image place s ≡ u) where
-  pub then-ok : (x : Component) (m : Result Def.Component) → s ≡ R.Ok x → m ≡ simplify (componentOf image place x) → m ≡ (u >>= simplify)
-  then-ok x m o h = rw (← e, o) h
-
-  pub then-refused : (q : Refusal) → s ≡ R.Refused q → refusedAs q ≡ (u >>= simplify)
-  then-refused q o = rw (← e, o)

@@ -15,7 +15,8 @@ use Rattle.laws.specs.Tests.{and-iff, tested}
 use Rattle.cursor.specs.Walk.{recordsOf, literalOf}
 use Rattle.cursor.specs.Sound.{Limited, limited-sound}
 use Rattle.cursor.specs.Pass.{passed}
-use Rattle.cursor.specs.Read.{stage2Component, readAll, startAll}
+use Rattle.component_types.specs.Values.{stage2Component}
+use Rattle.cursor.specs.Read.{readAll, startAll}
 use Rattle.cursor.specs.Stages.{stage1All, Sound, stage1-tree}
 use Rattle.cursor.specs.ReadTree.{read-tree, start-tree}
 

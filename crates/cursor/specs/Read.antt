@@ -3,18 +3,15 @@ use Rattle.def_numbers.specs.Prelude.{ℕ, zero, suc, _-_, Bool, _&&_, Option, 
 use Rattle.def_numbers.specs.Basics.{Result, ok, _>>=_, placed, if_then_else_}
 use Rattle.def_image.specs.Image.{Unparsed, Placed, counts, componentCount}
 use Rattle.def_stages.specs.Text.{Part}
-use Rattle.def_stages.specs.Component.{Component, stage1Component, simplify, keepBase, startingValue}
+use Rattle.def_stages.specs.Component.{Component, keepBase, startingValue}
 use Rattle.component_types.specs.Places.{unparsedIn}
+use Rattle.component_types.specs.Values.{stage2Component}
 use Rattle.cursor.specs.declared.cursor.Cursor.{Cursor}
 use Rattle.cursor.specs.declared.cursor.Spot.{Spot}
 use Rattle.cursor.specs.Chain.{atMost}
 use Rattle.cursor.specs.Walk.{oneThen, firstThen}
 use Rattle.cursor.specs.Cursor.{firstIn, nextIn, spotIn}
 use Rattle.cursor.specs.Pass.{advance}
-
--- stage 2 of a component that no stage has read
-abbrev pub stage2Component : Bool → Unparsed → Result Component
-stage2Component scanned u = stage1Component scanned u >>= simplify
 
 -- a component in code, with its text start; one out of reach has no records, so stage 1 refuses it by 11
 abbrev pub unparsedAt : List ℕ → Spot → Placed Unparsed

@@ -14,7 +14,8 @@ use Rattle.cursor.specs.Chain.{atMost}
 use Rattle.cursor.specs.Walk.{components-none, parts-head, oneThen, firstThen}
 use Rattle.cursor.specs.Cursor.{firstIn, nextIn, spotIn, placedOf, componentsAt, cursor-head}
 use Rattle.cursor.specs.Pass.{advance, at-most, walkIn, walkAll, Along, InRange, along-first, along-rest}
-use Rattle.cursor.specs.Read.{stage2Component, unparsedAt, readAt, readIn, readFrom, readAll, startAll}
+use Rattle.component_types.specs.Values.{stage2Component}
+use Rattle.cursor.specs.Read.{unparsedAt, readAt, readIn, readFrom, readAll, startAll}
 use Rattle.cursor.specs.Stages.{stageAt, stageIn, stageFrom, stageAll, Sound, reached, stage-tree}
 
 module _ (image : List ℕ) where

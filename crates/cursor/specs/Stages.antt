@@ -10,7 +10,8 @@ use Rattle.cursor.specs.declared.cursor.Cursor.{Cursor}
 use Rattle.cursor.specs.Chain.{atMost}
 use Rattle.cursor.specs.Cursor.{firstIn, nextIn, spotIn, placedOf}
 use Rattle.cursor.specs.Pass.{passed, andThen, passed-one, passed-first, advance, walkIn, walkAll, InRange, walk-all}
-use Rattle.cursor.specs.Read.{stage2Component, unparsedAt}
+use Rattle.component_types.specs.Values.{stage2Component}
+use Rattle.cursor.specs.Read.{unparsedAt}
 
 -- stage 1 of a component, or both
 abbrev pub stageBy : Bool → Bool → Unparsed → Result Component

@@ -9,7 +9,8 @@ use Rattle.def_stages.specs.Concatenation.{merge}
 use Rattle.def_stages.specs.Overall.{stage4}
 use Rattle.def_run.specs.Answer.{components}
 use Rattle.cut_component.specs.Statement.{bare}
-use Rattle.cut_stages.specs.Statement.{bareTree, early, later}
+use Rattle.stages_read.specs.Statement.{early, later}
+use Rattle.cut_stages.specs.Statement.{bareTree}
 use Rattle.laws.specs.Tests.{and-iff, tested}
 use Rattle.laws.specs.Lists.{all-append}
 use Rattle.prepared.specs.Components.{sound-cons}

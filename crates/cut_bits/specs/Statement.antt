@@ -9,7 +9,8 @@ use Rattle.def_stages.specs.Component.{Component, Parsed}
 use Rattle.def_run.specs.Answer.{Answer}
 use Rattle.answer_read.specs.Statement.{shown}
 use Rattle.cutting.specs.Statement.{placeOf, pieceAt, bitIn, rising}
-use Rattle.cut_stages.specs.Statement.{bareTree, early, later, bitsBetween, pieceComponents}
+use Rattle.stages_read.specs.Statement.{early, later}
+use Rattle.cut_stages.specs.Statement.{bareTree, bitsBetween, pieceComponents}
 
 -- "Bit i of a literal or piece from c to d lies at bit p+i-c of its run's merged literal": the same place for the literal and for the
 -- piece that the bit lies in

@@ -21,7 +21,8 @@ use Rattle.answer_read.specs.Statement.{eraseTree, eraseAnswer, onOk, shown}
 use Rattle.answer_read.specs.Erase.{eraseParsed, erase-stages, erase-early}
 use Rattle.answer_read.specs.ReadAnswer.{reads-answer}
 use Rattle.cutting.specs.Statement.{Given, Premises, Same, BitKept, Cutting, treeWith, newTree, image, newImage, readOld, readNew, placeOf, pieceAt, componentsOf, bitIn, BitPlace}
-use Rattle.cut_stages.specs.Statement.{bareTree, early, later, InTurn, CutEarly, CutLater, CutParsed, Cuttable, bitsBetween, pieceComponents}
+use Rattle.stages_read.specs.Statement.{early, later, InTurn}
+use Rattle.cut_stages.specs.Statement.{bareTree, CutEarly, CutLater, CutParsed, Cuttable, bitsBetween, pieceComponents}
 use Rattle.cut_bits.specs.Places.{same-place}
 use Rattle.cut_bits.specs.Holding.{holds-bit}
 use Rattle.answer_fits.specs.Accepts.{Accepts, run-accepts, accepts-run}

@@ -9,7 +9,8 @@ use Rattle.prepared_back.specs.Every.{every-image}
 use Rattle.cutting.specs.Statement.{Cutting}
 use Rattle.cut_component.specs.Proof.{literal-reads, piece-reads, prefix-kept}
 use Rattle.cut_stages.specs.Early.{cut-early-from}
-use Rattle.cut_stages.specs.Later.{in-turn, cut-later}
+use Rattle.cut_stages.specs.Later.{cut-later}
+use Rattle.stages_read.specs.Proved.{in-turn}
 use Rattle.answer_fits.specs.Accepts.{run-accepts}
 use Rattle.cut_proof.specs.Cut as Cut
 

@@ -13,9 +13,10 @@ use Rattle.def_stages.specs.Text.{Part}
 use Rattle.def_stages.specs.Component.{Component, Parsed, stage1Component, simplify, keepBase, each, startingValue, source, stage1, stage2}
 use Rattle.cutting.specs.Statement.{Given, unparsed, fixedLiteral, readsAs, rising, piecesOf, prefixPart, piece, pieces, treeWith, scanned}
 use Rattle.cut_component.specs.Statement.{LiteralReads, PieceReads, PrefixKept, ReadAs, bare}
-use Rattle.cut_stages.specs.Statement.{bareTree, early, bitsBetween, pieceComponents, Cuttable, CutParsed, CutEarly}
+use Rattle.stages_read.specs.Statement.{early}
+use Rattle.cut_stages.specs.Statement.{bareTree, bitsBetween, pieceComponents, Cuttable, CutParsed, CutEarly}
 use Rattle.cut_stages.specs.Cuts.{both, rising-below}
-use Rattle.cut_stages.specs.Each.{Read, ReadTree, and-true, and-false, done, more, _after_, each-read, read-each, tree-after, tree-apart, Between, between, BetweenLists, between-lists}
+use Rattle.stages_read.specs.Each.{Read, ReadTree, and-true, and-false, done, more, _after_, each-read, read-each, tree-after, tree-apart, Between, between, BetweenLists, between-lists}
 use Rattle.laws.specs.Results.{bind-ok}
 use Rattle.cut_stages.specs.Keeping.{Keeps}
 use Rattle.cut_stages.specs.Starting.{tree-starts}

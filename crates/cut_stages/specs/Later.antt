@@ -5,21 +5,17 @@ use Rattle.def_numbers.specs.Prelude.{ℕ, Bool, true, false, Option, none, som
 use Rattle.def_numbers.specs.Basics.{Result, ok, _>>=_}
 use Rattle.def_image.specs.Image.{Placed}
 use Rattle.def_stages.specs.Text.{Part}
-use Rattle.def_stages.specs.Component.{Component, stage1, stage2}
+use Rattle.def_stages.specs.Component.{Component}
 use Rattle.def_stages.specs.Concatenation.{Concatenation, stage3, merged}
 use Rattle.def_stages.specs.Overall.{Overall, overall, stage4}
 use Rattle.def_run.specs.Answer.{Answer}
-use Rattle.def_run.specs.Run.{stages}
-use Rattle.cut_stages.specs.Statement.{later, InTurn, CutLater}
+use Rattle.stages_read.specs.Statement.{later}
+use Rattle.cut_stages.specs.Statement.{CutLater}
 use Rattle.cut_stages.specs.Cuts.{Cuts, uncut, cut-within}
-use Rattle.laws.specs.Results.{bind-ok, bind-assoc}
+use Rattle.laws.specs.Results.{bind-ok}
 use Rattle.cut_stages.specs.Keeping.{Keeps, bind-keeps}
 use Rattle.cut_stages.specs.Checked.{Alike, Pairwise, done, pair, stage3-alike}
 use Rattle.cut_stages.specs.Overall.{same-merged-list, stage4-keeps}
-
-pub in-turn : InTurn
-unfolding stages
-in-turn mode t = bind-assoc (stage1 t) stage2 (later mode)
 
 uncut-tree : (bits : List ℕ) (t : List (List (Placed Component))) → Pairwise (Cuts bits) t t
 uncut-tree bits [] = done

@@ -7,7 +7,6 @@ use Rattle.def_image.specs.Image.{Placed}
 use Rattle.def_stages.specs.Component.{Component}
 use Rattle.def_stages.specs.Concatenation.{FillerAlign, Concatenation, merged, isAlign, align-mid, align-multiple, isUnboundedFiller}
 use Rattle.def_stages.specs.Overall.{Overall, placeFrom, isFiller, joinWidth, checkSource, overallFrom, overall, middleFrom, isSided, oppositeFrom, stage4}
-use Rattle.cut_stages.specs.Statement.{later}
 use Rattle.cut_stages.specs.Cuts.{some-is}
 use Rattle.cut_stages.specs.Keeping.{Keeps, bind-keeps, placed-keeps}
 use Rattle.cut_stages.specs.Checked.{Alike, Pairwise, done, pair}

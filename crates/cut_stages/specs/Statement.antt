@@ -1,33 +1,18 @@
 -- What the stages make of a tree with a fixed literal and of the tree with its pieces, the text starts left out.
 use mathlib.Core.Path.{_≡_}
 use Prim.Native.Nat.{_≤_, _<_}
-use Rattle.def_numbers.specs.Prelude.{ℕ, Bool, true, false, Option, none, some, List, [], _∷_, _++_, map, length}
-use Rattle.def_numbers.specs.Basics.{Result, ok, _>>=_}
+use Rattle.def_numbers.specs.Prelude.{ℕ, true, Option, some, List, [], _∷_, _++_, map, length}
+use Rattle.def_numbers.specs.Basics.{ok}
 use Rattle.def_image.specs.Image.{Unparsed, Placed}
 use Rattle.def_image.specs.Tree.{Node, Tree, soundForest}
-use Rattle.def_stages.specs.Component.{Component, Parsed, stage1, stage2}
-use Rattle.def_stages.specs.Concatenation.{stage3, merged}
-use Rattle.def_stages.specs.Overall.{stage4}
+use Rattle.def_stages.specs.Component.{Component, Parsed}
 use Rattle.def_run.specs.Answer.{Answer}
-use Rattle.def_run.specs.Run.{stages}
+use Rattle.stages_read.specs.Statement.{early, later}
 use Rattle.cutting.specs.Statement.{Given, treeWith, newTree, scanned, fixedLiteral, readsAs, rising, piecesOf}
 use Rattle.cut_component.specs.Statement.{cutTo, bare}
 
 abbrev pub bareTree : Tree → List (List (Placed Unparsed))
 bareTree = map (map bare)
-
--- stages 1 and 2, and stages 3 to 5 of what they leave
-abbrev pub early : List (List (Placed Unparsed)) → Result Parsed
-early t = stage1 t >>= stage2
-
-abbrev pub later : ℕ → Parsed → Result Answer
-later mode p =
-    stage3 0 (p .cc) >>= λ cc.
-    stage4 mode (elim (p .init) [ none ↦ false | some q ↦ true ]) cc >>= λ o.
-    ok (record { init = p .init; overall = o; cc = map merged cc })
-
-abbrev pub InTurn : Type 0
-InTurn = (mode : ℕ) (t : List (List (Placed Unparsed))) → stages mode t ≡ (early t >>= later mode)
 
 -- the literal's bits c to d as a component after stage 2, and all the pieces
 abbrev pub bitsBetween : List ℕ → ℕ → ℕ → Placed Component

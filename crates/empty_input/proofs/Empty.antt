@@ -7,7 +7,7 @@ use Rattle.errors.specs.Refused.{refusedAs}
 use Rattle.errors.specs.declared.Refusal.{Refusal}
 use Rattle.listing.specs.Outcomes.{listingOf}
 use Rattle.listing.specs.Shown.{Shown}
-use Rattle.listing.specs.declared.Outcome.the-variants.{Refused}
+use Rattle.errors.specs.declared.Outcome.the-variants.{Refused}
 use Rattle.listing.specs.declared.Written.{Written}
 
 -- whatever the image and the area

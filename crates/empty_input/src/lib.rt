@@ -1,5 +1,5 @@
 // The listing of an input with nothing in it.
-use listing::Outcome;
+use errors::Outcome;
 use listing::Written;
 ghost use Rattle.def_numbers.specs.Prelude.{[]};
 ghost use Rattle.def_run.specs.Listing.{output};

@@ -1,8 +1,11 @@
 -- The answer of a check in code, as the definition's: passed, or refused with document 01's number and two places.
+use Rattle.def_numbers.specs.Prelude.{ℕ}
 use Rattle.def_numbers.specs.Basics.{Result, ok, refused}
 use Rattle.errors.specs.declared.Refusal.{Refusal}
 use Rattle.errors.specs.declared.Checked.{Checked}
 use Rattle.errors.specs.declared.Checked.the-variants.{Passed, Refused}
+use Rattle.errors.specs.declared.Outcome.{Outcome}
+use Rattle.errors.specs.declared.Outcome.the-variants as O
 
 abbrev pub refusedAs : {A : Type 0} → Refusal → Result A
 refusedAs r = refused (r .number) (r .concatenation) (r .component)
@@ -10,3 +13,8 @@ refusedAs r = refused (r .number) (r .concatenation) (r .component)
 abbrev pub resultOf : Checked → Result Unit
 resultOf Passed = ok tt
 resultOf (Refused r) = refusedAs r
+
+-- an outcome: the length of the answer, or a refusal
+abbrev pub outcomeOf : Outcome → Result ℕ
+outcomeOf (O.Accepted n) = ok n
+outcomeOf (O.Refused q) = refusedAs q

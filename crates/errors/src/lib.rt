@@ -16,6 +16,12 @@ pub enum Checked {
     Refused(Refusal),
 }
 
+// What a run came to: an answer of that many bytes, or a refusal.
+pub enum Outcome {
+    Accepted(usize),
+    Refused(Refusal),
+}
+
 // A refusal with the places 0 and 0.
 pub fn refuse(number: u32) -> Refusal
     ensures { λ r. ⌜ refusedAs {A = Unit} r ≡ refused number 0 0 ⌝ }

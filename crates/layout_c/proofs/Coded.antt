@@ -4,8 +4,9 @@ use native.Mathlib.Omega.{arith}
 use Rattle.def_numbers.specs.Prelude.{ℕ, _%_, _^_, Bool, true, false, List, length, leb}
 use Rattle.def_numbers.specs.Basics.{Result, if_then_else_}
 use Rattle.def_run.specs.Listing.{output}
-use Rattle.listing.specs.declared.Outcome.{Outcome}
-use Rattle.listing.specs.Outcomes.{outcomeOf, filled, writtenAs}
+use Rattle.errors.specs.declared.Outcome.{Outcome}
+use Rattle.errors.specs.Refused.{outcomeOf}
+use Rattle.listing.specs.Outcomes.{filled, writtenAs}
 use Rattle.listing.specs.declared.Written.{Written}
 use Rattle.listing.specs.declared.Written.the-variants.{Whole, Cut}
 use Rattle.layout_run.specs.Ran.{ranOn}

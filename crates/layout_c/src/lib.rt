@@ -1,7 +1,10 @@
 // The run for C and Rust (include/layout.h, bindings/).
+use errors::Checked;
 use listing::Written;
 ghost use mathlib.Core.Path.{_≡_};
+ghost use Rattle.def_image.specs.Check.{checkImage};
 ghost use Rattle.layout_c.specs.Code.{codedOn, listedIn};
+ghost use Rattle.layout_c.specs.Number.{numberIn};
 
 // The whole run: the answer's length, or, from 2^32 on, a refusal. The area at exit is the definition's.
 #[no_mangle]
@@ -20,5 +23,16 @@ pub extern "C" fn layout_listing(input: &[u8], out: &mut [u8]) -> usize
     match layout_run::answer(input, out) {
         Written::Whole(n) => n,
         Written::Cut => 0,
+    }
+}
+
+// 0 for an image that passes document 01's check, else the refusal's number.
+#[no_mangle]
+pub extern "C" fn layout_check(image: &[u8]) -> u32
+    ensures { λ r. ⌜ r ≡ numberIn (checkImage (now (image .entry))) ⌝ }
+{
+    match image_check::check_image(image) {
+        Checked::Passed => 0,
+        Checked::Refused(refusal) => refusal.number,
     }
 }

@@ -9,9 +9,10 @@ use Rattle.def_numbers.specs.Basics.{Result, ok, refused, _>>=_}
 use Rattle.def_numbers.specs.Limits.{maxInput}
 use Rattle.def_run.specs.Listing.{listing, output, programArea}
 use Rattle.def_run.specs.Run.{run, areaAfter}
-use Rattle.listing.specs.Outcomes.{outcomeOf, resultAs, listingOf}
-use Rattle.listing.specs.declared.Outcome.{Outcome}
-use Rattle.listing.specs.declared.Outcome.the-variants.{Accepted, Refused}
+use Rattle.errors.specs.Refused.{outcomeOf}
+use Rattle.listing.specs.Outcomes.{resultAs, listingOf}
+use Rattle.errors.specs.declared.Outcome.{Outcome}
+use Rattle.errors.specs.declared.Outcome.the-variants.{Accepted, Refused}
 use Rattle.listing.specs.declared.Written.{Written}
 use Rattle.layout_run.specs.Ran.{ranOn}
 use Rattle.listing.specs.Shown.{Shown}

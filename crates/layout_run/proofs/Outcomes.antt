@@ -26,7 +26,7 @@ use Rattle.concatenation.specs.Overall.{answerOf}
 use Rattle.concatenation.specs.declared.overall.Overall as Code
 use Rattle.concatenation.specs.declared.overall.OverallResult.{OverallResult}
 use Rattle.concatenation.specs.declared.overall.OverallResult.the-variants as R
-use Rattle.cut_stages.specs.Statement.{later}
+use Rattle.stages_read.specs.Statement.{later}
 use Rattle.cursor.specs.Checked.{checked-parts}
 use Rattle.cursor.specs.Pass.{passed, andThen}
 use Rattle.cursor.specs.Read.{readAll, startAll}

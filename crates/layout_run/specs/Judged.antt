@@ -7,9 +7,9 @@ use Rattle.def_numbers.specs.Basics.{ok}
 use Rattle.answer.specs.Heads.{initOf}
 use Rattle.answer.specs.declared.Init.{Init}
 use Rattle.answer.specs.declared.Init.the-variants.{Given, Missing}
-use Rattle.listing.specs.Outcomes.{outcomeOf}
-use Rattle.listing.specs.declared.Outcome.{Outcome}
-use Rattle.listing.specs.declared.Outcome.the-variants.{Accepted}
+use Rattle.errors.specs.Refused.{outcomeOf}
+use Rattle.errors.specs.declared.Outcome.{Outcome}
+use Rattle.errors.specs.declared.Outcome.the-variants.{Accepted}
 use Rattle.cursor.specs.Read.{startAll}
 use Rattle.run_parts.specs.declared.Stage3.{Stage3}
 use Rattle.run_parts.specs.Found.{Found}

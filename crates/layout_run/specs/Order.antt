@@ -14,7 +14,7 @@ use Rattle.def_run.specs.Run.{stages, run, areaAfter}
 use Rattle.laws.specs.Results.{bind-ok, need-ok, need-then}
 use Rattle.laws.specs.Tests.{leb-iff}
 use Rattle.admission.specs.Asked.{admittedOf}
-use Rattle.cut_stages.specs.Statement.{later}
+use Rattle.stages_read.specs.Statement.{later}
 use Rattle.stages_read.specs.Statement.{both}
 use Rattle.stages_read.specs.Proved.{stages-read, read-first}
 use Rattle.cursor.specs.Pass.{passed, andThen}

@@ -11,7 +11,7 @@ ghost use lib.Dec.{eqb};
 ghost use lib.ListN.{getD};
 ghost use Rattle.def_numbers.specs.Numbers.{tryParse};
 ghost use Rattle.def_image.specs.Check.{checkImage};
-ghost use Rattle.leaves_c.specs.Number.{numberIn};
+ghost use Rattle.layout_c.specs.Number.{numberIn};
 ghost use Rattle.leaves_replay.specs.Told.{u64At, told, agrees};
 
 // What is at the front of an entry.
@@ -101,7 +101,7 @@ fn same_number(text: &[u8], answer: &[u8]) -> bool
 fn same_image(image: &[u8], answer: &[u8]) -> bool
     ensures { λ r. ⌜ r ≡ eqb (numberIn (checkImage (now (image .entry)))) (getD (now (answer .entry)) 0 0) ⌝ }
 {
-    leaves_c::layout_check(image) == (token_tree::byte_at(answer, 0) as u32)
+    layout_c::layout_check(image) == (token_tree::byte_at(answer, 0) as u32)
 }
 
 // Reads the answer to a text, and compares.

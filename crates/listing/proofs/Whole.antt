@@ -13,8 +13,8 @@ use Rattle.errors.specs.declared.Refusal.{Refusal}
 use Rattle.digits_out.specs.Put.{Put, _⨾_, read-as, put-front, put-whole, put-cut}
 use Rattle.lines_out.specs.Parts.{headLine, answer-parts}
 use Rattle.listing.specs.Outcomes.{resultAs, writtenAs}
-use Rattle.listing.specs.declared.Outcome.{Outcome}
-use Rattle.listing.specs.declared.Outcome.the-variants.{Accepted, Refused}
+use Rattle.errors.specs.declared.Outcome.{Outcome}
+use Rattle.errors.specs.declared.Outcome.the-variants.{Accepted, Refused}
 use Rattle.listing.specs.declared.Written.the-variants.{Whole, Cut}
 
 -- ---- an answer

@@ -6,15 +6,10 @@ use Rattle.def_numbers.specs.Prelude.{ℕ, _+_, _-_, List, _++_, length, take, 
 use Rattle.def_numbers.specs.Basics.{Result, ok, if_then_else_}
 use Rattle.def_run.specs.Listing.{listing}
 use Rattle.errors.specs.Refused.{refusedAs}
-use Rattle.listing.specs.declared.Outcome.{Outcome}
-use Rattle.listing.specs.declared.Outcome.the-variants.{Accepted, Refused}
+use Rattle.errors.specs.declared.Outcome.{Outcome}
+use Rattle.errors.specs.declared.Outcome.the-variants.{Accepted, Refused}
 use Rattle.listing.specs.declared.Written.{Written}
 use Rattle.listing.specs.declared.Written.the-variants.{Whole, Cut}
-
--- an outcome: the length of the answer, or a refusal
-abbrev pub outcomeOf : Outcome → Result ℕ
-outcomeOf (Accepted n) = ok n
-outcomeOf (Refused q) = refusedAs q
 
 -- the answer is the area's first bytes
 abbrev pub resultAs : List ℕ → Outcome → Result (List ℕ)

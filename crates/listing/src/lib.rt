@@ -2,7 +2,7 @@
 mod groups;
 
 use crate::groups::put_groups;
-use errors::Refusal;
+use errors::Outcome;
 use lines_out::heads::put_head;
 use refusal_line::put_refusal;
 ghost use mathlib.Core.Path.{_≡_};
@@ -11,12 +11,6 @@ ghost use Rattle.def_run.specs.Answer.{readAnswer};
 ghost use Rattle.def_run.specs.Listing.{answerLines};
 ghost use Rattle.digits_out.specs.Put.{Put};
 ghost use Rattle.listing.specs.Outcomes.{listingOf, filled, writtenAs};
-
-// What a run came to: an answer of that many bytes, or a refusal.
-pub enum Outcome {
-    Accepted(usize),
-    Refused(Refusal),
-}
 
 // The listing's length, or that it is longer than the buffer.
 pub enum Written {

@@ -25,7 +25,8 @@ use Rattle.component_types.specs.declared.values.ComponentResult.{ComponentResu
 use Rattle.component_types.specs.declared.values.ComponentResult.the-variants as R
 use Rattle.answer.specs.declared.Kind.{Kind}
 use Rattle.answer.specs.Kinds.{HasKind}
-use Rattle.cursor.specs.Read.{stage2Component, readAt}
+use Rattle.component_types.specs.Values.{stage2Component}
+use Rattle.cursor.specs.Read.{readAt}
 use Rattle.cursor.specs.Cursor.{spotIn}
 use Rattle.cursor.specs.declared.cursor.Cursor.{Cursor}
 use Rattle.cursor.specs.declared.cursor.Spot.{Spot}

@@ -1,10 +1,10 @@
 // The outcome of a run as one number, for callers in C.
 use errors::Refusal;
-use listing::Outcome;
+use errors::Outcome;
 ghost use mathlib.Core.Path.{_≡_};
 ghost use Prim.Native.Nat.{_%_, _^_};
 ghost use Rattle.errors.specs.Refused.{refusedAs};
-ghost use Rattle.listing.specs.Outcomes.{outcomeOf};
+ghost use Rattle.errors.specs.Refused.{outcomeOf};
 ghost use Rattle.outcome_code.specs.Code.{codeOf};
 
 // A refusal as one number.

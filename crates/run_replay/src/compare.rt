@@ -1,6 +1,6 @@
 // What a run over an area filled with a known pattern came to, compared with the listing that the Rust gave.
 use crate::DIFFERENT;
-use listing::Outcome;
+use errors::Outcome;
 use listing::Written;
 ghost use mathlib.Core.Path.{_≡_};
 ghost use mathlib.Core.Bool.{true};

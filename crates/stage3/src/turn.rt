@@ -17,7 +17,7 @@ pub(crate) fn turn(image: &[u8], i: u32, j: u32, m: u32, at: Cursor, s: State) -
 {
     let spot = cursor::place_at(image, at);
     let place = spot.place;
-    let read = tree::stage2_component(image, place, is_last(i, m));
+    let read = component_read::stage2_component(image, place, is_last(i, m));
     match read {
         ComponentResult::Ok(c) => stepped(image, i, j, m == 0, place, c, s),
         ComponentResult::Refused(q) => Turned::Refused(errors::placed_at(q, i, j)),

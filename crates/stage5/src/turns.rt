@@ -9,7 +9,7 @@ pub(crate) fn turn(area: &mut [u8], image: &[u8], scanned: bool, c: Cursor, s: M
     ensures { λ r. ⌜ TurnIs (now (image .entry)) scanned c s r (now (area .entry)) (now (area .exit)) ⌝ }
 {
     let spot = cursor::place_at(image, c);
-    let q = tree::stage2_component(image, spot.place, scanned);
+    let q = component_read::stage2_component(image, spot.place, scanned);
     match q {
         ComponentResult::Ok(x) => merging::step(area, image, spot, x, s),
         ComponentResult::Refused(_) => s,

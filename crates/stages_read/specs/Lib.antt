@@ -1,3 +1,4 @@
 -- The stages in turn, with stages 1 and 2 of each component in one go.
+pub mod Each
 pub mod Proved
 pub mod Statement

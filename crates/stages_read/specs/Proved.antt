@@ -7,11 +7,10 @@ use Rattle.def_image.specs.Tree.{textOf}
 use Rattle.def_stages.specs.Text.{Part, chunks, itemsOf, bytesOf}
 use Rattle.def_stages.specs.Ranges.{unbounded, scanFrom, parseRange}
 use Rattle.def_stages.specs.Component.{Component, variable, splitRange, splitColon, keepBase, eachIn, each, parseComponent, stage1Component, simplifyUsb, simplifyRange, simplify, startingValue, source, stage1, stage2}
+use Rattle.def_run.specs.Run.{stages}
 use Rattle.laws.specs.Results.{bind-ok, bind-assoc}
-use Rattle.cut_stages.specs.Each.{Read, ReadTree, each-read, read-each}
-use Rattle.cut_stages.specs.Statement.{later}
-use Rattle.cut_stages.specs.Later.{in-turn}
-use Rattle.stages_read.specs.Statement.{both, StagesRead, ReadFirst}
+use Rattle.stages_read.specs.Each.{Read, ReadTree, each-read, read-each}
+use Rattle.stages_read.specs.Statement.{later, InTurn, both, StagesRead, ReadFirst}
 
 -- h is g after f
 module _ {A B C : Type 0} (f : Bool → A → Result B) (g : Bool → B → Result C) (h : Bool → A → Result C)
@@ -67,6 +66,10 @@ in-order mode t (ok init) (refused n i k) e = refl
 in-order mode t (ok init) (ok v) e =
     rw (second (keepBase stage1Component) (keepBase (λ last. simplify)) (keepBase both) kept 0 (each-read (keepBase stage1Component) 0 t e))
     (sym (bind-assoc (each (keepBase both) 0 t) (λ cc. ok (record { init = init; cc = cc })) (later mode)))
+
+pub in-turn : InTurn
+unfolding stages
+in-turn mode t = bind-assoc (stage1 t) stage2 (later mode)
 
 pub stages-read : StagesRead
 unfolding stage1

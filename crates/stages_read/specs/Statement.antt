@@ -1,11 +1,26 @@
 -- The stages of a tree, with stages 1 and 2 of each component in one go, as the code reads them.
 use mathlib.Core.Path.{_≡_}
-use Rattle.def_numbers.specs.Prelude.{ℕ, Bool, List}
+use Rattle.def_numbers.specs.Prelude.{ℕ, Bool, true, false, none, some, List, map}
 use Rattle.def_numbers.specs.Basics.{Result, ok, _>>=_}
 use Rattle.def_image.specs.Image.{Unparsed, Placed}
-use Rattle.def_stages.specs.Component.{Component, keepBase, each, stage1Component, simplify, startingValue, source}
+use Rattle.def_stages.specs.Component.{Component, Parsed, keepBase, each, stage1Component, simplify, startingValue, source, stage1, stage2}
+use Rattle.def_stages.specs.Concatenation.{stage3, merged}
+use Rattle.def_stages.specs.Overall.{stage4}
 use Rattle.def_run.specs.Run.{stages}
-use Rattle.cut_stages.specs.Statement.{later}
+use Rattle.def_run.specs.Answer.{Answer}
+
+-- stages 1 and 2, and stages 3 to 5 of what they leave
+abbrev pub early : List (List (Placed Unparsed)) → Result Parsed
+early t = stage1 t >>= stage2
+
+abbrev pub later : ℕ → Parsed → Result Answer
+later mode p =
+    stage3 0 (p .cc) >>= λ cc.
+    stage4 mode (elim (p .init) [ none ↦ false | some q ↦ true ]) cc >>= λ o.
+    ok (record { init = p .init; overall = o; cc = map merged cc })
+
+abbrev pub InTurn : Type 0
+InTurn = (mode : ℕ) (t : List (List (Placed Unparsed))) → stages mode t ≡ (early t >>= later mode)
 
 abbrev pub both : Bool → Unparsed → Result Component
 both scanned u = stage1Component scanned u >>= simplify

@@ -16,7 +16,8 @@ use Rattle.component_types.specs.declared.values.Component.{Component}
 use Rattle.component_types.specs.declared.values.ComponentResult.{ComponentResult}
 use Rattle.component_types.specs.declared.values.ComponentResult.the-variants as R
 use Rattle.cursor.specs.Cursor.{spotIn}
-use Rattle.cursor.specs.Read.{stage2Component, readAt}
+use Rattle.component_types.specs.Values.{stage2Component}
+use Rattle.cursor.specs.Read.{readAt}
 use Rattle.cursor.specs.declared.cursor.Cursor.{Cursor}
 use Rattle.cursor.specs.declared.cursor.Spot.{Spot}
 use Rattle.concatenation.specs.Running.{keptOf, verdictOf}

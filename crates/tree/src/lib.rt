@@ -1,11 +1,8 @@
 // Stages 1 and 2 of every component of an image in order, and its starting value. Nothing is asked of a caller.
 pub use passes::stage1_components;
 pub use passes::stage2_components;
-pub use read::stage2_component;
 pub use start::Start;
 pub use start::starting_value;
 
-mod colon;
 mod passes;
-mod read;
 mod start;

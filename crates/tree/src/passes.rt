@@ -1,5 +1,5 @@
 // Stage 1, or stages 1 and 2, of every component in order: the first refusal, with its places.
-use super::read::stage2_component;
+use component_read::stage2_component;
 use component_types::ComponentResult;
 use component_types::Place;
 use cursor::Cursor;

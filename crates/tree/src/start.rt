@@ -1,5 +1,4 @@
 // The starting value of the whole image.
-use super::colon;
 use component_types::StartResult;
 use cursor::advanced;
 use cursor::at_most;
@@ -28,7 +27,7 @@ pub fn starting_value(image: &[u8]) -> Start
         return Start::None;
     }
     let spot = place_at(image, advanced(image, first(), s - 1));
-    let found = colon::starting_value(image, spot.place, s - 1);
+    let found = component_read::starting_value(image, spot.place, s - 1);
     match found {
         StartResult::None => Start::None,
         StartResult::Some(p) => Start::Given(spot.base, p),

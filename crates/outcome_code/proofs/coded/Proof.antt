@@ -3,8 +3,8 @@ use borrow.Author.Needs.{needs}
 use mathlib.Core.Path.{_≡_, sym, ap, _∙_}
 use native.Mathlib.Omega.{arith}
 use Prim.Native.Nat.{_%_, _^_}
-use Rattle.listing.specs.Outcomes.{outcomeOf}
-use Rattle.listing.specs.declared.Outcome.{Outcome}
+use Rattle.errors.specs.Refused.{outcomeOf}
+use Rattle.errors.specs.declared.Outcome.{Outcome}
 use Rattle.outcome_code.specs.Code.{codeOf}
 use Rattle.outcome_code.proofs.coded.Statement.{statement}
 use Rattle.outcome_code.proofs.coded.Tie as tie

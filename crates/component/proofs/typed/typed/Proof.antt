@@ -4,7 +4,7 @@ use Rattle.def_image.specs.Image.{bitsAt}
 use Rattle.items.specs.Run.{itemsIn}
 use Rattle.usb.specs.Usb.{partOf, usbrOf}
 use Rattle.component_types.specs.Values.{bitsOf}
-use Rattle.component.proofs.Types.{typed-variable, typed-none, typed-literal, no-bits, some-bits, all-bits}
+use Rattle.component.proofs.Typing.{typed-variable, typed-none, typed-literal, no-bits, some-bits, all-bits}
 use Rattle.component.proofs.typed.typed.Statement.{statement}
 use Rattle.component.proofs.typed.typed.Tie as tie
 

@@ -1,5 +1,5 @@
 use borrow.Author.Needs.{needs}
-use Rattle.component.proofs.Types.{unbounded-is}
+use Rattle.component.proofs.Typing.{unbounded-is}
 use Rattle.component.proofs.typed.unbounded.Statement.{statement}
 use Rattle.component.proofs.typed.unbounded.Tie as tie
 

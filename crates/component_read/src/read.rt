@@ -3,8 +3,7 @@ use component_types::ComponentResult;
 use component_types::Place;
 ghost use mathlib.Core.Path.{_≡_};
 ghost use Rattle.component_types.specs.Places.{unparsedIn};
-ghost use Rattle.component_types.specs.Values.{resultIn};
-ghost use Rattle.cursor.specs.Read.{stage2Component};
+ghost use Rattle.component_types.specs.Values.{resultIn, stage2Component};
 
 // Stage 2 of a component that no stage has read. One of common shape is read in one go.
 pub fn stage2_component(image: &[u8], place: Place, scanned: bool) -> ComponentResult

@@ -8,7 +8,7 @@ ghost use Rattle.def_stages.specs.Component.{startingValue};
 ghost use Rattle.component_types.specs.Places.{unparsedIn, placedAt, startIn};
 
 // The starting value of component k, where it is the one that is scanned for it: 10.
-pub(crate) fn starting_value(image: &[u8], place: Place, k: u32) -> StartResult
+pub fn starting_value(image: &[u8], place: Place, k: u32) -> StartResult
     ensures { λ r. ⌜ ((base : ℕ) → startIn (now (image .entry)) (place .text) base r ≡ startingValue k (placedAt base (unparsedIn (now (image .entry)) place) ∷ [])) ⌝ }
 {
     if component_fast::no_colon(image, place) {

@@ -2,9 +2,9 @@ use mathlib.Core.Path.{sym, ap, _∙_}
 use borrow.Author.Needs.{needs}
 use native.Mathlib.Omega.{arith}
 use Rattle.def_numbers.specs.Basics.{ok}
-use Rattle.cursor.proofs.Loops.{then-ok, then-refused}
-use Rattle.tree.proofs.read.stage2_component.Statement.{statement}
-use Rattle.tree.proofs.read.stage2_component.Tie as tie
+use Rattle.component_read.proofs.Reading.{then-ok, then-refused}
+use Rattle.component_read.proofs.read.stage2_component.Statement.{statement}
+use Rattle.component_read.proofs.read.stage2_component.Tie as tie
 
 returns : tie.Need-returns
 returns c =

@@ -1,12 +1,12 @@
--- `leaves_c::layout_check` meets its contract: the answer's number is that of the check's answer, which is the definition's.
+-- `layout_c::layout_check` meets its contract: the answer's number is that of the check's answer, which is the definition's.
 -- Assumes nothing.
 use borrow.Author.Needs.{needs}
 use mathlib.Core.Path.{_≡_, sym, ap, _∙_}
 use Rattle.errors.specs.Refused.{resultOf}
 use Rattle.errors.specs.declared.Checked.{Checked}
-use Rattle.leaves_c.specs.Number.{numberIn}
-use Rattle.leaves_c.proofs.layout_check.Statement.{statement}
-use Rattle.leaves_c.proofs.layout_check.Tie as tie
+use Rattle.layout_c.specs.Number.{numberIn}
+use Rattle.layout_c.proofs.layout_check.Statement.{statement}
+use Rattle.layout_c.proofs.layout_check.Tie as tie
 
 check-image-requires : tie.Need-check-image-requires
 check-image-requires c κs = search needs

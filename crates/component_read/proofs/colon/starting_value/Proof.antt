@@ -1,7 +1,7 @@
 use Rattle.component_fast.proofs.Starts.{none-is}
 use borrow.Author.Needs.{needs}
-use Rattle.tree.proofs.colon.starting_value.Statement.{statement}
-use Rattle.tree.proofs.colon.starting_value.Tie as tie
+use Rattle.component_read.proofs.colon.starting_value.Statement.{statement}
+use Rattle.component_read.proofs.colon.starting_value.Tie as tie
 
 returns : tie.Need-returns
 returns c =

@@ -1,2 +1,0 @@
--- What a caller in C is told.
-pub mod Number
