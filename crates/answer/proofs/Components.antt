@@ -6,24 +6,24 @@ use Prim.Native.Nat.{ℕ}
 use native.Mathlib.Omega.{arith}
 use mathlib.Core.Option.{Option, none, some}
 use lib.ListN.{length, length-append}
-use Rattle.def_numbers.specs.Basics.{tab}
-use Rattle.def_image.specs.Image.{padded}
-use Rattle.def_image.specs.Tree.{u32}
-use Rattle.def_stages.specs.Component.{Component, ComponentType}
-use Rattle.def_stages.specs.Ranges as Ranges
-use Rattle.def_run.specs.Answer.{textBytes, usbBytes, typeBytes, componentBytes}
-use Rattle.misc.specs.Value.{valueOf}
-use Rattle.usb.specs.declared.Usb.{Usb}
-use Rattle.usb.specs.declared.Usbr.{Usbr}
-use Rattle.usb.specs.declared.OptionUsb.{OptionUsb}
-use Rattle.usb.specs.declared.OptionUsb.the-variants as O
-use Rattle.usb.specs.Usb.{partOf, usbOf, optionUsbOf, usbrOf}
+use Rattle.definition.specs.Basics.{tab}
+use Rattle.definition.specs.Image.{padded}
+use Rattle.definition.specs.Tree.{u32}
+use Rattle.definition.specs.Component.{Component, ComponentType}
+use Rattle.definition.specs.Ranges as Ranges
+use Rattle.definition.specs.Answer.{textBytes, usbBytes, typeBytes, componentBytes}
+use Rattle.numbers.specs.Value.{valueOf}
+use Rattle.ranges.specs.declared.Usb.{Usb}
+use Rattle.ranges.specs.declared.Usbr.{Usbr}
+use Rattle.ranges.specs.declared.OptionUsb.{OptionUsb}
+use Rattle.ranges.specs.declared.OptionUsb.the-variants as O
+use Rattle.ranges.specs.Usb.{partOf, usbOf, optionUsbOf, usbrOf}
 use Rattle.answer.specs.declared.Fields.{Fields}
 use Rattle.answer.specs.declared.Kind.{Kind}
 use Rattle.answer.specs.declared.Kind.the-variants.{Literal, Variable, Filler}
 use Rattle.answer.specs.Kinds.{HasKind, fieldsOf}
-use Rattle.answer_numbers.specs.Numbers.{hasEnd, endOrZero}
-use Rattle.answer_words.specs.Sizes.{length-text}
+use Rattle.answer.specs.values.Numbers.{hasEnd, endOrZero}
+use Rattle.answer.specs.words.Sizes.{length-text}
 
 module _ (image : List ℕ) (text base : ℕ) where
   -- what is written of the fields

@@ -6,11 +6,11 @@ use mathlib.Core.List.{List, _++_}
 use Prim.Native.Nat.{ℕ, _+_}
 use native.Mathlib.Nat.{add-zero}
 use mathlib.Core.Option.{Option}
-use Rattle.def_image.specs.Image.{padded}
-use Rattle.def_image.specs.Tree.{u32}
-use Rattle.def_stages.specs.Concatenation.{Concatenation}
-use Rattle.def_run.specs.Answer.{Answer, flag, widthBytes, textBytes, concatenationBytes, headBytes}
-use Rattle.usb.specs.Usb.{partOf}
+use Rattle.definition.specs.Image.{padded}
+use Rattle.definition.specs.Tree.{u32}
+use Rattle.definition.specs.Concatenation.{Concatenation}
+use Rattle.definition.specs.Answer.{Answer, flag, widthBytes, textBytes, concatenationBytes, headBytes}
+use Rattle.ranges.specs.Usb.{partOf}
 use Rattle.answer.specs.declared.Init.{Init}
 use Rattle.answer.specs.declared.Init.the-variants.{Given, Missing}
 use Rattle.answer.specs.declared.Start.{Start}

@@ -1,15 +1,15 @@
 -- Examples that meet the premises of the writers' promises: a component of each kind, a concatenation, and an answer's head.
 use mathlib.Core.Path.{_≡_, refl}
 use mathlib.Core.Bool.{true, false}
-use Rattle.def_numbers.specs.Prelude.{ℕ, none, some, List, [], _∷_}
-use Rattle.def_numbers.specs.Basics.{joined}
-use Rattle.def_image.specs.Image.{padded}
-use Rattle.def_stages.specs.Ranges.{unbounded}
-use Rattle.def_stages.specs.Component.{Component, literal, variable, filler}
-use Rattle.def_stages.specs.Concatenation.{Concatenation, align-msb}
-use Rattle.def_run.specs.Answer.{Answer, concatenationBytes, headBytes}
-use Rattle.usb.specs.declared.Part.{Part}
-use Rattle.usb.specs.Usb.{partOf}
+use Rattle.definition.specs.Prelude.{ℕ, none, some, List, [], _∷_}
+use Rattle.definition.specs.Basics.{joined}
+use Rattle.definition.specs.Image.{padded}
+use Rattle.definition.specs.Ranges.{unbounded}
+use Rattle.definition.specs.Component.{Component, literal, variable, filler}
+use Rattle.definition.specs.Concatenation.{Concatenation, align-msb}
+use Rattle.definition.specs.Answer.{Answer, concatenationBytes, headBytes}
+use Rattle.ranges.specs.declared.Part.{Part}
+use Rattle.ranges.specs.Usb.{partOf}
 use Rattle.answer.specs.declared.Init.{Init}
 use Rattle.answer.specs.declared.Init.the-variants.{Given}
 use Rattle.answer.specs.declared.Kind.the-variants.{Literal, Variable, Filler}

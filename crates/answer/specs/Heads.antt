@@ -1,12 +1,12 @@
 -- Concatenations and answers of the definition that have the numbers and flags that are written.
 use mathlib.Core.Path.{_≡_}
 use mathlib.Core.Bool.{Bool, true, false}
-use Rattle.def_numbers.specs.Prelude.{ℕ, Option, none, some, List, length}
-use Rattle.def_image.specs.Image.{Placed}
-use Rattle.def_stages.specs.Text as Text
-use Rattle.def_stages.specs.Concatenation.{Concatenation, alignNumber}
-use Rattle.def_run.specs.Answer.{Answer, components}
-use Rattle.usb.specs.Usb.{partOf}
+use Rattle.definition.specs.Prelude.{ℕ, Option, none, some, List, length}
+use Rattle.definition.specs.Image.{Placed}
+use Rattle.definition.specs.Text as Text
+use Rattle.definition.specs.Concatenation.{Concatenation, alignNumber}
+use Rattle.definition.specs.Answer.{Answer, components}
+use Rattle.ranges.specs.Usb.{partOf}
 use Rattle.answer.specs.declared.Init.{Init}
 use Rattle.answer.specs.declared.Init.the-variants.{Given, Missing}
 use Rattle.answer.specs.declared.Start.{Start}

@@ -1,9 +1,9 @@
 -- A component in code, as the definition's: its kind, and the fields that are written of it.
 use mathlib.Core.Path.{_≡_}
-use Rattle.def_numbers.specs.Prelude.{ℕ, List, length}
-use Rattle.def_stages.specs.Component.{ComponentType, literal, variable, filler}
-use Rattle.usb.specs.declared.Part.{Part}
-use Rattle.usb.specs.Usb.{partOf}
+use Rattle.definition.specs.Prelude.{ℕ, List, length}
+use Rattle.definition.specs.Component.{ComponentType, literal, variable, filler}
+use Rattle.ranges.specs.declared.Part.{Part}
+use Rattle.ranges.specs.Usb.{partOf}
 use Rattle.answer.specs.declared.Fields.{Fields}
 use Rattle.answer.specs.declared.Kind.{Kind}
 use Rattle.answer.specs.declared.Kind.the-variants.{Literal, Variable, Filler}

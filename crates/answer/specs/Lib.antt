@@ -1,6 +1,10 @@
 -- What the writers of the answer area say, and the laws of writing that their callers cite too.
-pub mod Writing
-pub mod Sizes
-pub mod Kinds
-pub mod Heads
 pub mod Examples
+pub mod Heads
+pub mod Kinds
+pub mod Sizes
+pub mod Writing
+pub mod area
+pub mod literal_bits
+pub mod values
+pub mod words

@@ -1,2 +1,2 @@
 -- The laws of writing, passed on for the writers above.
-pub use Rattle.answer_words.specs.Writing.{and-then, four-blocks}
+pub use Rattle.answer.specs.words.Writing.{and-then, four-blocks}

@@ -1,27 +1,33 @@
 // The answer area (document 01): writers of its blocks into a lent area. Each writes its bytes from a place on, those that lie
 // inside the area, and leaves all other bytes as they were.
-use answer_numbers::end_or_zero;
-use answer_numbers::flags;
-use answer_numbers::has_end;
-use answer_words::put_text;
-use answer_words::put_u32;
-use answer_words::put_usb;
-use answer_words::put_width;
-use misc::OptionUsize;
-use usb::Part;
-use usb::Usbr;
+pub mod area;
+pub mod byte_bits;
+pub mod literal_bits;
+pub mod values;
+pub mod words;
+
+use crate::values::end_or_zero;
+use crate::values::flags;
+use crate::values::has_end;
+use crate::words::put_text;
+use crate::words::put_u32;
+use crate::words::put_usb;
+use crate::words::put_width;
+use numbers::OptionUsize;
+use ranges::Part;
+use ranges::Usbr;
 ghost use mathlib.Core.Path.{_≡_};
 ghost use mathlib.Core.List.{List, _++_};
 ghost use Prim.Native.Nat.{ℕ, _+_};
 ghost use lib.ListN.{length};
 ghost use lib.Seq.{sets};
-ghost use Rattle.def_image.specs.Tree.{u32};
-ghost use Rattle.def_stages.specs.Text as Text;
-ghost use Rattle.def_stages.specs.Component.{Component};
-ghost use Rattle.def_stages.specs.Concatenation.{Concatenation};
-ghost use Rattle.def_run.specs.Answer.{Answer, textBytes, componentBytes, concatenationBytes, headBytes};
-ghost use Rattle.misc.specs.Value.{optionUsize};
-ghost use Rattle.usb.specs.Usb.{usbrOf};
+ghost use Rattle.definition.specs.Tree.{u32};
+ghost use Rattle.definition.specs.Text as Text;
+ghost use Rattle.definition.specs.Component.{Component};
+ghost use Rattle.definition.specs.Concatenation.{Concatenation};
+ghost use Rattle.definition.specs.Answer.{Answer, textBytes, componentBytes, concatenationBytes, headBytes};
+ghost use Rattle.numbers.specs.Value.{optionUsize};
+ghost use Rattle.ranges.specs.Usb.{usbrOf};
 ghost use Rattle.answer.specs.Heads.{IsConcatenation, IsHead, initOf, startText};
 ghost use Rattle.answer.specs.Kinds.{HasKind, fieldsOf};
 

@@ -1,28 +1,28 @@
 -- Stage 1: one law for each way through the code.
 use mathlib.Core.Path.{_≡_, refl, sym, ap, _∙_}
-use Rattle.def_numbers.specs.Prelude.{ℕ, Bool, true, false, not, Option, none, some, List}
-use Rattle.def_numbers.specs.Basics.{Result, ok, refused, _>>=_, isEmpty}
-use Rattle.def_numbers.specs.Refusals.{need, nothing-before-range}
-use Rattle.def_image.specs.Image.{Unparsed}
-use Rattle.def_stages.specs.Text.{Item}
-use Rattle.def_stages.specs.Ranges as Ranges
-use Rattle.def_stages.specs.Component.{Component, Split, splitOf, middle, parseComponent, stage1Component, typed}
+use Rattle.definition.specs.Prelude.{ℕ, Bool, true, false, not, Option, none, some, List}
+use Rattle.definition.specs.Basics.{Result, ok, refused, _>>=_, isEmpty}
+use Rattle.definition.specs.Refusals.{need, nothing-before-range}
+use Rattle.definition.specs.Image.{Unparsed}
+use Rattle.definition.specs.Text.{Item}
+use Rattle.definition.specs.Ranges as Ranges
+use Rattle.definition.specs.Component.{Component, Split, splitOf, middle, parseComponent, stage1Component, typed}
 use Rattle.errors.specs.Refused.{refusedAs}
 use Rattle.errors.specs.declared.Refusal.{Refusal}
-use Rattle.range_parse.specs.Range.{rangeResult}
-use Rattle.range_parse.specs.declared.range.RangeResult.{RangeResult}
-use Rattle.range_parse.specs.declared.range.RangeResult.the-variants as R
-use Rattle.usb.specs.Usb.{usbrOf}
-use Rattle.usb.specs.declared.Usbr.{Usbr}
-use Rattle.items.specs.Run.{itemsIn}
-use Rattle.items.specs.declared.Run.{Run}
-use Rattle.component_text.specs.Ends as Ends
-use Rattle.component_types.specs.Places.{unparsedIn, middleOf}
+use Rattle.ranges.specs.parse.Range.{rangeResult}
+use Rattle.ranges.specs.declared.parse.range.RangeResult.{RangeResult}
+use Rattle.ranges.specs.declared.parse.range.RangeResult.the-variants as R
+use Rattle.ranges.specs.Usb.{usbrOf}
+use Rattle.ranges.specs.declared.Usbr.{Usbr}
+use Rattle.image.specs.items.Run.{itemsIn}
+use Rattle.image.specs.declared.items.Run.{Run}
+use Rattle.component.specs.text.Ends as Ends
+use Rattle.component.specs.types.Places.{unparsedIn, middleOf}
 use Rattle.component.specs.Stage1.{bracketedOf, plainOf}
-use Rattle.component_types.specs.declared.places.Place.{Place}
-use Rattle.component_text.specs.declared.ends.Split as code
-use Rattle.component_text.specs.declared.ends.OptionRun.the-variants as O
-use Rattle.component_types.specs.Values.{refused-then}
+use Rattle.component.specs.declared.types.places.Place.{Place}
+use Rattle.component.specs.declared.text.ends.Split as code
+use Rattle.component.specs.declared.text.ends.OptionRun.the-variants as O
+use Rattle.component.specs.types.Values.{refused-then}
 
 -- ---- a range that was read
 

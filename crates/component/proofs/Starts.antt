@@ -2,25 +2,25 @@
 use mathlib.Core.Path.{_≡_, refl, sym, ap, _∙_}
 use native.Mathlib.Nat.{add-zero}
 use native.Mathlib.Omega.{arith}
-use Rattle.def_numbers.specs.Prelude.{ℕ, Bool, true, false, not, Option, none, some, List, [], _∷_}
-use Rattle.def_numbers.specs.Basics.{Result, ok, refused, _>>=_, placed, if_then_else_, isEmpty}
-use Rattle.def_numbers.specs.Refusals.{need, empty-after-colon}
-use Rattle.def_image.specs.Image.{recsFrom, Unparsed, Placed}
-use Rattle.def_stages.specs.Text as Text
-use Rattle.def_stages.specs.Component.{Prefix, Split, splitRange, splitColon, splitOf, prefixOf, startingValue}
+use Rattle.definition.specs.Prelude.{ℕ, Bool, true, false, not, Option, none, some, List, [], _∷_}
+use Rattle.definition.specs.Basics.{Result, ok, refused, _>>=_, placed, if_then_else_, isEmpty}
+use Rattle.definition.specs.Refusals.{need, empty-after-colon}
+use Rattle.definition.specs.Image.{recsFrom, Unparsed, Placed}
+use Rattle.definition.specs.Text as Text
+use Rattle.definition.specs.Component.{Prefix, Split, splitRange, splitColon, splitOf, prefixOf, startingValue}
 use Rattle.errors.specs.Refused.{refusedAs}
 use Rattle.errors.specs.declared.Refusal.{Refusal}
-use Rattle.usb.specs.Usb as Usb
-use Rattle.usb.specs.declared.Part.{Part}
-use Rattle.items.specs.Run.{inReach, itemsAt, itemsIn}
-use Rattle.items.specs.declared.Run.{Run}
-use Rattle.component_text.specs.Ends as Ends
-use Rattle.component_text.specs.Prefix.{partsOf, colonIn}
-use Rattle.component_types.specs.Places.{wholeOf, unparsedIn, placedAt, middleOf}
-use Rattle.component_text.specs.declared.ends.Split as code
-use Rattle.component_types.specs.declared.places.Place.{Place}
-use Rattle.component_text.specs.declared.prefix.Colon.{Colon}
-use Rattle.component_text.specs.declared.prefix.Colon.the-variants as C
+use Rattle.ranges.specs.Usb as Usb
+use Rattle.ranges.specs.declared.Part.{Part}
+use Rattle.image.specs.items.Run.{inReach, itemsAt, itemsIn}
+use Rattle.image.specs.declared.items.Run.{Run}
+use Rattle.component.specs.text.Ends as Ends
+use Rattle.component.specs.text.Prefix.{partsOf, colonIn}
+use Rattle.component.specs.types.Places.{wholeOf, unparsedIn, placedAt, middleOf}
+use Rattle.component.specs.declared.text.ends.Split as code
+use Rattle.component.specs.declared.types.places.Place.{Place}
+use Rattle.component.specs.declared.text.prefix.Colon.{Colon}
+use Rattle.component.specs.declared.text.prefix.Colon.the-variants as C
 
 -- ---- the items of a component
 

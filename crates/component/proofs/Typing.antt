@@ -3,23 +3,23 @@ use mathlib.Core.Path.{_≡_, refl, sym, ap, _∙_}
 use Prim.Native.Nat.{_≤_}
 use native.Mathlib.Omega.{arith}
 use lib.Seq.{take-all}
-use Rattle.def_numbers.specs.Prelude.{ℕ, zero, suc, Bool, true, false, not, none, some, List, [], _∷_, length, take, drop, ℤ, pos}
-use Rattle.def_numbers.specs.Basics.{Result, ok, refused, _>>=_, if_then_else_, isEmpty, tab}
-use Rattle.def_numbers.specs.Refusals.{need, no-literal}
-use Rattle.def_image.specs.Image.{bitsAt, padded}
-use Rattle.def_stages.specs.Text as Text
-use Rattle.def_stages.specs.Ranges.{Usbr, text, singleBit, unbounded}
-use Rattle.def_stages.specs.Component.{Component, literal, variable, isLiteral, typed}
+use Rattle.definition.specs.Prelude.{ℕ, zero, suc, Bool, true, false, not, none, some, List, [], _∷_, length, take, drop, ℤ, pos}
+use Rattle.definition.specs.Basics.{Result, ok, refused, _>>=_, if_then_else_, isEmpty, tab}
+use Rattle.definition.specs.Refusals.{need, no-literal}
+use Rattle.definition.specs.Image.{bitsAt, padded}
+use Rattle.definition.specs.Text as Text
+use Rattle.definition.specs.Ranges.{Usbr, text, singleBit, unbounded}
+use Rattle.definition.specs.Component.{Component, literal, variable, isLiteral, typed}
 use Rattle.errors.specs.Refused.{refusedAs}
 use Rattle.errors.specs.declared.Refusal.{Refusal}
-use Rattle.misc.specs.Value.{valueOf}
-use Rattle.misc.specs.declared.I128.{I128}
-use Rattle.usb.specs.Usb as Usb
-use Rattle.usb.specs.declared.Part.{Part}
-use Rattle.usb.specs.declared.OptionUsb.the-variants as O
-use Rattle.component_types.specs.Values.{bitsOf}
-use Rattle.component_types.specs.declared.places.Place.{Place}
-use Rattle.component_types.proofs.Slices.{length-bits}
+use Rattle.numbers.specs.Value.{valueOf}
+use Rattle.numbers.specs.declared.I128.{I128}
+use Rattle.ranges.specs.Usb as Usb
+use Rattle.ranges.specs.declared.Part.{Part}
+use Rattle.ranges.specs.declared.OptionUsb.the-variants as O
+use Rattle.component.specs.types.Values.{bitsOf}
+use Rattle.component.specs.declared.types.places.Place.{Place}
+use Rattle.component.proofs.types.Slices.{length-bits}
 
 empty-tab : (f : ℕ → ℕ) (n : ℕ) → (n ≡ 0 → ⊥) → isEmpty (tab f 0 n) ≡ false
 unfolding tab

@@ -1,9 +1,9 @@
 -- Stage 1 of a component with a bracket, and of one without.
-use Rattle.def_numbers.specs.Prelude.{ℕ, Option, none, some, List}
-use Rattle.def_numbers.specs.Basics.{Result, ok, _>>=_}
-use Rattle.def_stages.specs.Text.{Item}
-use Rattle.def_stages.specs.Ranges.{Usbr, unbounded, parseRange, singleBit}
-use Rattle.def_stages.specs.Component.{Component, filler, typed}
+use Rattle.definition.specs.Prelude.{ℕ, Option, none, some, List}
+use Rattle.definition.specs.Basics.{Result, ok, _>>=_}
+use Rattle.definition.specs.Text.{Item}
+use Rattle.definition.specs.Ranges.{Usbr, unbounded, parseRange, singleBit}
+use Rattle.definition.specs.Component.{Component, filler, typed}
 
 abbrev pub inBracket : List Item → List Item → List ℕ → Option Usbr → Result Component
 inBracket mid is bits o = typed mid bits (elim o [ none ↦ singleBit is | some r ↦ r ])

@@ -1,8 +1,11 @@
-// Stage 1 of one component (src/component.rs), free of its place. Nothing is copied from the image: a text is a part, a
-// literal is a place and its bits from .. to. Nothing is asked of a caller: a run out of reach has no items.
-pub use places::starting_value;
-pub use stage1::stage1_component;
-
-mod places;
-mod stage1;
-mod typed;
+// A component: its text, stage 1 and stage 2 of it, its starting value, and the tests of stage 3.
+pub mod colon;
+pub mod places;
+pub mod plain;
+pub mod read;
+pub mod stage1;
+pub mod stage2;
+pub mod tests;
+pub mod text;
+pub mod typed;
+pub mod types;

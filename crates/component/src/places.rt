@@ -1,19 +1,19 @@
 // A component in the image, and what stands before its records' range and after its starting value.
-use component_text::Colon;
-use component_text::Split;
-use component_text::is_empty;
-use component_text::split_colon;
-use component_text::split_range;
-use component_types::Place;
-use component_types::StartResult;
-use items::Run;
+use crate::text::Colon;
+use crate::text::Split;
+use crate::text::is_empty;
+use crate::text::split_colon;
+use crate::text::split_range;
+use crate::types::Place;
+use crate::types::StartResult;
+use image::items::Run;
 ghost use mathlib.Core.Path.{_≡_};
 ghost use mathlib.Core.List.{List, [], _∷_};
 ghost use Prim.Native.Nat.{ℕ};
-ghost use Rattle.def_stages.specs.Component.{splitOf, startingValue};
-ghost use Rattle.items.specs.Run.{itemsIn};
-ghost use Rattle.component_text.specs.Ends.{splitIn};
-ghost use Rattle.component_types.specs.Places.{wholeOf, unparsedIn, placedAt, middleOf, startIn};
+ghost use Rattle.definition.specs.Component.{splitOf, startingValue};
+ghost use Rattle.image.specs.items.Run.{itemsIn};
+ghost use Rattle.component.specs.text.Ends.{splitIn};
+ghost use Rattle.component.specs.types.Places.{wholeOf, unparsedIn, placedAt, middleOf, startIn};
 
 // The records of a component, its text at offset 0.
 fn whole(run: Run) -> Run

@@ -4,27 +4,27 @@ use super::places::parts_of;
 use super::typed::single_bit;
 use super::typed::typed;
 use super::typed::unbounded;
-use component_text::OptionRun;
-use component_text::is_empty;
-use component_types::Component;
-use component_types::ComponentResult;
-use component_types::ComponentType;
-use component_types::Place;
-use items::Run;
-use range_parse::RangeResult;
+use crate::text::OptionRun;
+use crate::text::is_empty;
+use crate::types::Component;
+use crate::types::ComponentResult;
+use crate::types::ComponentType;
+use crate::types::Place;
+use image::items::Run;
+use ranges::parse::RangeResult;
 ghost use mathlib.Core.Path.{_≡_};
-ghost use Rattle.def_image.specs.Image.{bitsAt};
-ghost use Rattle.def_stages.specs.Component.{stage1Component};
-ghost use Rattle.items.specs.Run.{itemsIn};
-ghost use Rattle.component_types.specs.Places.{unparsedIn};
-ghost use Rattle.component_types.specs.Values.{resultIn};
+ghost use Rattle.definition.specs.Image.{bitsAt};
+ghost use Rattle.definition.specs.Component.{stage1Component};
+ghost use Rattle.image.specs.items.Run.{itemsIn};
+ghost use Rattle.component.specs.types.Places.{unparsedIn};
+ghost use Rattle.component.specs.types.Values.{resultIn};
 ghost use Rattle.component.specs.Stage1.{bracketedOf, plainOf};
 
 // With what stands in the range's bracket.
 fn bracketed(image: &[u8], place: Place, mid: Run, range: Run) -> ComponentResult
     ensures { λ r. ⌜ resultIn (now (image .entry)) place r ≡ bracketedOf (itemsIn (now (image .entry)) (place .text) mid) (itemsIn (now (image .entry)) (place .text) range) (bitsAt (now (image .entry)) (place .literal) (place .width)) ⌝ }
 {
-    let s = range_parse::parse_range(image, place.text, range);
+    let s = ranges::parse::parse_range(image, place.text, range);
     match s {
         RangeResult::Range(r) => typed(image, place, mid, r),
         RangeResult::NoRange => typed(image, place, mid, single_bit(image, place.text, range)),
@@ -36,7 +36,7 @@ fn bracketed(image: &[u8], place: Place, mid: Run, range: Run) -> ComponentResul
 fn plain(image: &[u8], place: Place, mid: Run) -> ComponentResult
     ensures { λ r. ⌜ resultIn (now (image .entry)) place r ≡ plainOf (itemsIn (now (image .entry)) (place .text) mid) (bitsAt (now (image .entry)) (place .literal) (place .width)) ⌝ }
 {
-    let s = range_parse::parse_range(image, place.text, mid);
+    let s = ranges::parse::parse_range(image, place.text, mid);
     match s {
         RangeResult::Range(r) => ComponentResult::Ok(Component {
             c_type: ComponentType::Filler,

@@ -1,25 +1,25 @@
 // A component's type: "else a text beginning with `-` or a digit makes it a literal, any other a variable".
-use component_text::is_literal;
-use component_text::part_of;
-use component_types::Bits;
-use component_types::Component;
-use component_types::ComponentResult;
-use component_types::ComponentType;
-use component_types::Place;
-use items::Run;
-use usb::OptionUsb;
-use usb::Part;
-use usb::Usb;
-use usb::Usbr;
+use crate::text::is_literal;
+use crate::text::part_of;
+use crate::types::Bits;
+use crate::types::Component;
+use crate::types::ComponentResult;
+use crate::types::ComponentType;
+use crate::types::Place;
+use image::items::Run;
+use ranges::OptionUsb;
+use ranges::Part;
+use ranges::Usb;
+use ranges::Usbr;
 ghost use mathlib.Core.Path.{_≡_};
 ghost use mathlib.Core.List.{List};
 ghost use Prim.Native.Nat.{ℕ};
-ghost use Rattle.def_image.specs.Image.{bitsAt};
-ghost use Rattle.def_stages.specs.Ranges.{singleBit, unbounded};
-ghost use Rattle.def_stages.specs.Component.{typed};
-ghost use Rattle.items.specs.Run.{itemsIn};
-ghost use Rattle.usb.specs.Usb.{usbrOf};
-ghost use Rattle.component_types.specs.Values.{resultIn};
+ghost use Rattle.definition.specs.Image.{bitsAt};
+ghost use Rattle.definition.specs.Ranges.{singleBit, unbounded};
+ghost use Rattle.definition.specs.Component.{typed};
+ghost use Rattle.image.specs.items.Run.{itemsIn};
+ghost use Rattle.ranges.specs.Usb.{usbrOf};
+ghost use Rattle.component.specs.types.Values.{resultIn};
 
 // "17 .. literal width is 0"
 pub(crate) fn typed(image: &[u8], place: Place, mid: Run, range: Usbr) -> ComponentResult
@@ -52,11 +52,11 @@ pub(crate) fn single_bit(image: &[u8], text: usize, run: Run) -> Usbr
     let s = part_of(image, text, run);
     let start = Usb {
         s,
-        x: misc::usize_to_i128(0),
+        x: numbers::usize_to_i128(0),
     };
     let end = Usb {
         s,
-        x: misc::usize_to_i128(1),
+        x: numbers::usize_to_i128(1),
     };
     Usbr {
         start,
@@ -70,7 +70,7 @@ pub(crate) fn unbounded() -> Usbr
 {
     let start = Usb {
         s: Part { at: 0, len: 0 },
-        x: misc::usize_to_i128(0),
+        x: numbers::usize_to_i128(0),
     };
     Usbr {
         start,

@@ -2,16 +2,16 @@
 use mathlib.Core.Path.{_≡_, refl, sym, _∙_, ap}
 use native.Mathlib.Numerals.{add-one}
 use borrow.Author.Tests.{eq-eqb, ne-eqb}
-use Rattle.def_numbers.specs.Prelude.{ℕ, suc, _+_, Option, none, some, Bool, true, false, not, _&&_, _||_, List, _∷_, drop, leb, eqb}
-use Rattle.def_numbers.specs.Basics.{ok, refused}
-use Rattle.def_numbers.specs.Refusals.{numberOf, no-common-width}
-use Rattle.def_stages.specs.Concatenation.{Concatenation}
-use Rattle.def_stages.specs.Overall.{Overall, overallFrom, overall, placeFrom, stage4}
-use Rattle.misc.specs.declared.OptionUsize.the-variants as U
-use Rattle.alignment.specs.declared.align.FillerAlign.the-variants as A
+use Rattle.definition.specs.Prelude.{ℕ, suc, _+_, Option, none, some, Bool, true, false, not, _&&_, _||_, List, _∷_, drop, leb, eqb}
+use Rattle.definition.specs.Basics.{ok, refused}
+use Rattle.definition.specs.Refusals.{numberOf, no-common-width}
+use Rattle.definition.specs.Concatenation.{Concatenation}
+use Rattle.definition.specs.Overall.{Overall, overallFrom, overall, placeFrom, stage4}
+use Rattle.numbers.specs.declared.OptionUsize.the-variants as U
+use Rattle.concatenation.specs.declared.alignment.align.FillerAlign.the-variants as A
 use Rattle.concatenation.specs.declared.overall.Place.the-variants as P
 use Rattle.concatenation.specs.declared.overall.Summary.{Summary}
-use Rattle.alignment.specs.Align.{alignOf}
+use Rattle.concatenation.specs.alignment.Align.{alignOf}
 use Rattle.concatenation.specs.Overall.{isOpposite, oppositeAs, oppositeAt, commonOf, checksOf}
 use Rattle.concatenation.proofs.Turns.{At}
 

@@ -1,4 +1,4 @@
 -- Laws over plain values that the functions' proofs cite.
+pub mod Ends
 pub mod Summaries
 pub mod Turns
-pub mod Ends

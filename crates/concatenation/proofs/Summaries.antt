@@ -1,14 +1,14 @@
 -- Summaries: what holds of a concatenation that has one, and of lists of them.
 use mathlib.Core.Path.{_≡_, refl, sym, _∙_, ap, ap₂}
 use borrow.Author.Tests.{eq-eqb, ne-eqb}
-use Rattle.def_numbers.specs.Prelude.{ℕ, Option, none, some, Bool, true, false, not, _&&_, _||_, List, [], _∷_, eqb}
-use Rattle.def_numbers.specs.Basics.{Result, ok, refused, _>>=_, placed, if_then_else_}
-use Rattle.def_numbers.specs.Refusals.{need, refuse, middle-filler, unequal-widths, filler-without-start, numberOf}
-use Rattle.def_stages.specs.Concatenation.{Concatenation, FillerAlign, isAlign, align-mid}
-use Rattle.def_stages.specs.Overall.{Overall, joinWidth, checkSource, overall, joinAlign, isSided}
-use Rattle.misc.specs.Value.{optionUsize}
-use Rattle.alignment.specs.Align.{alignOf}
-use Rattle.alignment.specs.declared.align.FillerAlign.{FillerAlign as Align}
+use Rattle.definition.specs.Prelude.{ℕ, Option, none, some, Bool, true, false, not, _&&_, _||_, List, [], _∷_, eqb}
+use Rattle.definition.specs.Basics.{Result, ok, refused, _>>=_, placed, if_then_else_}
+use Rattle.definition.specs.Refusals.{need, refuse, middle-filler, unequal-widths, filler-without-start, numberOf}
+use Rattle.definition.specs.Concatenation.{Concatenation, FillerAlign, isAlign, align-mid}
+use Rattle.definition.specs.Overall.{Overall, joinWidth, checkSource, overall, joinAlign, isSided}
+use Rattle.numbers.specs.Value.{optionUsize}
+use Rattle.concatenation.specs.alignment.Align.{alignOf}
+use Rattle.concatenation.specs.declared.alignment.align.FillerAlign.{FillerAlign as Align}
 use Rattle.concatenation.specs.declared.overall.Summary.{Summary}
 use Rattle.concatenation.specs.Overall.{HasSummary, StartsAs, joined, turn, placeOf, middleAt, isOpposite}
 

@@ -5,11 +5,11 @@ use native.Mathlib.Omega.{arith}
 use native.Mathlib.Numerals.{add-one}
 use native.Mathlib.Nat.{le-of-suc-le-suc}
 use lib.Seq.{length-take-le, getD-take}
-use Rattle.def_numbers.specs.Prelude.{ℕ, zero, suc, _+_, Option, none, some, Bool, true, false, List, [], _∷_, length, getD, take, drop}
-use Rattle.def_numbers.specs.Basics.{Result, ok, refused, _>>=_, placed, if_then_else_}
-use Rattle.def_numbers.specs.Refusals.{Reason, refuse, middle-filler, opposite-fillers}
-use Rattle.def_stages.specs.Concatenation.{Concatenation, isAlign, align-mid}
-use Rattle.def_stages.specs.Overall.{Overall, joinWidth, checkSource, overallFrom, middleFrom, oppositeFrom, placeFrom}
+use Rattle.definition.specs.Prelude.{ℕ, zero, suc, _+_, Option, none, some, Bool, true, false, List, [], _∷_, length, getD, take, drop}
+use Rattle.definition.specs.Basics.{Result, ok, refused, _>>=_, placed, if_then_else_}
+use Rattle.definition.specs.Refusals.{Reason, refuse, middle-filler, opposite-fillers}
+use Rattle.definition.specs.Concatenation.{Concatenation, isAlign, align-mid}
+use Rattle.definition.specs.Overall.{Overall, joinWidth, checkSource, overallFrom, middleFrom, oppositeFrom, placeFrom}
 use Rattle.concatenation.specs.declared.overall.Summary.{Summary}
 use Rattle.concatenation.specs.Overall.{HasSummary, Summarised, none-left, one-more, StartsAs, andThen, turn, unboundedIn, middleAt, isOpposite, oppositeAt}
 

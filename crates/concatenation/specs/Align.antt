@@ -1,2 +1,2 @@
 -- Alignments, passed on for the stages above.
-pub use Rattle.alignment.specs.Align.{alignOf}
+pub use Rattle.concatenation.specs.alignment.Align.{alignOf}

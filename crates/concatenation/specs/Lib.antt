@@ -1,5 +1,8 @@
 -- What the values of stages 3 and 4 in code mean.
 pub mod Align
-pub mod Running
 pub mod Overall
+pub mod Running
 pub mod Witness
+pub mod alignment
+pub mod running_check
+pub mod width

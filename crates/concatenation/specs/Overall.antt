@@ -1,15 +1,15 @@
 -- What stage 4 reads of a concatenation, its answer in code, and its steps.
-use Rattle.def_numbers.specs.Prelude.{ℕ, suc, Bool, true, false, not, _&&_, _||_, Option, none, some, List, [], _∷_, length, eqb}
+use Rattle.definition.specs.Prelude.{ℕ, suc, Bool, true, false, not, _&&_, _||_, Option, none, some, List, [], _∷_, length, eqb}
 use mathlib.Core.Path.{_≡_}
-use Rattle.def_numbers.specs.Basics.{Result, ok, _>>=_, placed, if_then_else_}
-use Rattle.def_numbers.specs.Refusals.{need, refuse, no-common-width, only-source, middle-filler, opposite-fillers}
-use Rattle.def_image.specs.Image.{Placed}
-use Rattle.def_stages.specs.Component.{Component}
-use Rattle.def_stages.specs.Concatenation.{Concatenation, FillerAlign, isAlign, align-mid, align-multiple, isUnboundedFiller}
-use Rattle.def_stages.specs.Overall.{Overall, placeFrom, isFiller, joinAlign, joinWidth, checkSource, middleFrom, oppositeFrom, isSided}
-use Rattle.misc.specs.Value.{optionUsize}
+use Rattle.definition.specs.Basics.{Result, ok, _>>=_, placed, if_then_else_}
+use Rattle.definition.specs.Refusals.{need, refuse, no-common-width, only-source, middle-filler, opposite-fillers}
+use Rattle.definition.specs.Image.{Placed}
+use Rattle.definition.specs.Component.{Component}
+use Rattle.definition.specs.Concatenation.{Concatenation, FillerAlign, isAlign, align-mid, align-multiple, isUnboundedFiller}
+use Rattle.definition.specs.Overall.{Overall, placeFrom, isFiller, joinAlign, joinWidth, checkSource, middleFrom, oppositeFrom, isSided}
+use Rattle.numbers.specs.Value.{optionUsize}
 use Rattle.errors.specs.Refused.{refusedAs}
-use Rattle.alignment.specs.Align.{alignOf}
+use Rattle.concatenation.specs.alignment.Align.{alignOf}
 use Rattle.concatenation.specs.declared.overall.Overall.{Overall as Now}
 use Rattle.concatenation.specs.declared.overall.Summary.{Summary}
 use Rattle.concatenation.specs.declared.overall.Place.{Place}

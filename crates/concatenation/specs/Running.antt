@@ -1,2 +1,2 @@
 -- The running check's values, passed on for the stages above.
-pub use Rattle.running_check.specs.Running.{runningOf, kindOf, HasShape, stepOf, finishOf, keptOf, verdictOf}
+pub use Rattle.concatenation.specs.running_check.Running.{runningOf, kindOf, HasShape, stepOf, finishOf, keptOf, verdictOf}

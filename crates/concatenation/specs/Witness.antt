@@ -1,20 +1,20 @@
 -- Witnesses: a component of each kind with its shape, and two concatenations with their summaries.
 use mathlib.Core.Path.{refl}
-use Rattle.def_numbers.specs.Prelude.{true, false, none, some, [], _∷_, pos}
-use Rattle.def_numbers.specs.Basics.{sameBytes}
-use Rattle.def_numbers.specs.Numbers.{half128}
-use Rattle.def_image.specs.Image.{Placed}
-use Rattle.def_stages.specs.Text.{noText}
-use Rattle.def_stages.specs.Ranges.{val, unbounded}
-use Rattle.def_stages.specs.Component.{Component, literal, variable, filler}
-use Rattle.def_stages.specs.Concatenation.{Concatenation, align-none, align-lsb}
-use Rattle.def_stages.specs.Overall.{placeFrom}
-use Rattle.misc.specs.Value.{valueOf}
-use Rattle.misc.specs.declared.OptionI128.the-variants as I
-use Rattle.misc.specs.declared.OptionUsize.the-variants as U
-use Rattle.alignment.specs.declared.align.FillerAlign.the-variants as A
+use Rattle.definition.specs.Prelude.{true, false, none, some, [], _∷_, pos}
+use Rattle.definition.specs.Basics.{sameBytes}
+use Rattle.definition.specs.Numbers.{half128}
+use Rattle.definition.specs.Image.{Placed}
+use Rattle.definition.specs.Text.{noText}
+use Rattle.definition.specs.Ranges.{val, unbounded}
+use Rattle.definition.specs.Component.{Component, literal, variable, filler}
+use Rattle.definition.specs.Concatenation.{Concatenation, align-none, align-lsb}
+use Rattle.definition.specs.Overall.{placeFrom}
+use Rattle.numbers.specs.Value.{valueOf}
+use Rattle.numbers.specs.declared.OptionI128.the-variants as I
+use Rattle.numbers.specs.declared.OptionUsize.the-variants as U
+use Rattle.concatenation.specs.declared.alignment.align.FillerAlign.the-variants as A
 use Rattle.concatenation.specs.declared.overall.Place.the-variants as P
-use Rattle.running_check.specs.Running.{HasShape}
+use Rattle.concatenation.specs.running_check.Running.{HasShape}
 use Rattle.concatenation.specs.Overall.{Summarised, none-left, one-more}
 
 -- two bits, a variable, and `..`

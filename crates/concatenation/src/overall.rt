@@ -1,17 +1,17 @@
 // Stage 4: what the concatenations say together, over a summary of each.
-use alignment::FillerAlign;
-use alignment::both;
-use alignment::either;
-use alignment::join_align;
+use crate::alignment::FillerAlign;
+use crate::alignment::both;
+use crate::alignment::either;
+use crate::alignment::join_align;
 use errors::Checked;
 use errors::Refusal;
-use misc::OptionUsize;
+use numbers::OptionUsize;
 ghost use mathlib.Core.Path.{_≡_};
 ghost use mathlib.Core.List.{List};
-ghost use Rattle.def_stages.specs.Concatenation.{Concatenation};
-ghost use Rattle.def_stages.specs.Overall.{joinWidth, checkSource, overall};
+ghost use Rattle.definition.specs.Concatenation.{Concatenation};
+ghost use Rattle.definition.specs.Overall.{joinWidth, checkSource, overall};
 ghost use Rattle.errors.specs.Refused.{resultOf};
-ghost use Rattle.misc.specs.Value.{optionUsize};
+ghost use Rattle.numbers.specs.Value.{optionUsize};
 ghost use Rattle.concatenation.specs.Overall.{overallOf, answerOf, HasSummary, StartsAs, joined as joinedOf, andThen, turn, placeOf, oppositeAs};
 
 // The place of a component.

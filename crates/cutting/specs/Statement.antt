@@ -4,18 +4,18 @@
 -- (cut_proof, every-accepted), so "every image" is "every tree that fits" here.
 use mathlib.Core.Path.{_≡_}
 use Prim.Native.Nat.{_≤_, _<_}
-use Rattle.def_numbers.specs.Prelude.{ℕ, suc, _+_, _-_, _/_, _%_, _^_, Bool, true, false, _&&_, not, Option, none, some, List, [], _∷_, _++_, map, length, getD, take, drop, ltb, eqb, ℤ, pos, negsuc, natAbs}
-use Rattle.def_numbers.specs.Basics.{Result, ok, refused, _>>=_, if_then_else_, isEmpty, sameBytes, sum, joined}
-use Rattle.def_numbers.specs.Numbers.{char}
-use Rattle.def_numbers.specs.Limits.{areaNeeded}
-use Rattle.def_image.specs.Image.{Unparsed, Placed, kinds, treeOf}
-use Rattle.def_image.specs.Tree.{Forest, end, word, group, Node, Tree, recsOf, flat, literalsOf, imageOf, fits}
-use Rattle.def_stages.specs.Text.{items}
-use Rattle.def_stages.specs.Ranges.{Usb, Usbr, parseRange, singleBit, staticVal, staticWidth}
-use Rattle.def_stages.specs.Component.{Component, literal, variable, filler, stage1Component, stage1, stage2, simplifyUsb, theEnd}
-use Rattle.def_stages.specs.Concatenation.{isStaticLiteral, merge}
-use Rattle.def_run.specs.Answer.{Read, Field, readAnswer}
-use Rattle.def_run.specs.Run.{run, areaAfter}
+use Rattle.definition.specs.Prelude.{ℕ, suc, _+_, _-_, _/_, _%_, _^_, Bool, true, false, _&&_, not, Option, none, some, List, [], _∷_, _++_, map, length, getD, take, drop, ltb, eqb, ℤ, pos, negsuc, natAbs}
+use Rattle.definition.specs.Basics.{Result, ok, refused, _>>=_, if_then_else_, isEmpty, sameBytes, sum, joined}
+use Rattle.definition.specs.Numbers.{char}
+use Rattle.definition.specs.Limits.{areaNeeded}
+use Rattle.definition.specs.Image.{Unparsed, Placed, kinds, treeOf}
+use Rattle.definition.specs.Tree.{Forest, end, word, group, Node, Tree, recsOf, flat, literalsOf, imageOf, fits}
+use Rattle.definition.specs.Text.{items}
+use Rattle.definition.specs.Ranges.{Usb, Usbr, parseRange, singleBit, staticVal, staticWidth}
+use Rattle.definition.specs.Component.{Component, literal, variable, filler, stage1Component, stage1, stage2, simplifyUsb, theEnd}
+use Rattle.definition.specs.Concatenation.{isStaticLiteral, merge}
+use Rattle.definition.specs.Answer.{Read, Field, readAnswer}
+use Rattle.definition.specs.Run.{run, areaAfter}
 
 -- ── The parts of a component ──
 

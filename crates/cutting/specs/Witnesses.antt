@@ -3,15 +3,15 @@
 use mathlib.Core.Path.{_≡_, refl, sym, ap, subst}
 use lib.ListN.{replicate}
 use lib.Dec.{T, leb→le}
-use Rattle.def_numbers.specs.Prelude.{ℕ, _+_, _-_, Bool, true, none, some, List, [], _∷_, _++_, map, length, getD, Option, leb}
-use Rattle.def_numbers.specs.Basics.{ascii, Result, ok, refused, tab, joined}
-use Rattle.def_numbers.specs.Limits.{areaNeeded}
-use Rattle.def_image.specs.Image.{kinds}
-use Rattle.def_image.specs.Tree.{Forest, end, word, group, Node, Tree, imageOf, fits, literalsOf}
-use Rattle.def_stages.specs.Readings.{tokens, parenthesised}
-use Rattle.def_run.specs.Answer.{Read}
-use Rattle.def_run.specs.Run.{run}
-use Rattle.def_examples.specs.Compute.{computed}
+use Rattle.definition.specs.Prelude.{ℕ, _+_, _-_, Bool, true, none, some, List, [], _∷_, _++_, map, length, getD, Option, leb}
+use Rattle.definition.specs.Basics.{ascii, Result, ok, refused, tab, joined}
+use Rattle.definition.specs.Limits.{areaNeeded}
+use Rattle.definition.specs.Image.{kinds}
+use Rattle.definition.specs.Tree.{Forest, end, word, group, Node, Tree, imageOf, fits, literalsOf}
+use Rattle.definition.specs.Readings.{tokens, parenthesised}
+use Rattle.definition.specs.Answer.{Read}
+use Rattle.definition.specs.Run.{run}
+use Rattle.definition.specs.Compute.{computed}
 use Rattle.cutting.specs.Statement.{Given, Premises, BitPlace, _⊕_, unranged, atColon, rising, piecesOf, pieces, runEnd, pieceAt, treeWith, newTree, scanned, fixedLiteral, readsAs, image, newImage, readOld, readNew, placeOf, componentsOf, bitIn}
 
 -- the answer of a run that accepts

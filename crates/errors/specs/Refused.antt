@@ -1,6 +1,6 @@
 -- The answer of a check in code, as the definition's: passed, or refused with document 01's number and two places.
-use Rattle.def_numbers.specs.Prelude.{ℕ}
-use Rattle.def_numbers.specs.Basics.{Result, ok, refused}
+use Rattle.definition.specs.Prelude.{ℕ}
+use Rattle.definition.specs.Basics.{Result, ok, refused}
 use Rattle.errors.specs.declared.Refusal.{Refusal}
 use Rattle.errors.specs.declared.Checked.{Checked}
 use Rattle.errors.specs.declared.Checked.the-variants.{Passed, Refused}

@@ -1,6 +1,6 @@
 // Refusals (src/errors.rs): numbers and places only, as document 01 gives them.
 ghost use mathlib.Core.Path.{_≡_};
-ghost use Rattle.def_numbers.specs.Basics.{refused, placed};
+ghost use Rattle.definition.specs.Basics.{refused, placed};
 ghost use Rattle.errors.specs.Refused.{refusedAs};
 
 // A number of document 01 and two places: concatenation and component, 0 where there is none.

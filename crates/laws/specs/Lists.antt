@@ -6,8 +6,8 @@ use native.Mathlib.Omega.{arith}
 use mathlib.Core.List.{append-assoc}
 use lib.ListN.{length-append}
 use lib.Seq.{drop-cons}
-use Rattle.def_numbers.specs.Prelude.{Bool, true, false, _&&_, List, [], _∷_, map, _++_, length, getD, take, drop, leb}
-use Rattle.def_numbers.specs.Basics.{sum, all, joined, tab}
+use Rattle.definition.specs.Prelude.{Bool, true, false, _&&_, List, [], _∷_, map, _++_, length, getD, take, drop, leb}
+use Rattle.definition.specs.Basics.{sum, all, joined, tab}
 use Rattle.laws.specs.Tests.{and-iff, leb-iff}
 
 module _ {A : Type 0} where

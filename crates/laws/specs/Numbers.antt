@@ -5,8 +5,8 @@ use native.Mathlib.Nat.{le-trans}
 use native.Mathlib.Omega.{arith}
 use lib.Dec.{lit≤}
 use borrow.Author.Tests.{le-ltb}
-use Rattle.def_numbers.specs.Prelude.{ℕ, zero, suc, _-_, _^_, pos, _-ℤ_}
-use Rattle.def_numbers.specs.Numbers.{half128}
+use Rattle.definition.specs.Prelude.{ℕ, zero, suc, _-_, _^_, pos, _-ℤ_}
+use Rattle.definition.specs.Numbers.{half128}
 
 -- widths of literals are far below 2^127
 pub small-fits : (n : ℕ) → n ≤ 4096 → n < half128

@@ -2,8 +2,8 @@
 use mathlib.Core.Path.{_≡_, refl, ap}
 use Prim.Native.Nat.{_<_}
 use native.Mathlib.Omega.{arith}
-use Rattle.def_numbers.specs.Prelude.{ℕ, zero, suc, List, [], _∷_, length, getD}
-use Rattle.def_image.specs.Image.{padded}
+use Rattle.definition.specs.Prelude.{ℕ, zero, suc, List, [], _∷_, length, getD}
+use Rattle.definition.specs.Image.{padded}
 
 pub length-padded : (n : ℕ) (s : List ℕ) → length (padded n s) ≡ n
 unfolding padded

@@ -1,9 +1,9 @@
 -- What an answer `ok` says of the steps that gave it.
 use mathlib.Core.Path.{_≡_, refl}
 use native.Mathlib.Omega.{arith}
-use Rattle.def_numbers.specs.Prelude.{ℕ, Bool, true, false}
-use Rattle.def_numbers.specs.Basics.{Result, ok, refused, _>>=_, placed}
-use Rattle.def_numbers.specs.Refusals.{Reason, need}
+use Rattle.definition.specs.Prelude.{ℕ, Bool, true, false}
+use Rattle.definition.specs.Basics.{Result, ok, refused, _>>=_, placed}
+use Rattle.definition.specs.Refusals.{Reason, need}
 
 pub bind-ok : {A B : Type 0} (m : Result A) (f : A → Result B) {b : B} → (m >>= f) ≡ ok b → (a : A) × (m ≡ ok a) × (f a ≡ ok b)
 bind-ok (ok a) f h = (a, refl, h)

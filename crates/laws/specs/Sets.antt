@@ -5,7 +5,7 @@ use native.Mathlib.Nat.{add-zero, add-suc, suc-add, zero-add}
 use native.Mathlib.Omega.{arith}
 use lib.ListN.{set}
 use lib.Seq.{sets, sets-eq, set-out}
-use Rattle.def_numbers.specs.Prelude.{ℕ, suc, _+_, List, [], _∷_, _++_, length, drop}
+use Rattle.definition.specs.Prelude.{ℕ, suc, _+_, List, [], _∷_, _++_, length, drop}
 
 module _ {A : Type 0} where
   pub sets-append : (l : List A) (i : ℕ) (a b : List A) → sets (sets l i a) (i + length a) b ≡ sets l i (a ++ b)

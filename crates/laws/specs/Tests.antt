@@ -4,7 +4,7 @@ use mathlib.Core.Logic.{_↔_, _≢_}
 use mathlib.Core.Bool.{true≢false}
 use Prim.Native.Nat.{ℕ, _≤_}
 use lib.Dec.{T, leb→le, le→leb, eqb→eq, eqb-refl}
-use Rattle.def_numbers.specs.Prelude.{Bool, true, false, _&&_, leb, eqb}
+use Rattle.definition.specs.Prelude.{Bool, true, false, _&&_, leb, eqb}
 
 pub by-test : {G : Type 0} (t : Bool) → (t ≡ true → G) → (t ≡ false → G) → G
 by-test true f g = f refl

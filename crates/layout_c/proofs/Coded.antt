@@ -1,16 +1,16 @@
 -- The run's outcome as one number, which is small enough for it. Assumes nothing.
 use mathlib.Core.Path.{_≡_, refl, sym, ap, _∙_}
 use native.Mathlib.Omega.{arith}
-use Rattle.def_numbers.specs.Prelude.{ℕ, _%_, _^_, Bool, true, false, List, length, leb}
-use Rattle.def_numbers.specs.Basics.{Result, if_then_else_}
-use Rattle.def_run.specs.Listing.{output}
+use Rattle.definition.specs.Prelude.{ℕ, _%_, _^_, Bool, true, false, List, length, leb}
+use Rattle.definition.specs.Basics.{Result, if_then_else_}
+use Rattle.definition.specs.Listing.{output}
 use Rattle.errors.specs.declared.Outcome.{Outcome}
 use Rattle.errors.specs.Refused.{outcomeOf}
 use Rattle.listing.specs.Outcomes.{filled, writtenAs}
 use Rattle.listing.specs.declared.Written.{Written}
 use Rattle.listing.specs.declared.Written.the-variants.{Whole, Cut}
 use Rattle.layout_run.specs.Ran.{ranOn}
-use Rattle.outcome_code.specs.Code.{codeOf}
+use Rattle.layout_c.specs.outcome.Code.{codeOf}
 use Rattle.layout_c.specs.Code.{codedOn, listedIn}
 use Rattle.layout_c.specs.Split.{codeOn, code-small}
 

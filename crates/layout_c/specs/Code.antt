@@ -1,10 +1,10 @@
 -- What the functions for C promise.
-use Rattle.def_numbers.specs.Prelude.{ℕ, List, length, leb}
-use Rattle.def_numbers.specs.Basics.{if_then_else_}
-use Rattle.def_run.specs.Listing.{output}
+use Rattle.definition.specs.Prelude.{ℕ, List, length, leb}
+use Rattle.definition.specs.Basics.{if_then_else_}
+use Rattle.definition.specs.Listing.{output}
 use Rattle.listing.specs.Outcomes.{filled}
 use Rattle.layout_run.specs.Ran.{ranOn}
-use Rattle.outcome_code.specs.Code.{codeOf}
+use Rattle.layout_c.specs.outcome.Code.{codeOf}
 
 -- what a run on a lent area comes to, as one number, and the area afterwards
 abbrev pub codedOn : List ℕ → ℕ → List ℕ → ℕ × List ℕ

@@ -2,3 +2,4 @@
 pub mod Code
 pub mod Number
 pub mod Split
+pub mod outcome

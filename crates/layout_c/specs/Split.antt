@@ -3,22 +3,22 @@
 use mathlib.Core.Path.{_≡_, refl, ap}
 use Prim.Native.Nat.{_≤_, _<_}
 use native.Mathlib.Omega.{arith}
-use Rattle.def_numbers.specs.Prelude.{ℕ, _+_, _*_, _/_, _%_, _^_, List, [], _∷_, length}
-use Rattle.def_numbers.specs.Basics.{Result, ok, refused, _>>=_}
-use Rattle.def_image.specs.Image.{treeOf}
-use Rattle.def_image.specs.Check.{checkImage}
-use Rattle.def_image.specs.Tree.{imageOf}
-use Rattle.def_run.specs.Answer.{Answer, answerBytes}
-use Rattle.def_run.specs.Listing.{programArea}
-use Rattle.def_run.specs.Run.{run, stages}
-use Rattle.def_examples.specs.Compute.{computed}
+use Rattle.definition.specs.Prelude.{ℕ, _+_, _*_, _/_, _%_, _^_, List, [], _∷_, length}
+use Rattle.definition.specs.Basics.{Result, ok, refused, _>>=_}
+use Rattle.definition.specs.Image.{treeOf}
+use Rattle.definition.specs.Check.{checkImage}
+use Rattle.definition.specs.Tree.{imageOf}
+use Rattle.definition.specs.Answer.{Answer, answerBytes}
+use Rattle.definition.specs.Listing.{programArea}
+use Rattle.definition.specs.Run.{run, stages}
+use Rattle.definition.specs.Compute.{computed}
 use Rattle.laws.specs.Tests.{tested}
-use Rattle.prepared_back.specs.Every.{all-tested}
-use Rattle.answer_fits.specs.Accepts.{run-accepts}
-use Rattle.answer_fits.specs.Proved.{answer-fits}
+use Rattle.prepared.specs.back.Every.{all-tested}
+use Rattle.answer_facts.specs.fits.Accepts.{run-accepts}
+use Rattle.answer_facts.specs.fits.Proved.{answer-fits}
 use Rattle.refusal_places.specs.Run.{refusal-places}
 use Rattle.refusal_places.specs.Witness.{variable, literal}
-use Rattle.outcome_code.specs.Code.{codeOf}
+use Rattle.layout_c.specs.outcome.Code.{codeOf}
 
 -- the header's macros
 abbrev pub numberIn : ℕ → ℕ

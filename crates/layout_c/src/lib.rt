@@ -1,8 +1,10 @@
 // The run for C and Rust (include/layout.h, bindings/).
+pub mod outcome;
+
 use errors::Checked;
 use listing::Written;
 ghost use mathlib.Core.Path.{_≡_};
-ghost use Rattle.def_image.specs.Check.{checkImage};
+ghost use Rattle.definition.specs.Check.{checkImage};
 ghost use Rattle.layout_c.specs.Code.{codedOn, listedIn};
 ghost use Rattle.layout_c.specs.Number.{numberIn};
 
@@ -11,7 +13,7 @@ ghost use Rattle.layout_c.specs.Number.{numberIn};
 pub extern "C" fn layout_run(image: &[u8], mode: u32, area: &mut [u8]) -> u64
     ensures { λ r. ⌜ (r, now (area .exit)) ≡ codedOn (now (image .entry)) mode (now (area .entry)) ⌝ }
 {
-    outcome_code::coded(layout_run::run(image, mode, area))
+    crate::outcome::coded(layout_run::run(image, mode, area))
 }
 
 // The text that the program `layout` prints for an input, one mode byte and an image: its length, or 0 where it is longer than the
@@ -31,7 +33,7 @@ pub extern "C" fn layout_listing(input: &[u8], out: &mut [u8]) -> usize
 pub extern "C" fn layout_check(image: &[u8]) -> u32
     ensures { λ r. ⌜ r ≡ numberIn (checkImage (now (image .entry))) ⌝ }
 {
-    match image_check::check_image(image) {
+    match image::check::check_image(image) {
         Checked::Passed => 0,
         Checked::Refused(refusal) => refusal.number,
     }

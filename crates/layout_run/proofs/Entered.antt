@@ -2,31 +2,31 @@
 use mathlib.Core.Path.{_≡_, sym, ap, _∙_}
 use Prim.Native.Nat.{_≤_, _<_}
 use native.Mathlib.Omega.{arith}
-use Rattle.def_numbers.specs.Prelude.{ℕ, List, getD, length}
-use Rattle.def_numbers.specs.Basics.{Result, ok}
-use Rattle.def_image.specs.Image.{Placed, counts, treeOf}
-use Rattle.def_image.specs.Check.{checkImage}
-use Rattle.def_stages.specs.Component.{Component}
-use Rattle.def_stages.specs.Concatenation.{stage3}
-use Rattle.def_run.specs.Run.{stages, run}
+use Rattle.definition.specs.Prelude.{ℕ, List, getD, length}
+use Rattle.definition.specs.Basics.{Result, ok}
+use Rattle.definition.specs.Image.{Placed, counts, treeOf}
+use Rattle.definition.specs.Check.{checkImage}
+use Rattle.definition.specs.Component.{Component}
+use Rattle.definition.specs.Concatenation.{stage3}
+use Rattle.definition.specs.Run.{stages, run}
 use Rattle.errors.specs.Refused.{refusedAs, resultOf}
 use Rattle.errors.specs.declared.Checked.{Checked}
 use Rattle.errors.specs.declared.Checked.the-variants as C
 use Rattle.errors.specs.declared.Refusal.{Refusal}
 use Rattle.answer.specs.Heads.{initOf}
 use Rattle.answer.specs.declared.Init.the-variants as I
-use Rattle.token_tree.specs.Tables.{countsOf}
-use Rattle.token_tree.specs.declared.Counts.{Counts}
-use Rattle.cursor.specs.Cursor.{firstIn}
-use Rattle.cursor.specs.Read.{readFrom, readAll, startAll}
-use Rattle.tree.specs.Start.{startOf, sourceText}
-use Rattle.tree.specs.declared.start.Start.{Start}
-use Rattle.tree.specs.declared.start.Start.the-variants as S
-use Rattle.usb.specs.declared.Part.{Part}
-use Rattle.run_parts.specs.Found.{Found, StageIs}
-use Rattle.admission.specs.Asked.{admittedOf}
+use Rattle.image.specs.token_tree.Tables.{countsOf}
+use Rattle.image.specs.declared.token_tree.Counts.{Counts}
+use Rattle.layout_run.specs.cursor.Cursor.{firstIn}
+use Rattle.layout_run.specs.cursor.Read.{readFrom, readAll, startAll}
+use Rattle.layout_run.specs.tree.Start.{startOf, sourceText}
+use Rattle.layout_run.specs.declared.tree.start.Start.{Start}
+use Rattle.layout_run.specs.declared.tree.start.Start.the-variants as S
+use Rattle.ranges.specs.declared.Part.{Part}
+use Rattle.layout_run.specs.parts.Found.{Found, StageIs}
+use Rattle.layout_run.specs.admission.Asked.{admittedOf}
 use Rattle.layout_run.specs.Order.{stagesIn, bytesOf, cameTo, Admitted, run-after, admitted, stages-in}
-use Rattle.run_parts.specs.declared.Stage3.{Stage3}
+use Rattle.layout_run.specs.declared.parts.Stage3.{Stage3}
 use Rattle.layout_run.proofs.Outcomes.{few-counts}
 
 -- ---- the checks before the stages

@@ -4,11 +4,11 @@ use mathlib.Core.Logic.{_⊎_, inl, inr}
 use native.Mathlib.Omega.{arith}
 use Prim.Native.Nat.{_≤_, _<_}
 use lib.Seq.{take-append-seam, take-all}
-use Rattle.def_numbers.specs.Prelude.{ℕ, _-_, List, [], _∷_, length, take, drop, getD}
-use Rattle.def_numbers.specs.Basics.{Result, ok, refused, _>>=_}
-use Rattle.def_numbers.specs.Limits.{maxInput}
-use Rattle.def_run.specs.Listing.{listing, output, programArea}
-use Rattle.def_run.specs.Run.{run, areaAfter}
+use Rattle.definition.specs.Prelude.{ℕ, _-_, List, [], _∷_, length, take, drop, getD}
+use Rattle.definition.specs.Basics.{Result, ok, refused, _>>=_}
+use Rattle.definition.specs.Limits.{maxInput}
+use Rattle.definition.specs.Listing.{listing, output, programArea}
+use Rattle.definition.specs.Run.{run, areaAfter}
 use Rattle.errors.specs.Refused.{outcomeOf}
 use Rattle.listing.specs.Outcomes.{resultAs, listingOf}
 use Rattle.errors.specs.declared.Outcome.{Outcome}

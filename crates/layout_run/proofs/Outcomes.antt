@@ -3,15 +3,15 @@ use mathlib.Core.Path.{_≡_, refl, sym, ap₂, _∙_}
 use Prim.Native.Nat.{_≤_, _<_}
 use native.Mathlib.Omega.{arith}
 use lib.Seq.{sets}
-use Rattle.def_numbers.specs.Prelude.{ℕ, _+_, _*_, _&&_, true, false, Option, none, some, List, map, length, getD, leb}
-use Rattle.def_numbers.specs.Basics.{Result, ok, refused, _>>=_, within, joined}
-use Rattle.def_image.specs.Image.{Placed, counts}
-use Rattle.def_image.specs.Check.{checkImage}
-use Rattle.def_stages.specs.Text.{Part}
-use Rattle.def_stages.specs.Component.{Component}
-use Rattle.def_stages.specs.Concatenation.{stage3, merged}
-use Rattle.def_stages.specs.Overall.{Overall, stage4}
-use Rattle.def_run.specs.Answer.{Answer, answerBytes}
+use Rattle.definition.specs.Prelude.{ℕ, _+_, _*_, _&&_, true, false, Option, none, some, List, map, length, getD, leb}
+use Rattle.definition.specs.Basics.{Result, ok, refused, _>>=_, within, joined}
+use Rattle.definition.specs.Image.{Placed, counts}
+use Rattle.definition.specs.Check.{checkImage}
+use Rattle.definition.specs.Text.{Part}
+use Rattle.definition.specs.Component.{Component}
+use Rattle.definition.specs.Concatenation.{stage3, merged}
+use Rattle.definition.specs.Overall.{Overall, stage4}
+use Rattle.definition.specs.Answer.{Answer, answerBytes}
 use Rattle.laws.specs.Sets.{sets-front}
 use Rattle.laws.specs.Tests.{tested}
 use Rattle.errors.specs.Refused.{refusedAs}
@@ -19,23 +19,23 @@ use Rattle.errors.specs.declared.Refusal.{Refusal}
 use Rattle.answer.specs.Heads.{initOf}
 use Rattle.answer.specs.declared.Init.{Init}
 use Rattle.answer.specs.declared.Init.the-variants.{Given, Missing}
-use Rattle.answer_fits.specs.Fixed.{AllFixed}
-use Rattle.answer_fits.specs.Proved.{answer-fits, read-fixed}
-use Rattle.answer_fits.specs.Statement.{Fits}
+use Rattle.answer_facts.specs.fits.Fixed.{AllFixed}
+use Rattle.answer_facts.specs.fits.Proved.{answer-fits, read-fixed}
+use Rattle.answer_facts.specs.fits.Statement.{Fits}
 use Rattle.concatenation.specs.Overall.{answerOf}
 use Rattle.concatenation.specs.declared.overall.Overall as Code
 use Rattle.concatenation.specs.declared.overall.OverallResult.{OverallResult}
 use Rattle.concatenation.specs.declared.overall.OverallResult.the-variants as R
-use Rattle.stages_read.specs.Statement.{later}
-use Rattle.cursor.specs.Checked.{checked-parts}
-use Rattle.cursor.specs.Pass.{passed, andThen}
-use Rattle.cursor.specs.Read.{readAll, startAll}
-use Rattle.cursor.specs.Stages.{stage1All}
-use Rattle.run_parts.specs.Found.{Found}
+use Rattle.answer_facts.specs.stages.Statement.{later}
+use Rattle.layout_run.specs.cursor.Checked.{checked-parts}
+use Rattle.layout_run.specs.cursor.Pass.{passed, andThen}
+use Rattle.layout_run.specs.cursor.Read.{readAll, startAll}
+use Rattle.layout_run.specs.cursor.Stages.{stage1All}
+use Rattle.layout_run.specs.parts.Found.{Found}
 use Rattle.layout_run.specs.Judged.{givenOf}
 use Rattle.layout_run.specs.Order.{inTurn, stagesIn, bytesOf, cameTo, Admitted, stages-in, reads-in, read-then}
-use Rattle.run_parts.specs.Written.{answerFrom, Fitting, WriteIs}
-use Rattle.run_parts.specs.declared.Stage3.{Stage3}
+use Rattle.layout_run.specs.parts.Written.{answerFrom, Fitting, WriteIs}
+use Rattle.layout_run.specs.declared.parts.Stage3.{Stage3}
 
 -- a refusal is the outcome, and leaves the area
 came-refused : (before : List ℕ) (m : Result Answer) (q : Refusal) → m ≡ refusedAs q → _≡_ {A = Result ℕ × List ℕ} (refusedAs q, before) (cameTo before (bytesOf m))

@@ -1,11 +1,11 @@
 -- Answers one after the other.
 use mathlib.Core.Path.{_≡_}
-use Rattle.def_numbers.specs.Basics.{Result}
+use Rattle.definition.specs.Basics.{Result}
 use Rattle.errors.specs.Refused.{refusedAs, resultOf}
 use Rattle.errors.specs.declared.Checked.{Checked}
 use Rattle.errors.specs.declared.Checked.the-variants as C
 use Rattle.errors.specs.declared.Refusal.{Refusal}
-use Rattle.cursor.specs.Pass.{andThen}
+use Rattle.layout_run.specs.cursor.Pass.{andThen}
 
 -- a check, and what comes after it
 module _ (m rest : Result Unit) (s : Checked) (said : resultOf s ≡ m) where

@@ -2,17 +2,17 @@
 use mathlib.Core.Path.{_≡_}
 use mathlib.Core.Bool.{Bool, true, false}
 use Prim.Native.Nat.{_<_}
-use Rattle.def_numbers.specs.Prelude.{ℕ, List}
-use Rattle.def_numbers.specs.Basics.{ok}
+use Rattle.definition.specs.Prelude.{ℕ, List}
+use Rattle.definition.specs.Basics.{ok}
 use Rattle.answer.specs.Heads.{initOf}
 use Rattle.answer.specs.declared.Init.{Init}
 use Rattle.answer.specs.declared.Init.the-variants.{Given, Missing}
 use Rattle.errors.specs.Refused.{outcomeOf}
 use Rattle.errors.specs.declared.Outcome.{Outcome}
 use Rattle.errors.specs.declared.Outcome.the-variants.{Accepted}
-use Rattle.cursor.specs.Read.{startAll}
-use Rattle.run_parts.specs.declared.Stage3.{Stage3}
-use Rattle.run_parts.specs.Found.{Found}
+use Rattle.layout_run.specs.cursor.Read.{startAll}
+use Rattle.layout_run.specs.declared.parts.Stage3.{Stage3}
+use Rattle.layout_run.specs.parts.Found.{Found}
 use Rattle.layout_run.specs.Order.{stagesIn, bytesOf, cameTo}
 
 abbrev pub givenOf : Init → Bool

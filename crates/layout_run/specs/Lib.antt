@@ -3,3 +3,9 @@ pub mod Judged
 pub mod Order
 pub mod Printed
 pub mod Ran
+pub mod admission
+pub mod cursor
+pub mod merging
+pub mod parts
+pub mod tally
+pub mod tree

@@ -1,26 +1,26 @@
 -- The run in the order of the code: what it asks before the stages, and the stages as the code reads the image.
 use mathlib.Core.Path.{_≡_, refl, sym, ap, _∙_}
 use Prim.Native.Nat.{_≤_, _<_}
-use Rattle.def_numbers.specs.Prelude.{ℕ, true, Option, List, getD, length, leb}
-use Rattle.def_numbers.specs.Basics.{Result, ok, refused, _>>=_}
-use Rattle.def_numbers.specs.Limits.{areaNeeded}
-use Rattle.def_numbers.specs.Refusals.{need, mode-above-2, short-area}
-use Rattle.def_image.specs.Image.{Placed, counts, treeOf}
-use Rattle.def_image.specs.Check.{countsRight, entriesRight, checkImage}
-use Rattle.def_stages.specs.Text.{Part}
-use Rattle.def_stages.specs.Component.{Component, keepBase, each, stage1Component, startingValue, source}
-use Rattle.def_run.specs.Answer.{Answer, answerBytes}
-use Rattle.def_run.specs.Run.{stages, run, areaAfter}
+use Rattle.definition.specs.Prelude.{ℕ, true, Option, List, getD, length, leb}
+use Rattle.definition.specs.Basics.{Result, ok, refused, _>>=_}
+use Rattle.definition.specs.Limits.{areaNeeded}
+use Rattle.definition.specs.Refusals.{need, mode-above-2, short-area}
+use Rattle.definition.specs.Image.{Placed, counts, treeOf}
+use Rattle.definition.specs.Check.{countsRight, entriesRight, checkImage}
+use Rattle.definition.specs.Text.{Part}
+use Rattle.definition.specs.Component.{Component, keepBase, each, stage1Component, startingValue, source}
+use Rattle.definition.specs.Answer.{Answer, answerBytes}
+use Rattle.definition.specs.Run.{stages, run, areaAfter}
 use Rattle.laws.specs.Results.{bind-ok, need-ok, need-then}
 use Rattle.laws.specs.Tests.{leb-iff}
-use Rattle.admission.specs.Asked.{admittedOf}
-use Rattle.stages_read.specs.Statement.{later}
-use Rattle.stages_read.specs.Statement.{both}
-use Rattle.stages_read.specs.Proved.{stages-read, read-first}
-use Rattle.cursor.specs.Pass.{passed, andThen}
-use Rattle.cursor.specs.Stages.{stage1All}
-use Rattle.cursor.specs.Read.{readAll, startAll}
-use Rattle.cursor.specs.Checked.{example, example-checked, checked-parts, read-checked, stage1-checked, start-checked}
+use Rattle.layout_run.specs.admission.Asked.{admittedOf}
+use Rattle.answer_facts.specs.stages.Statement.{later}
+use Rattle.answer_facts.specs.stages.Statement.{both}
+use Rattle.answer_facts.specs.stages.Proved.{stages-read, read-first}
+use Rattle.layout_run.specs.cursor.Pass.{passed, andThen}
+use Rattle.layout_run.specs.cursor.Stages.{stage1All}
+use Rattle.layout_run.specs.cursor.Read.{readAll, startAll}
+use Rattle.layout_run.specs.cursor.Checked.{example, example-checked, checked-parts, read-checked, stage1-checked, start-checked}
 
 -- a refusal of stage 3: "each over the whole tree before the next", so stage 1's comes first, then stage 2's
 abbrev pub inTurn : List ℕ → Result Unit → Result Unit

@@ -5,10 +5,10 @@ use Prim.Native.Nat.{_≤_}
 use native.Mathlib.Nat.{le-trans, le-refl}
 use lib.ListN.{replicate, length-replicate}
 use lib.Seq.{take-append-seam}
-use Rattle.def_numbers.specs.Prelude.{ℕ, List, length, take, drop}
-use Rattle.def_run.specs.Listing.{output}
+use Rattle.definition.specs.Prelude.{ℕ, List, length, take, drop}
+use Rattle.definition.specs.Listing.{output}
 use Rattle.laws.specs.Tests.{leb-iff}
-use Rattle.run_listing.specs.Listing.{longestListing, output-most}
+use Rattle.listing_length.specs.run.Listing.{longestListing, output-most}
 use Rattle.listing.specs.Outcomes.{filled, filled-fits, writtenAs}
 use Rattle.listing.specs.declared.Written.{Written}
 use Rattle.listing.specs.declared.Written.the-variants.{Whole}

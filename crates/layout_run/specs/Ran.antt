@@ -1,7 +1,7 @@
 -- The whole run in code: the outcome and the lent area, as the definition's.
-use Rattle.def_numbers.specs.Prelude.{ℕ, List, length}
-use Rattle.def_numbers.specs.Basics.{Result, ok, _>>=_}
-use Rattle.def_run.specs.Run.{run, areaAfter}
+use Rattle.definition.specs.Prelude.{ℕ, List, length}
+use Rattle.definition.specs.Basics.{Result, ok, _>>=_}
+use Rattle.definition.specs.Run.{run, areaAfter}
 
 -- what a run on a lent area comes to, and the area afterwards
 abbrev pub ranOn : List ℕ → ℕ → List ℕ → Result ℕ × List ℕ

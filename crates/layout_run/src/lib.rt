@@ -1,21 +1,31 @@
 // The whole run (document 01): the mode, the image check, the area's length, and stages 1 to 5. The area is written only when
 // nothing can refuse any more.
+pub mod admission;
+pub mod cursor;
+pub mod empty_input;
+pub mod input_limit;
+pub mod merging;
 mod output;
+pub mod parts;
+pub mod stage3;
+pub mod stage5;
 mod stages;
+pub mod tally;
+pub mod tree;
 
+use crate::parts::Stage3;
+use crate::stage3::check_all;
+use crate::stage5::write_answer;
+use crate::tree::Start;
 use answer::Init;
-use concatenation::OverallResult;
+use concatenation::overall::OverallResult;
 use errors::Checked;
 use errors::Outcome;
 pub use output::answer;
-use run_parts::Stage3;
-use stage3::check_all;
-use stage5::write_answer;
 use stages::in_turn;
-use tree::Start;
 ghost use mathlib.Core.Path.{_≡_};
 ghost use lib.ListN.{length};
-ghost use Rattle.def_image.specs.Image.{counts};
+ghost use Rattle.definition.specs.Image.{counts};
 ghost use Rattle.errors.specs.Refused.{outcomeOf};
 ghost use Rattle.layout_run.specs.Order.{Admitted};
 ghost use Rattle.layout_run.specs.Ran.{ranOn};
@@ -44,7 +54,7 @@ fn judged(
     ensures { λ o. ⌜ JudgedIs (now (image .entry)) mode init count n t o (now (area .entry)) (now (area .exit)) ⌝ }
 {
     let cs = t.cs;
-    match stage4::stage4(mode, is_given(init), cs, count as usize) {
+    match concatenation::stage4::stage4(mode, is_given(init), cs, count as usize) {
         OverallResult::Ok(o) => Outcome::Accepted(write_answer(area, image, count, n, t, o, init)),
         OverallResult::Refused(q) => Outcome::Refused(q),
     }
@@ -55,7 +65,7 @@ fn started(area: &mut [u8], image: &[u8], mode: u32, init: Init) -> Outcome
     requires { ⌜ Admitted (now image) (length (now area)) ⌝ }
     ensures { λ o. ⌜ StartedIs (now (image .entry)) mode init o (now (area .entry)) (now (area .exit)) ⌝ }
 {
-    let h = token_tree::counts_of(image);
+    let h = image::token_tree::counts_of(image);
     let t = check_all(image, h.c, h.n);
     let checked = t.checked;
     match checked {
@@ -69,7 +79,7 @@ fn staged(area: &mut [u8], image: &[u8], mode: u32) -> Outcome
     requires { ⌜ Admitted (now image) (length (now area)) ⌝ }
     ensures { λ o. ⌜ StagesIs (now (image .entry)) mode o (now (area .entry)) (now (area .exit)) ⌝ }
 {
-    match tree::starting_value(image) {
+    match crate::tree::starting_value(image) {
         Start::None => started(area, image, mode, Init::Missing),
         Start::Given(base, p) => started(area, image, mode, Init::Given(base, p)),
         Start::Refused(q) => Outcome::Refused(q),
@@ -80,7 +90,7 @@ fn staged(area: &mut [u8], image: &[u8], mode: u32) -> Outcome
 pub fn run(image: &[u8], mode: u32, area: &mut [u8]) -> Outcome
     ensures { λ o. ⌜ (outcomeOf o, now (area .exit)) ≡ ranOn (now (image .entry)) mode (now (area .entry)) ⌝ }
 {
-    match admission::admitted(image, mode, area.len()) {
+    match crate::admission::admitted(image, mode, area.len()) {
         Checked::Passed => staged(area, image, mode),
         Checked::Refused(q) => Outcome::Refused(q),
     }

@@ -2,8 +2,8 @@
 use listing::Written;
 ghost use mathlib.Core.Path.{_≡_};
 ghost use lib.ListN.{length};
-ghost use Rattle.def_run.specs.Listing.{listing, output, programArea};
-ghost use Rattle.def_run.specs.Run.{run};
+ghost use Rattle.definition.specs.Listing.{listing, output, programArea};
+ghost use Rattle.definition.specs.Run.{run};
 ghost use Rattle.listing.specs.Shown.{Shown};
 
 // An area that is long enough for any image: 32 + 20 * 16 + 72 * 256 + 8192 bytes.
@@ -28,9 +28,9 @@ pub fn answer(input: &[u8], out: &mut [u8]) -> Written
     ensures { λ w. ⌜ Shown (now (out .entry)) (output (now (input .entry))) (now (out .exit)) w ⌝ }
 {
     if input.len() == 0 {
-        return empty_input::write_empty(out);
+        return crate::empty_input::write_empty(out);
     }
     let mode = input[0] as u32;
-    let stop = input_limit::judged(input.len());
+    let stop = crate::input_limit::judged(input.len());
     listed(&input[1..stop], mode, out)
 }

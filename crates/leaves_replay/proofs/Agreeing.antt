@@ -1,10 +1,10 @@
 -- A number that passes the program's test is the one that the entry tells. Assumes nothing.
 use mathlib.Core.Path.{_≡_, refl, ap, _∙_}
-use Rattle.def_numbers.specs.Prelude.{ℕ, true, _&&_, some, eqb}
+use Rattle.definition.specs.Prelude.{ℕ, true, _&&_, some, eqb}
 use Rattle.laws.specs.Tests.{and-iff, eqb-iff}
-use Rattle.misc.specs.Value.{valueOf, optionOf}
-use Rattle.misc.specs.declared.OptionI128.{OptionI128}
-use Rattle.misc.specs.declared.OptionI128.the-variants.{Some, None}
+use Rattle.numbers.specs.Value.{valueOf, optionOf}
+use Rattle.numbers.specs.declared.OptionI128.{OptionI128}
+use Rattle.numbers.specs.declared.OptionI128.the-variants.{Some, None}
 use Rattle.leaves_replay.specs.Told.{toldBy, agrees}
 
 pub agreeing : (o : OptionI128) (found high low : ℕ) → agrees o found high low ≡ true → optionOf o ≡ toldBy found high low

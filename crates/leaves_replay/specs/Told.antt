@@ -1,10 +1,10 @@
 -- The answer in an entry of data/numbers: 1 and 16 bytes of an i128, the lowest first, or 0 and zeros. What agrees with it is equal to it.
-use Rattle.def_numbers.specs.Prelude.{ℕ, _+_, _*_, _^_, Bool, true, _&&_, List, Option, none, some, ℤ, getD, eqb}
-use Rattle.def_numbers.specs.Basics.{if_then_else_}
-use Rattle.def_image.specs.Image.{u32At}
-use Rattle.misc.specs.Value.{valueOf, optionOf}
-use Rattle.misc.specs.declared.OptionI128.{OptionI128}
-use Rattle.misc.specs.declared.OptionI128.the-variants.{Some, None}
+use Rattle.definition.specs.Prelude.{ℕ, _+_, _*_, _^_, Bool, true, _&&_, List, Option, none, some, ℤ, getD, eqb}
+use Rattle.definition.specs.Basics.{if_then_else_}
+use Rattle.definition.specs.Image.{u32At}
+use Rattle.numbers.specs.Value.{valueOf, optionOf}
+use Rattle.numbers.specs.declared.OptionI128.{OptionI128}
+use Rattle.numbers.specs.declared.OptionI128.the-variants.{Some, None}
 
 abbrev pub u64At : List ℕ → ℕ → ℕ
 u64At s at = u32At s at + 2 ^ 32 * u32At s (at + 4)

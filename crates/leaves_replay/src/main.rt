@@ -3,14 +3,14 @@
 // images with the number that document 01's check gives them. Each entry is read, asked of our own code and compared; an entry that
 // is cut off or too long counts as different.
 use libc::STDOUT_FILENO;
-use misc::OptionI128;
+use numbers::OptionI128;
 ghost use mathlib.Core.Path.{_≡_};
 ghost use mathlib.Core.Bool.{true, _&&_};
 ghost use Prim.Native.Nat.{_≤_};
 ghost use lib.Dec.{eqb};
 ghost use lib.ListN.{getD};
-ghost use Rattle.def_numbers.specs.Numbers.{tryParse};
-ghost use Rattle.def_image.specs.Check.{checkImage};
+ghost use Rattle.definition.specs.Numbers.{tryParse};
+ghost use Rattle.definition.specs.Check.{checkImage};
 ghost use Rattle.layout_c.specs.Number.{numberIn};
 ghost use Rattle.leaves_replay.specs.Told.{u64At, told, agrees};
 
@@ -46,7 +46,7 @@ fn head_of(got: usize, bytes: &[u8]) -> Head {
     if got < bytes.len() {
         return Head::Cut;
     }
-    Head::Length(token_tree::u32_at(bytes, 0) as usize)
+    Head::Length(image::token_tree::u32_at(bytes, 0) as usize)
 }
 
 // The length takes 2 bytes in `numbers`, 4 in `images`.
@@ -67,7 +67,8 @@ fn u64_at(s: &[u8], at: usize) -> u64
     requires { ⌜ at ≤ 9 ⌝ }
     ensures { λ r. ⌜ r ≡ u64At (now (s .entry)) at ⌝ }
 {
-    (token_tree::u32_at(s, at) as u64) + 0x1_0000_0000 * (token_tree::u32_at(s, at + 4) as u64)
+    (image::token_tree::u32_at(s, at) as u64)
+        + 0x1_0000_0000 * (image::token_tree::u32_at(s, at + 4) as u64)
 }
 
 fn both(a: bool, b: bool) -> bool
@@ -90,8 +91,8 @@ fn same_number(text: &[u8], answer: &[u8]) -> bool
     ensures { λ r. ⌜ (r ≡ true → tryParse (now (text .entry)) ≡ told (now (answer .entry))) ⌝ }
 {
     agree(
-        parse::i128_try_parse(text),
-        token_tree::byte_at(answer, 0),
+        numbers::parse::i128_try_parse(text),
+        image::token_tree::byte_at(answer, 0),
         u64_at(answer, 9),
         u64_at(answer, 1),
     )
@@ -101,7 +102,7 @@ fn same_number(text: &[u8], answer: &[u8]) -> bool
 fn same_image(image: &[u8], answer: &[u8]) -> bool
     ensures { λ r. ⌜ r ≡ eqb (numberIn (checkImage (now (image .entry)))) (getD (now (answer .entry)) 0 0) ⌝ }
 {
-    layout_c::layout_check(image) == (token_tree::byte_at(answer, 0) as u32)
+    layout_c::layout_check(image) == (image::token_tree::byte_at(answer, 0) as u32)
 }
 
 // Reads the answer to a text, and compares.

@@ -9,13 +9,13 @@ use lib.ListN.{drop-of-length-le}
 use borrow.Author.Tests.{le-leb, lt-leb, leb-true, leb-false}
 use Rattle.laws.specs.Lists.{length-tab, tab-add}
 use Rattle.laws.specs.Tests.{by-test}
-use Rattle.def_numbers.specs.Prelude.{ℕ, zero, suc, _+_, _*_, _-_, List, [], _∷_, _++_, map, length, take, drop, leb}
-use Rattle.def_numbers.specs.Basics.{if_then_else_, tab, joined, ascii}
-use Rattle.def_image.specs.Image.{u32At}
-use Rattle.def_run.specs.Answer.{widthAt, groupAt, fieldAt}
-use Rattle.def_run.specs.Listing.{line, decimal, summaryWords, fieldLine, groupLines}
-use Rattle.digits_out.specs.Put.{Put, _⨾_, read-as, Toward, toward, toward-end}
-use Rattle.group_line.specs.Line.{groupLine}
+use Rattle.definition.specs.Prelude.{ℕ, zero, suc, _+_, _*_, _-_, List, [], _∷_, _++_, map, length, take, drop, leb}
+use Rattle.definition.specs.Basics.{if_then_else_, tab, joined, ascii}
+use Rattle.definition.specs.Image.{u32At}
+use Rattle.definition.specs.Answer.{widthAt, groupAt, fieldAt}
+use Rattle.definition.specs.Listing.{line, decimal, summaryWords, fieldLine, groupLines}
+use Rattle.listing.specs.digits.Put.{Put, _⨾_, read-as, Toward, toward, toward-end}
+use Rattle.listing.specs.group.Line.{groupLine}
 use Rattle.listing.specs.Outcomes.{stopOf}
 
 -- ---- parts of a table

@@ -3,15 +3,15 @@ use mathlib.Core.Path.{_≡_, refl, sym, ap, _∙_}
 use Prim.Native.Nat.{_≤_, _<_}
 use native.Mathlib.Omega.{arith}
 use lib.Seq.{take-all}
-use Rattle.def_numbers.specs.Prelude.{ℕ, _+_, _*_, _/_, _%_, List, [], _∷_, _++_, length, take, drop}
-use Rattle.def_numbers.specs.Basics.{Result, ok, refused, tab, ascii}
-use Rattle.def_image.specs.Image.{u32At}
-use Rattle.def_run.specs.Answer.{widthAt, textAt, groupAt, fieldAt, readAnswer}
-use Rattle.def_run.specs.Listing.{line, decimal, shown, isSet, flagWord, summaryWords, groupLines, answerLines, listing}
+use Rattle.definition.specs.Prelude.{ℕ, _+_, _*_, _/_, _%_, List, [], _∷_, _++_, length, take, drop}
+use Rattle.definition.specs.Basics.{Result, ok, refused, tab, ascii}
+use Rattle.definition.specs.Image.{u32At}
+use Rattle.definition.specs.Answer.{widthAt, textAt, groupAt, fieldAt, readAnswer}
+use Rattle.definition.specs.Listing.{line, decimal, shown, isSet, flagWord, summaryWords, groupLines, answerLines, listing}
 use Rattle.errors.specs.Refused.{refusedAs}
 use Rattle.errors.specs.declared.Refusal.{Refusal}
-use Rattle.digits_out.specs.Put.{Put, _⨾_, read-as, put-front, put-whole, put-cut}
-use Rattle.lines_out.specs.Parts.{headLine, answer-parts}
+use Rattle.listing.specs.digits.Put.{Put, _⨾_, read-as, put-front, put-whole, put-cut}
+use Rattle.listing.specs.Parts.{headLine, answer-parts}
 use Rattle.listing.specs.Outcomes.{resultAs, writtenAs}
 use Rattle.errors.specs.declared.Outcome.{Outcome}
 use Rattle.errors.specs.declared.Outcome.the-variants.{Accepted, Refused}

@@ -2,9 +2,9 @@
 use mathlib.Core.Path.{_≡_}
 use Prim.Native.Nat.{_≤_}
 use lib.Seq.{take-all}
-use Rattle.def_numbers.specs.Prelude.{ℕ, _+_, _-_, List, _++_, length, take, drop, leb}
-use Rattle.def_numbers.specs.Basics.{Result, ok, if_then_else_}
-use Rattle.def_run.specs.Listing.{listing}
+use Rattle.definition.specs.Prelude.{ℕ, _+_, _-_, List, _++_, length, take, drop, leb}
+use Rattle.definition.specs.Basics.{Result, ok, if_then_else_}
+use Rattle.definition.specs.Listing.{listing}
 use Rattle.errors.specs.Refused.{refusedAs}
 use Rattle.errors.specs.declared.Outcome.{Outcome}
 use Rattle.errors.specs.declared.Outcome.the-variants.{Accepted, Refused}

@@ -1,6 +1,6 @@
 -- A listing in a lent buffer, as `listing::write_listing` leaves it.
 use mathlib.Core.Path.{_≡_}
-use Rattle.def_numbers.specs.Prelude.{List, ℕ, length}
+use Rattle.definition.specs.Prelude.{List, ℕ, length}
 use Rattle.listing.specs.Outcomes.{filled, writtenAs}
 use Rattle.listing.specs.declared.Written.{Written}
 

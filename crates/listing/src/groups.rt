@@ -1,15 +1,15 @@
 // The lines of the concatenations, each with those of its components.
-use group_line::put_group;
-use lines_out::fields::put_field;
-use token_tree::u32_at;
+use crate::fields::put_field;
+use crate::group::put_group;
+use image::token_tree::u32_at;
 ghost use mathlib.Core.Path.{_≡_};
 ghost use mathlib.Core.List.{map};
 ghost use Prim.Native.Nat.{_-_, _≤_};
-ghost use Rattle.def_numbers.specs.Basics.{tab, joined};
-ghost use Rattle.def_image.specs.Image.{u32At};
-ghost use Rattle.def_run.specs.Answer.{groupAt, fieldAt};
-ghost use Rattle.def_run.specs.Listing.{fieldLine, groupLines};
-ghost use Rattle.digits_out.specs.Put.{Put};
+ghost use Rattle.definition.specs.Basics.{tab, joined};
+ghost use Rattle.definition.specs.Image.{u32At};
+ghost use Rattle.definition.specs.Answer.{groupAt, fieldAt};
+ghost use Rattle.definition.specs.Listing.{fieldLine, groupLines};
+ghost use Rattle.listing.specs.digits.Put.{Put};
 ghost use Rattle.listing.specs.Outcomes.{stopOf};
 
 // Where `size` components from component k end, of `count`.

@@ -1,15 +1,22 @@
 // The listing of an outcome, written into a lent buffer.
+pub mod digits;
+pub mod fields;
+pub mod group;
 mod groups;
+pub mod heads;
+pub mod refusal;
+pub mod text;
+pub mod words;
 
 use crate::groups::put_groups;
+use crate::heads::put_head;
+use crate::refusal::put_refusal;
 use errors::Outcome;
-use lines_out::heads::put_head;
-use refusal_line::put_refusal;
 ghost use mathlib.Core.Path.{_≡_};
 ghost use lib.ListN.{length, take};
-ghost use Rattle.def_run.specs.Answer.{readAnswer};
-ghost use Rattle.def_run.specs.Listing.{answerLines};
-ghost use Rattle.digits_out.specs.Put.{Put};
+ghost use Rattle.definition.specs.Answer.{readAnswer};
+ghost use Rattle.definition.specs.Listing.{answerLines};
+ghost use Rattle.listing.specs.digits.Put.{Put};
 ghost use Rattle.listing.specs.Outcomes.{listingOf, filled, writtenAs};
 
 // The listing's length, or that it is longer than the buffer.

@@ -1,3 +1,4 @@
 -- How long a listing can be.
-pub mod Words
 pub mod Lines
+pub mod Words
+pub mod run

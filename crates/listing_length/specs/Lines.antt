@@ -6,11 +6,11 @@ use native.Mathlib.Nat.{mul-suc, le-trans}
 use native.Mathlib.Omega.{arith}
 use lib.Dec.{lit≤}
 use lib.ListN.{length-append}
-use Rattle.def_numbers.specs.Prelude.{ℕ, zero, suc, _+_, _*_, Bool, true, false, List, [], _∷_, _++_, map, reverse, length, take, drop, eqb}
-use Rattle.def_numbers.specs.Basics.{ok, refused, if_then_else_, joined, sum, tab, ascii}
-use Rattle.def_image.specs.Image.{padded}
-use Rattle.def_run.specs.Answer.{Bound, Field, Group, Read, readAnswer}
-use Rattle.def_run.specs.Listing.{decimal, hex, shown, boundWord, endWord, widthWord, alignWord, flagWord, isSet, summaryWords, line, fieldLine, groupLines, answerLines, listing}
+use Rattle.definition.specs.Prelude.{ℕ, zero, suc, _+_, _*_, Bool, true, false, List, [], _∷_, _++_, map, reverse, length, take, drop, eqb}
+use Rattle.definition.specs.Basics.{ok, refused, if_then_else_, joined, sum, tab, ascii}
+use Rattle.definition.specs.Image.{padded}
+use Rattle.definition.specs.Answer.{Bound, Field, Group, Read, readAnswer}
+use Rattle.definition.specs.Listing.{decimal, hex, shown, boundWord, endWord, widthWord, alignWord, flagWord, isSet, summaryWords, line, fieldLine, groupLines, answerLines, listing}
 use Rattle.listing_length.specs.Words.{decimal-most, shown-most, hex-most, bound-most, endText, end-most, width-most, flag-most, align-most, reverse-length}
 
 -- each word has a space or the newline after it

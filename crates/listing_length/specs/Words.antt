@@ -7,10 +7,10 @@ use mathlib.Core.List.{reverseAux}
 use lib.ListN.{length-append}
 use borrow.Author.Tests.{ltb-true, ltb-false}
 use Rattle.laws.specs.Tests.{by-test}
-use Rattle.def_numbers.specs.Prelude.{ℕ, zero, suc, _+_, _*_, _/_, _%_, Bool, true, false, _&&_, not, Option, none, some, List, [], _∷_, _++_, map, reverse, length, ltb, eqb, ℤ, pos, negsuc}
-use Rattle.def_numbers.specs.Basics.{if_then_else_, within, joined, ascii}
-use Rattle.def_run.specs.Answer.{Bound, Field}
-use Rattle.def_run.specs.Listing.{decimalOnto, decimal, hex, shownByte, shown, signed, boundWord, endWord, widthWord, alignWord, flagWord, summaryWords, line}
+use Rattle.definition.specs.Prelude.{ℕ, zero, suc, _+_, _*_, _/_, _%_, Bool, true, false, _&&_, not, Option, none, some, List, [], _∷_, _++_, map, reverse, length, ltb, eqb, ℤ, pos, negsuc}
+use Rattle.definition.specs.Basics.{if_then_else_, within, joined, ascii}
+use Rattle.definition.specs.Answer.{Bound, Field}
+use Rattle.definition.specs.Listing.{decimalOnto, decimal, hex, shownByte, shown, signed, boundWord, endWord, widthWord, alignWord, flagWord, summaryWords, line}
 
 -- ---- numbers
 

@@ -6,10 +6,10 @@ use native.Mathlib.Numerals.{add-one}
 use native.Mathlib.Omega.{arith}
 use lib.ListN.{List·getD-eq-default}
 use lib.Seq.{take-length, getD-drop}
-use Rattle.def_numbers.specs.Prelude.{Bool, true, List, [], _∷_, length, getD, drop, ltb, eqb}
-use Rattle.def_numbers.specs.Basics.{sum, all, tab}
-use Rattle.def_image.specs.Image.{bytesFor, bitsAt}
-use Rattle.def_image.specs.Tree.{byteOf, packed}
+use Rattle.definition.specs.Prelude.{Bool, true, List, [], _∷_, length, getD, drop, ltb, eqb}
+use Rattle.definition.specs.Basics.{sum, all, tab}
+use Rattle.definition.specs.Image.{bytesFor, bitsAt}
+use Rattle.definition.specs.Tree.{byteOf, packed}
 use Rattle.prepared.specs.Statement.{Bytes}
 use Rattle.laws.specs.Tests.{leb-iff, eqb-iff, tested}
 use Rattle.laws.specs.Lists.{length-tab, getD-tab, tab-ext, tab-getD, all-getD, all-by, sum-tab-add, sum-tab-zero}

@@ -7,10 +7,10 @@ use native.Mathlib.Omega.{arith}
 use mathlib.Core.List.{append-assoc, append-nil}
 use lib.ListN.{List·getD-append}
 use lib.Seq.{getD-drop, drop-drop, drop-append-seam}
-use Rattle.def_numbers.specs.Prelude.{List, [], _∷_, _++_, length, getD, take, drop, ltb}
-use Rattle.def_numbers.specs.Basics.{all, tab}
-use Rattle.def_image.specs.Image.{u32At, padded, bytesAt}
-use Rattle.def_image.specs.Tree.{u32}
+use Rattle.definition.specs.Prelude.{List, [], _∷_, _++_, length, getD, take, drop, ltb}
+use Rattle.definition.specs.Basics.{all, tab}
+use Rattle.definition.specs.Image.{u32At, padded, bytesAt}
+use Rattle.definition.specs.Tree.{u32}
 use Rattle.prepared.specs.Statement.{Bytes}
 use Rattle.laws.specs.Tests.{leb-iff, tested}
 use Rattle.laws.specs.Lists.{all-getD, tab-getD}

@@ -4,12 +4,12 @@ use Prim.Native.Nat.{ℕ, suc, _+_, _/_, _%_, _^_, _≤_, _<_}
 use native.Mathlib.Nat.{add-assoc}
 use native.Mathlib.Omega.{arith}
 use lib.ListN.{length-append}
-use Rattle.def_numbers.specs.Prelude.{true, List, [], _∷_, _++_, map, length, getD, ltb, eqb}
-use Rattle.def_numbers.specs.Basics.{ok, if_then_else_, all, joined, tab}
-use Rattle.def_numbers.specs.Limits.{limits}
-use Rattle.def_image.specs.Image.{Rec, Entry, counts, tables, bytesFor, bitsAt, startAt, entryAt, recordCount, literalWidth, recsFrom, componentsFrom}
-use Rattle.def_image.specs.Check.{sparesZero, checkIn, checkComponents}
-use Rattle.def_image.specs.Tree.{Node, recsOf, allRecs, textOf, literalsOf, packed, soundForest, depth, soundNode}
+use Rattle.definition.specs.Prelude.{true, List, [], _∷_, _++_, map, length, getD, ltb, eqb}
+use Rattle.definition.specs.Basics.{ok, if_then_else_, all, joined, tab}
+use Rattle.definition.specs.Limits.{limits}
+use Rattle.definition.specs.Image.{Rec, Entry, counts, tables, bytesFor, bitsAt, startAt, entryAt, recordCount, literalWidth, recsFrom, componentsFrom}
+use Rattle.definition.specs.Check.{sparesZero, checkIn, checkComponents}
+use Rattle.definition.specs.Tree.{Node, recsOf, allRecs, textOf, literalsOf, packed, soundForest, depth, soundNode}
 use Rattle.prepared.specs.Statement.{entriesFrom, placedFrom}
 use Rattle.laws.specs.Tests.{by-test, and-iff, leb-iff, eqb-apart, tested}
 use Rattle.laws.specs.Lists.{length-tab, tab-add, append-split, all-append}

@@ -5,12 +5,12 @@ use native.Mathlib.Omega.{arith}
 use mathlib.Core.List.{append-assoc}
 use lib.ListN.{length-append}
 use lib.Seq.{take-at, drop-append-add, getD-at}
-use Rattle.def_numbers.specs.Prelude.{true, List, [], _∷_, _++_, length, getD, ltb, not}
-use Rattle.def_numbers.specs.Basics.{ok, isEmpty}
-use Rattle.def_numbers.specs.Limits.{limits}
-use Rattle.def_image.specs.Image.{Rec, Entry, kinds, opens, delimiter}
-use Rattle.def_image.specs.Check.{checkIn, noEntry, openRight, closeRight, wordRight, insideOf, closerOf, afterOf}
-use Rattle.def_image.specs.Tree.{Forest, end, word, group, flat, textOf, soundForest, depth}
+use Rattle.definition.specs.Prelude.{true, List, [], _∷_, _++_, length, getD, ltb, not}
+use Rattle.definition.specs.Basics.{ok, isEmpty}
+use Rattle.definition.specs.Limits.{limits}
+use Rattle.definition.specs.Image.{Rec, Entry, kinds, opens, delimiter}
+use Rattle.definition.specs.Check.{checkIn, noEntry, openRight, closeRight, wordRight, insideOf, closerOf, afterOf}
+use Rattle.definition.specs.Tree.{Forest, end, word, group, flat, textOf, soundForest, depth}
 use Rattle.prepared.specs.Statement.{entriesFrom}
 use Rattle.laws.specs.Tests.{leb-iff, tested}
 

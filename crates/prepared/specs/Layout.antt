@@ -4,11 +4,11 @@ use Prim.Native.Nat.{ℕ, suc, _+_, _*_, _^_, _≤_}
 use native.Mathlib.Nat.{zero-add}
 use native.Mathlib.Omega.{arith}
 use lib.ListN.{length-append}
-use Rattle.def_numbers.specs.Prelude.{true, List, [], _∷_, _++_, map, length, leb, ltb}
-use Rattle.def_numbers.specs.Basics.{all, joined, tab}
-use Rattle.def_numbers.specs.Limits.{limits}
-use Rattle.def_image.specs.Image.{Rec, u32At, tablesFor}
-use Rattle.def_image.specs.Tree.{Tree, Node, recsOf, allRecs, textOf, literalsOf, u32, recordBytes, imageOf, fits, soundNode}
+use Rattle.definition.specs.Prelude.{true, List, [], _∷_, _++_, map, length, leb, ltb}
+use Rattle.definition.specs.Basics.{all, joined, tab}
+use Rattle.definition.specs.Limits.{limits}
+use Rattle.definition.specs.Image.{Rec, u32At, tablesFor}
+use Rattle.definition.specs.Tree.{Tree, Node, recsOf, allRecs, textOf, literalsOf, u32, recordBytes, imageOf, fits, soundNode}
 use Rattle.laws.specs.Tests.{leb-iff, tested}
 use Rattle.prepared.specs.Bytes.{Holds, holds-whole, holds-left, holds-right, u32At-holds}
 use Rattle.prepared.specs.Tables.{length-rows, rows-read}

@@ -9,3 +9,4 @@ pub mod Records
 pub mod Statement
 pub mod Tables
 pub mod Written
+pub mod back

@@ -5,12 +5,12 @@ use native.Mathlib.Nat.{add-zero}
 use native.Mathlib.Omega.{arith}
 use lib.ListN.{length-map}
 use mathlib.Core.List.{map-map}
-use Rattle.def_numbers.specs.Prelude.{true, List, [], _∷_, map, length, getD, leb}
-use Rattle.def_numbers.specs.Basics.{ok, sum, all, joined, tab}
-use Rattle.def_numbers.specs.Limits.{limits}
-use Rattle.def_image.specs.Image.{Rec, kinds, u32At, tablesFor, counts, tables, bytesFor, componentCount, recordCount, literalWidth, startAt, entryAt, componentsFrom, treeOf}
-use Rattle.def_image.specs.Check.{countsRight, offsetsRight, entriesRight, sparesZero, checkComponents, checkImage}
-use Rattle.def_image.specs.Tree.{end, word, group, flat, soundForest, depth, fits, Tree, Node, recsOf, allRecs, textOf, literalsOf, packed, u32, imageOf, soundNode}
+use Rattle.definition.specs.Prelude.{true, List, [], _∷_, map, length, getD, leb}
+use Rattle.definition.specs.Basics.{ok, sum, all, joined, tab}
+use Rattle.definition.specs.Limits.{limits}
+use Rattle.definition.specs.Image.{Rec, kinds, u32At, tablesFor, counts, tables, bytesFor, componentCount, recordCount, literalWidth, startAt, entryAt, componentsFrom, treeOf}
+use Rattle.definition.specs.Check.{countsRight, offsetsRight, entriesRight, sparesZero, checkComponents, checkImage}
+use Rattle.definition.specs.Tree.{end, word, group, flat, soundForest, depth, fits, Tree, Node, recsOf, allRecs, textOf, literalsOf, packed, u32, imageOf, soundNode}
 use Rattle.prepared.specs.Statement.{entriesFrom, placedFrom, placedTree, PassesCheck, ReadBack}
 use Rattle.laws.specs.Tests.{leb-iff, tested}
 use Rattle.laws.specs.Lists.{length-joined, all-map, all-of, all-parts, joined-some}

@@ -5,10 +5,10 @@ use native.Mathlib.Nat.{add-zero, add-assoc}
 use native.Mathlib.Numerals.{add-one}
 use native.Mathlib.Omega.{arith}
 use lib.ListN.{length-append}
-use Rattle.def_numbers.specs.Prelude.{Bool, true, false, _&&_, not, List, [], _∷_, _++_, length, getD, leb, ltb, eqb}
-use Rattle.def_numbers.specs.Basics.{if_then_else_, isEmpty, all, tab}
-use Rattle.def_image.specs.Image.{Rec, Entry, u32At, counts, tables, bytesAt, startAt, entryAt, recsFrom, kinds, delimiter}
-use Rattle.def_image.specs.Tree.{Forest, end, word, group, flat, soundForest, textOf, u32, recordBytes}
+use Rattle.definition.specs.Prelude.{Bool, true, false, _&&_, not, List, [], _∷_, _++_, length, getD, leb, ltb, eqb}
+use Rattle.definition.specs.Basics.{if_then_else_, isEmpty, all, tab}
+use Rattle.definition.specs.Image.{Rec, Entry, u32At, counts, tables, bytesAt, startAt, entryAt, recsFrom, kinds, delimiter}
+use Rattle.definition.specs.Tree.{Forest, end, word, group, flat, soundForest, textOf, u32, recordBytes}
 use Rattle.prepared.specs.Statement.{entriesFrom}
 use Rattle.laws.specs.Tests.{and-iff, eqb-iff, eqb-false, tested}
 use Rattle.laws.specs.Lists.{all-append}

@@ -1,11 +1,11 @@
 -- What is claimed of prepared images: the image of a tree that fits passes the check and reads back as the tree, and every image
 -- that passes the check is the image of a tree that fits.
 use mathlib.Core.Path.{_≡_}
-use Rattle.def_numbers.specs.Prelude.{ℕ, _+_, Bool, true, List, [], _∷_, _++_, map, length, ltb, getD}
-use Rattle.def_numbers.specs.Basics.{ok, all, joined, tab}
-use Rattle.def_image.specs.Image.{Rec, Unparsed, Placed, Entry, counts, tables, bytesAt, entryAt, treeOf, parts}
-use Rattle.def_image.specs.Check.{checkImage}
-use Rattle.def_image.specs.Tree.{Tree, Node, recsOf, allRecs, textOf, literalsOf, imageOf, fits}
+use Rattle.definition.specs.Prelude.{ℕ, _+_, Bool, true, List, [], _∷_, _++_, map, length, ltb, getD}
+use Rattle.definition.specs.Basics.{ok, all, joined, tab}
+use Rattle.definition.specs.Image.{Rec, Unparsed, Placed, Entry, counts, tables, bytesAt, entryAt, treeOf, parts}
+use Rattle.definition.specs.Check.{checkImage}
+use Rattle.definition.specs.Tree.{Tree, Node, recsOf, allRecs, textOf, literalsOf, imageOf, fits}
 
 -- a list of bytes
 abbrev pub Bytes : List ℕ → Type 0

@@ -3,8 +3,8 @@ use mathlib.Core.Path.{_≡_, refl}
 use Prim.Native.Nat.{ℕ, suc, _+_, _*_}
 use native.Mathlib.Omega.{arith}
 use lib.ListN.{length-append}
-use Rattle.def_numbers.specs.Prelude.{Bool, true, List, [], _∷_, map, length, ltb}
-use Rattle.def_numbers.specs.Basics.{all, joined, tab}
+use Rattle.definition.specs.Prelude.{Bool, true, List, [], _∷_, map, length, ltb}
+use Rattle.definition.specs.Basics.{all, joined, tab}
 use Rattle.prepared.specs.Statement.{Bytes}
 use Rattle.laws.specs.Tests.{and-iff}
 use Rattle.laws.specs.Lists.{all-joined, all-map, all-of}

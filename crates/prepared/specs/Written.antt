@@ -2,10 +2,10 @@
 use mathlib.Core.Path.{_≡_, refl}
 use Prim.Native.Nat.{ℕ, _+_, _^_}
 use native.Mathlib.Omega.{arith}
-use Rattle.def_numbers.specs.Prelude.{true, List, [], _∷_, _++_, map, length, leb}
-use Rattle.def_numbers.specs.Basics.{all, joined}
-use Rattle.def_image.specs.Image.{Rec}
-use Rattle.def_image.specs.Tree.{Tree, recsOf, allRecs, textOf, literalsOf, packed, u32, recordBytes, imageOf, soundNode}
+use Rattle.definition.specs.Prelude.{true, List, [], _∷_, _++_, map, length, leb}
+use Rattle.definition.specs.Basics.{all, joined}
+use Rattle.definition.specs.Image.{Rec}
+use Rattle.definition.specs.Tree.{Tree, recsOf, allRecs, textOf, literalsOf, packed, u32, recordBytes, imageOf, soundNode}
 use Rattle.prepared.specs.Statement.{Bytes}
 use Rattle.laws.specs.Tests.{tested}
 use Rattle.laws.specs.Lists.{all-append}

@@ -1,2 +1,3 @@
 -- Laws over plain values that the functions' proofs cite.
-pub mod Ranges
+pub mod Answers
+pub mod Bounds

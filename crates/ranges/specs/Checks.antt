@@ -1,40 +1,33 @@
--- The tests of a range on plain numbers: none is a bound with a text, a width that is not known, or no end.
-use Rattle.def_numbers.specs.Prelude.{ℕ, Bool, true, false, _&&_, Option, List, eqb, ℤ, pos, ltZ, nonNeg}
-use Rattle.def_numbers.specs.Basics.{Result, ok, _>>=_}
-use Rattle.def_numbers.specs.Refusals.{numberOf, negative-bound, reversed, zero-width}
-use Rattle.def_stages.specs.Ranges as Ranges
-use Rattle.def_stages.specs.Ranges.{staticVal, staticWidth}
-use Rattle.def_stages.specs.Component.{simplifyEnd}
-use Rattle.errors.specs.Refused.{refusedAs}
-use Rattle.usb.specs.declared.OptionUsb.{OptionUsb}
-use Rattle.usb.specs.declared.OptionUsb.the-variants as O
-use Rattle.usb.specs.Usb.{optionUsbOf}
-pub use Rattle.range_width.specs.Width.{widthOf}
-use Rattle.bounds.specs.Checks.{needed, andThen, passes, endVal}
-use Rattle.ranges.specs.declared.range.ResultEnd.{ResultEnd}
-use Rattle.ranges.specs.declared.range.ResultEnd.the-variants as R
+-- Tests of bounds on plain numbers: none is a bound with a text, a width that is not known, or no end.
+use Rattle.definition.specs.Prelude.{ℕ, Bool, true, false, Option, none, some, eqb, ℤ}
+use Rattle.definition.specs.Basics.{Result, ok, refused, _>>=_, if_then_else_}
+use Rattle.definition.specs.Ranges as Ranges
+use Rattle.definition.specs.Ranges.{staticVal}
+use Rattle.numbers.specs.Value.{valueOf}
+use Rattle.ranges.specs.declared.Usb.{Usb}
+use Rattle.ranges.specs.declared.OptionUsb.{OptionUsb}
+use Rattle.ranges.specs.declared.OptionUsb.the-variants as O
 
-abbrev pub isNumberEnd : OptionUsb → Bool
-isNumberEnd (O.Some u) = eqb (u .s .len) 0
-isNumberEnd O.None = false
+-- passed, or the refusal of that number
+abbrev pub needed : Bool → ℕ → Result Unit
+needed true n = ok tt
+needed false n = refused n 0 0
 
-abbrev pub isSome : OptionUsb → Bool
-isSome (O.Some u) = true
-isSome O.None = false
+-- the first refusal of the two
+abbrev pub andThen : {A : Type 0} → Result Unit → Result A → Result A
+andThen a b = a >>= λ _. b
 
--- 21 to 23, of the numbers of start, end and width
-abbrev pub rangeChecks : Option ℤ → Option ℤ → Option ℤ → Result Unit
-rangeChecks s e w =
-    andThen (needed (passes nonNeg s && passes nonNeg e) (numberOf negative-bound))
-    (andThen (needed (passes nonNeg w) (numberOf reversed)) (needed (passes (ltZ (pos 0)) w) (numberOf zero-width)))
+-- a test that what is not known passes
+abbrev pub passes : (ℤ → Bool) → Option ℤ → Bool
+passes p o = elim o [ none ↦ true | some x ↦ p x ]
 
-abbrev pub checkedRange : Ranges.Usbr → Result Ranges.Usbr
-checkedRange r = andThen (rangeChecks (staticVal (r .start)) (endVal (r .«end»)) (staticWidth r)) (ok r)
+-- the number of a bound in code
+abbrev pub boundNumber : Usb → Option ℤ
+boundNumber u = if eqb (u .s .len) 0 then some (valueOf (u .x)) else none
 
--- after a start that is simplified
-abbrev pub restOf : Ranges.Usb → Option Ranges.Usb → Result Ranges.Usbr
-restOf s e = simplifyEnd e >>= λ e′. checkedRange (record { start = s; «end» = e′ })
+abbrev pub endNumber : OptionUsb → Option ℤ
+endNumber (O.Some u) = boundNumber u
+endNumber O.None = none
 
-abbrev pub resultEnd : List ℕ → ℕ → ResultEnd → Result (Option Ranges.Usb)
-resultEnd image text (R.Ok e) = ok (optionUsbOf image text e)
-resultEnd image text (R.Refused r) = refusedAs r
+abbrev pub endVal : Option Ranges.Usb → Option ℤ
+endVal o = elim o [ none ↦ none | some e ↦ staticVal e ]

@@ -1,9 +1,49 @@
-// Ranges (src/ranges.rs): a text as a part of the image's text, and a number. `text` is the byte of the image where the component's text
-// begins; a part's offset counts from there.
-mod range;
+// Bounds and ranges as values (the structs of src/ranges.rs): a text is a part of the image's text, never a copy.
+pub mod bound;
+pub mod checks;
+pub mod literal;
+pub mod parse;
+pub mod sides;
+pub mod signs;
+pub mod simplify;
+pub mod text;
+pub mod width;
 
-pub use range::simplify;
-pub use range::simplify_filler;
-pub use range::static_range;
-pub use range_width::static_width;
-pub use range_width::width;
+use errors::Refusal;
+use numbers::I128;
+
+// A part of a component's text: its offset there, and its length.
+pub struct Part {
+    pub at: usize,
+    pub len: usize,
+}
+
+// Usize and/or string bound: the text s plus the number x.
+pub struct Usb {
+    pub s: Part,
+    pub x: I128,
+}
+
+// Option<Usb>
+pub enum OptionUsb {
+    Some(Usb),
+    None,
+}
+
+// A range: its start, and its end if there is one.
+pub struct Usbr {
+    pub start: Usb,
+    pub end: OptionUsb,
+}
+
+// Result<Usb, _>
+pub enum ResultUsb {
+    Ok(Usb),
+    Refused(Refusal),
+}
+
+// Result<Usbr, _>
+pub enum ResultUsbr {
+    Ok(Usbr),
+    Refused(Refusal),
+}

@@ -1,11 +1,11 @@
 -- The image check refuses with a number of the table and places 0, 0; what it accepts is within the limits.
 use Prim.Native.Nat.{ℕ, zero, suc, _+_, _≤_}
-use Rattle.def_numbers.specs.Prelude.{List, [], _∷_, length, leb, ltb, eqb}
-use Rattle.def_numbers.specs.Basics.{tab}
-use Rattle.def_numbers.specs.Limits.{limits}
-use Rattle.def_numbers.specs.Refusals.{short-image, bad-count, bad-offset, bad-entry, bad-record, too-deep}
-use Rattle.def_image.specs.Image.{Entry, counts, recordCount, startAt, entryAt, opens}
-use Rattle.def_image.specs.Check.{countsRight, offsetsRight, entriesRight, wordRight, insideOf, closerOf, afterOf, openRight, closeRight, checkIn, checkComponents, checkImage}
+use Rattle.definition.specs.Prelude.{List, [], _∷_, length, leb, ltb, eqb}
+use Rattle.definition.specs.Basics.{tab}
+use Rattle.definition.specs.Limits.{limits}
+use Rattle.definition.specs.Refusals.{short-image, bad-count, bad-offset, bad-entry, bad-record, too-deep}
+use Rattle.definition.specs.Image.{Entry, counts, recordCount, startAt, entryAt, opens}
+use Rattle.definition.specs.Check.{countsRight, offsetsRight, entriesRight, wordRight, insideOf, closerOf, afterOf, openRight, closeRight, checkIn, checkComponents, checkImage}
 use Rattle.laws.specs.Tests.{tested}
 use Rattle.refusal_places.specs.Ends.{Ends, Fine, fine, known, need-ends, bind-ends, next-ends, test-ends}
 

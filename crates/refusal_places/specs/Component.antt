@@ -1,13 +1,13 @@
 -- Stages 1 and 2 of one component refuse with a number of the table; their places are 0 and 0 until the tree gives them.
 use Prim.Native.Nat.{ℕ, suc, _+_, _-_}
-use Rattle.def_numbers.specs.Prelude.{Bool, true, false, _&&_, _||_, not, Option, none, some, List, [], _∷_, length, take, drop, eqb, ℤ, pos, _+ℤ_, _-ℤ_, ltZ, leZ, nonNeg}
-use Rattle.def_numbers.specs.Basics.{ok, _>>=_, if_then_else_, isEmpty}
-use Rattle.def_numbers.specs.Numbers.{narrow, tryParse, char}
-use Rattle.def_numbers.specs.Refusals.{Reason, need, empty-range, second-dots, three-dots, not-one-token, bound-overflow, nothing-before-range, no-literal, overflow, negative-bound, reversed, zero-width, start-above-width, end-above-width, range-above-width, end-zero, open-start}
-use Rattle.def_image.specs.Image.{Unparsed, kinds}
-use Rattle.def_stages.specs.Text.{Part, noText, Item, items, isGroup, isToken, partOf}
-use Rattle.def_stages.specs.Ranges.{Usb, Usbr, Cut, Scan, withX, numberIn, side, joinSides, cutBound, readBound, parseUsb, find, scanStep, scanFrom, parseStart, parseEnd, parseRange, unbounded}
-use Rattle.def_stages.specs.Component.{Component, ComponentType, literal, variable, filler, isLiteral, typed, parseComponent, splitOf, middle, stage1Component, simplifyUsb, simplifyEnd, ifStatic, ifStaticEnd, ifKnown, simplifyRange, withEnd, simplifyLiteral, isZero, hasEnd, simplify}
+use Rattle.definition.specs.Prelude.{Bool, true, false, _&&_, _||_, not, Option, none, some, List, [], _∷_, length, take, drop, eqb, ℤ, pos, _+ℤ_, _-ℤ_, ltZ, leZ, nonNeg}
+use Rattle.definition.specs.Basics.{ok, _>>=_, if_then_else_, isEmpty}
+use Rattle.definition.specs.Numbers.{narrow, tryParse, char}
+use Rattle.definition.specs.Refusals.{Reason, need, empty-range, second-dots, three-dots, not-one-token, bound-overflow, nothing-before-range, no-literal, overflow, negative-bound, reversed, zero-width, start-above-width, end-above-width, range-above-width, end-zero, open-start}
+use Rattle.definition.specs.Image.{Unparsed, kinds}
+use Rattle.definition.specs.Text.{Part, noText, Item, items, isGroup, isToken, partOf}
+use Rattle.definition.specs.Ranges.{Usb, Usbr, Cut, Scan, withX, numberIn, side, joinSides, cutBound, readBound, parseUsb, find, scanStep, scanFrom, parseStart, parseEnd, parseRange, unbounded}
+use Rattle.definition.specs.Component.{Component, ComponentType, literal, variable, filler, isLiteral, typed, parseComponent, splitOf, middle, stage1Component, simplifyUsb, simplifyEnd, ifStatic, ifStaticEnd, ifKnown, simplifyRange, withEnd, simplifyLiteral, isZero, hasEnd, simplify}
 use Rattle.refusal_places.specs.Ends.{Fine, fine, refuse-fine, need-ends, next-ends, if-ends, test-ends, option-ends}
 
 -- ---- ranges

@@ -1,14 +1,14 @@
 -- Stage 3 over a tree within the limits: its refusals have places of the tree, and each concatenation keeps its components.
 use Prim.Native.Nat.{ℕ, suc, _+_, _^_, _≤_, _<_}
 use native.Mathlib.Omega.{arith}
-use Rattle.def_numbers.specs.Prelude.{Bool, true, false, _&&_, not, none, some, List, [], _∷_, map, length, ltb, eqb, natAbs}
-use Rattle.def_numbers.specs.Basics.{isEmpty}
-use Rattle.def_numbers.specs.Limits.{limits}
-use Rattle.def_numbers.specs.Refusals.{literal-in-sink, lone-filler-sink, second-filler, zero-total-width, sum-overflow}
-use Rattle.def_image.specs.Image.{Placed}
-use Rattle.def_stages.specs.Ranges.{Usbr, staticWidth}
-use Rattle.def_stages.specs.Component.{Component, ComponentType, literal, variable, filler, hasEnd}
-use Rattle.def_stages.specs.Concatenation.{Concatenation, Running, running, isAlign, align-none, addWidth, checkType, checkFrom, check, stage3}
+use Rattle.definition.specs.Prelude.{Bool, true, false, _&&_, not, none, some, List, [], _∷_, map, length, ltb, eqb, natAbs}
+use Rattle.definition.specs.Basics.{isEmpty}
+use Rattle.definition.specs.Limits.{limits}
+use Rattle.definition.specs.Refusals.{literal-in-sink, lone-filler-sink, second-filler, zero-total-width, sum-overflow}
+use Rattle.definition.specs.Image.{Placed}
+use Rattle.definition.specs.Ranges.{Usbr, staticWidth}
+use Rattle.definition.specs.Component.{Component, ComponentType, literal, variable, filler, hasEnd}
+use Rattle.definition.specs.Concatenation.{Concatenation, Running, running, isAlign, align-none, addWidth, checkType, checkFrom, check, stage3}
 use Rattle.refusal_places.specs.Ends.{Ends, answers, Fine, fine, need-ends, placed-ends, bind-ends, next-ends, test-ends, option-ends}
 use Rattle.refusal_places.specs.Tree.{Short, Within}
 

@@ -2,10 +2,10 @@
 use mathlib.Core.Path.{_≡_, refl}
 use Prim.Native.Nat.{_≤_, _<_}
 use native.Mathlib.Omega.{arith}
-use Rattle.def_numbers.specs.Prelude.{ℕ, Bool, true, false, Option, none, some}
-use Rattle.def_numbers.specs.Basics.{Result, ok, refused, _>>=_, placed, if_then_else_}
-use Rattle.def_numbers.specs.Limits.{limits}
-use Rattle.def_numbers.specs.Refusals.{Reason, mode-above-2, short-image, bad-count, bad-offset, bad-entry, bad-record, too-deep, short-area, empty-after-colon, nothing-before-range, empty-range, second-dots, three-dots, not-one-token, bound-overflow, no-literal, overflow, negative-bound, reversed, zero-width, start-above-width, end-above-width, range-above-width, end-zero, open-start, literal-in-sink, lone-filler-sink, second-filler, zero-total-width, sum-overflow, filler-without-start, unequal-widths, no-common-width, only-source, middle-filler, opposite-fillers, numberOf, refuse, need}
+use Rattle.definition.specs.Prelude.{ℕ, Bool, true, false, Option, none, some}
+use Rattle.definition.specs.Basics.{Result, ok, refused, _>>=_, placed, if_then_else_}
+use Rattle.definition.specs.Limits.{limits}
+use Rattle.definition.specs.Refusals.{Reason, mode-above-2, short-image, bad-count, bad-offset, bad-entry, bad-record, too-deep, short-area, empty-after-colon, nothing-before-range, empty-range, second-dots, three-dots, not-one-token, bound-overflow, no-literal, overflow, negative-bound, reversed, zero-width, start-above-width, end-above-width, range-above-width, end-zero, open-start, literal-in-sink, lone-filler-sink, second-filler, zero-total-width, sum-overflow, filler-without-start, unequal-widths, no-common-width, only-source, middle-filler, opposite-fillers, numberOf, refuse, need}
 
 -- a number of the table, and places within the limits of an image
 abbrev pub Told : ℕ → ℕ → ℕ → Type 0

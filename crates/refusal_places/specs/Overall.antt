@@ -2,14 +2,14 @@
 use mathlib.Core.Path.{_≡_, refl}
 use Prim.Native.Nat.{ℕ, suc, _+_, _≤_, _<_}
 use native.Mathlib.Omega.{arith}
-use Rattle.def_numbers.specs.Prelude.{Bool, true, false, _&&_, _||_, not, Option, none, some, List, [], _∷_, length, leb, eqb}
-use Rattle.def_numbers.specs.Basics.{Result, if_then_else_}
-use Rattle.def_numbers.specs.Limits.{limits}
-use Rattle.def_numbers.specs.Refusals.{filler-without-start, unequal-widths, no-common-width, only-source, middle-filler, opposite-fillers}
-use Rattle.def_image.specs.Image.{Placed}
-use Rattle.def_stages.specs.Component.{Component}
-use Rattle.def_stages.specs.Concatenation.{Concatenation, align-mid, align-multiple, isAlign, isUnboundedFiller}
-use Rattle.def_stages.specs.Overall.{Overall, placeFrom, isFiller, joinWidth, checkSource, overallFrom, overall, middleFrom, isSided, oppositeFrom, stage4}
+use Rattle.definition.specs.Prelude.{Bool, true, false, _&&_, _||_, not, Option, none, some, List, [], _∷_, length, leb, eqb}
+use Rattle.definition.specs.Basics.{Result, if_then_else_}
+use Rattle.definition.specs.Limits.{limits}
+use Rattle.definition.specs.Refusals.{filler-without-start, unequal-widths, no-common-width, only-source, middle-filler, opposite-fillers}
+use Rattle.definition.specs.Image.{Placed}
+use Rattle.definition.specs.Component.{Component}
+use Rattle.definition.specs.Concatenation.{Concatenation, align-mid, align-multiple, isAlign, isUnboundedFiller}
+use Rattle.definition.specs.Overall.{Overall, placeFrom, isFiller, joinWidth, checkSource, overallFrom, overall, middleFrom, isSided, oppositeFrom, stage4}
 use Rattle.refusal_places.specs.Ends.{Ends, answers, Fine, fine, less, refuse-fine, need-ends, placed-ends, bind-ends, next-ends, if-ends, option-ends}
 use Rattle.refusal_places.specs.Tree.{Short, Within}
 use Rattle.refusal_places.specs.Concatenation.{componentsOf}

@@ -1,11 +1,11 @@
 -- Every refusal of the whole run has a number of the table, and places within the limits of an image.
 use mathlib.Core.Path.{subst}
-use Rattle.def_numbers.specs.Prelude.{ℕ, true, false, none, some, List, leb}
-use Rattle.def_numbers.specs.Basics.{refused}
-use Rattle.def_numbers.specs.Limits.{areaNeeded}
-use Rattle.def_numbers.specs.Refusals.{mode-above-2, short-area}
-use Rattle.def_image.specs.Image.{Unparsed, Placed, counts, treeOf}
-use Rattle.def_run.specs.Run.{stages, run}
+use Rattle.definition.specs.Prelude.{ℕ, true, false, none, some, List, leb}
+use Rattle.definition.specs.Basics.{refused}
+use Rattle.definition.specs.Limits.{areaNeeded}
+use Rattle.definition.specs.Refusals.{mode-above-2, short-area}
+use Rattle.definition.specs.Image.{Unparsed, Placed, counts, treeOf}
+use Rattle.definition.specs.Run.{stages, run}
 use Rattle.refusal_places.specs.Statement.{RefusalPlaces}
 use Rattle.refusal_places.specs.Ends.{Told, refuses, Fine, fine, need-ends, bind-ends, next-ends}
 use Rattle.refusal_places.specs.Check.{checkImage-ends}

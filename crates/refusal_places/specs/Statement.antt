@@ -1,10 +1,10 @@
 -- What a refusal of the whole run says: a number of document 01's table, and places within the limits of an image.
 use mathlib.Core.Path.{_≡_}
 use Prim.Native.Nat.{_≤_, _<_}
-use Rattle.def_numbers.specs.Prelude.{ℕ, List}
-use Rattle.def_numbers.specs.Basics.{refused}
-use Rattle.def_numbers.specs.Limits.{limits}
-use Rattle.def_run.specs.Run.{run}
+use Rattle.definition.specs.Prelude.{ℕ, List}
+use Rattle.definition.specs.Basics.{refused}
+use Rattle.definition.specs.Limits.{limits}
+use Rattle.definition.specs.Run.{run}
 
 -- "a refusal is a number and two places (concatenation, component; 0 where none)"
 abbrev pub RefusalPlaces : Type 0

@@ -3,12 +3,12 @@ use mathlib.Core.Path.{_≡_, refl, ap}
 use Prim.Native.Nat.{ℕ, zero, suc, _+_, _≤_, _<_}
 use native.Mathlib.Omega.{arith}
 use lib.ListN.{length-take, length-drop}
-use Rattle.def_numbers.specs.Prelude.{Bool, not, none, List, [], _∷_, _&&_, length, drop, eqb}
-use Rattle.def_numbers.specs.Basics.{Result, isEmpty, tab}
-use Rattle.def_numbers.specs.Limits.{limits}
-use Rattle.def_numbers.specs.Refusals.{empty-after-colon}
-use Rattle.def_image.specs.Image.{Placed, Unparsed, counts, componentCount, componentsFrom, parts, treeOf}
-use Rattle.def_stages.specs.Component.{Parsed, prefixOf, eachIn, each, keepBase, stage1Component, simplify, startingValue, source, stage1, stage2}
+use Rattle.definition.specs.Prelude.{Bool, not, none, List, [], _∷_, _&&_, length, drop, eqb}
+use Rattle.definition.specs.Basics.{Result, isEmpty, tab}
+use Rattle.definition.specs.Limits.{limits}
+use Rattle.definition.specs.Refusals.{empty-after-colon}
+use Rattle.definition.specs.Image.{Placed, Unparsed, counts, componentCount, componentsFrom, parts, treeOf}
+use Rattle.definition.specs.Component.{Parsed, prefixOf, eachIn, each, keepBase, stage1Component, simplify, startingValue, source, stage1, stage2}
 use Rattle.laws.specs.Lists.{length-tab}
 use Rattle.refusal_places.specs.Ends.{Ends, answers, Fine, fine, need-ends, placed-ends, bind-ends, next-ends, option-ends}
 use Rattle.refusal_places.specs.Component.{stage1-fine, simplify-fine}

@@ -1,12 +1,12 @@
 -- Closed refusals of the whole run: the premise is met, by each kind of place, the lowest and the greatest number and the last concatenation.
 use mathlib.Core.Path.{_≡_, refl}
 use lib.ListN.{replicate}
-use Rattle.def_numbers.specs.Prelude.{[], _∷_, _++_}
-use Rattle.def_numbers.specs.Basics.{ascii, refused}
-use Rattle.def_image.specs.Tree.{Node, end, word, imageOf}
-use Rattle.def_stages.specs.Readings.{tokens}
-use Rattle.def_run.specs.Run.{run}
-use Rattle.def_examples.specs.Compute.{computed}
+use Rattle.definition.specs.Prelude.{[], _∷_, _++_}
+use Rattle.definition.specs.Basics.{ascii, refused}
+use Rattle.definition.specs.Tree.{Node, end, word, imageOf}
+use Rattle.definition.specs.Readings.{tokens}
+use Rattle.definition.specs.Run.{run}
+use Rattle.definition.specs.Compute.{computed}
 
 -- components: a variable, an unbounded filler, and a literal of one bit
 abbrev pub variable : Node

@@ -2,7 +2,7 @@
 use mathlib.Core.Path.{_≡_, refl, sym, ap, _∙_}
 use native.Mathlib.Omega.{arith}
 use lib.Seq.{take-append-seam}
-use Rattle.def_numbers.specs.Prelude.{ℕ, Bool, true, false, List, length, take, drop, leb}
+use Rattle.definition.specs.Prelude.{ℕ, Bool, true, false, List, length, take, drop, leb}
 use Rattle.laws.specs.Tests.{leb-iff}
 use Rattle.listing.specs.Outcomes.{filled, filled-fits, writtenAs}
 use Rattle.listing.specs.declared.Written.{Written}

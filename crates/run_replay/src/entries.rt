@@ -57,9 +57,9 @@ pub(crate) fn read_entry(fd: i32, cuts: bool, buf: &mut [u8]) -> Entry {
     if got < 12 {
         return Entry::Different;
     }
-    let n = token_tree::u32_at(&head, 0);
-    let k = token_tree::u32_at(&head, 4);
-    let m = token_tree::u32_at(&head, 8);
+    let n = image::token_tree::u32_at(&head, 0);
+    let k = image::token_tree::u32_at(&head, 4);
+    let m = image::token_tree::u32_at(&head, 8);
     let second = second_of(cuts, k);
     if read_part(fd, buf, (n as usize) + (second as usize) + (m as usize)) {
         return Entry::Read(n, k, m);

@@ -3,12 +3,12 @@
 use mathlib.Core.Path.{refl, ap, _∙_}
 use lib.Seq.{sets}
 use borrow.Author.Needs.{needs}
-use Rattle.def_image.specs.Tree.{u32}
-use Rattle.def_run.specs.Answer.{usbBytes, componentBytes}
-use Rattle.usb.specs.Usb.{partOf, usbOf}
-use Rattle.answer_words.specs.Writing.{sets-out, four-blocks}
-use Rattle.answer_words.specs.Sizes.{length-usb}
-use Rattle.answer_words.proofs.Blocks.{length-bytes}
+use Rattle.definition.specs.Tree.{u32}
+use Rattle.definition.specs.Answer.{usbBytes, componentBytes}
+use Rattle.ranges.specs.Usb.{partOf, usbOf}
+use Rattle.answer.specs.words.Writing.{sets-out, four-blocks}
+use Rattle.answer.specs.words.Sizes.{length-usb}
+use Rattle.answer.proofs.words.Blocks.{length-bytes}
 use Rattle.answer.proofs.Components.{fieldBytes, length-fields, component-of}
 use Rattle.answer.proofs.put_component.Statement.{statement}
 use Rattle.answer.proofs.put_component.Tie as tie

@@ -3,10 +3,10 @@
 use mathlib.Core.Path.{refl, ap, _∙_}
 use lib.Seq.{sets}
 use borrow.Author.Needs.{needs}
-use Rattle.def_image.specs.Tree.{u32}
-use Rattle.def_run.specs.Answer.{widthBytes, concatenationBytes}
-use Rattle.misc.specs.Value.{optionUsize}
-use Rattle.answer_words.specs.Writing.{sets-out, four-blocks}
+use Rattle.definition.specs.Tree.{u32}
+use Rattle.definition.specs.Answer.{widthBytes, concatenationBytes}
+use Rattle.numbers.specs.Value.{optionUsize}
+use Rattle.answer.specs.words.Writing.{sets-out, four-blocks}
 use Rattle.answer.proofs.Heads.{concatenation-of}
 use Rattle.answer.proofs.put_concatenation.Statement.{statement}
 use Rattle.answer.proofs.put_concatenation.Tie as tie

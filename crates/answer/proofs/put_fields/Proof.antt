@@ -3,10 +3,10 @@
 use mathlib.Core.Path.{refl}
 use mathlib.Core.List.{_++_}
 use borrow.Author.Needs.{needs}
-use Rattle.def_image.specs.Tree.{u32}
-use Rattle.def_run.specs.Answer.{textBytes}
-use Rattle.answer_words.specs.Writing.{sets-out, four-blocks}
-use Rattle.answer_words.specs.Sizes.{length-text}
+use Rattle.definition.specs.Tree.{u32}
+use Rattle.definition.specs.Answer.{textBytes}
+use Rattle.answer.specs.words.Writing.{sets-out, four-blocks}
+use Rattle.answer.specs.words.Sizes.{length-text}
 use Rattle.answer.proofs.put_fields.Statement.{statement}
 use Rattle.answer.proofs.put_fields.Tie as tie
 

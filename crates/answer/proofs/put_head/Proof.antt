@@ -3,12 +3,12 @@
 use mathlib.Core.Path.{refl, ap, _∙_}
 use lib.Seq.{sets}
 use borrow.Author.Needs.{needs}
-use Rattle.def_image.specs.Tree.{u32}
-use Rattle.def_run.specs.Answer.{widthBytes, textBytes, headBytes}
-use Rattle.misc.specs.Value.{optionUsize}
-use Rattle.usb.specs.Usb.{partOf}
-use Rattle.answer_words.specs.Writing.{sets-out, six-blocks}
-use Rattle.answer_words.proofs.Blocks.{length-bytes}
+use Rattle.definition.specs.Tree.{u32}
+use Rattle.definition.specs.Answer.{widthBytes, textBytes, headBytes}
+use Rattle.numbers.specs.Value.{optionUsize}
+use Rattle.ranges.specs.Usb.{partOf}
+use Rattle.answer.specs.words.Writing.{sets-out, six-blocks}
+use Rattle.answer.proofs.words.Blocks.{length-bytes}
 use Rattle.answer.proofs.Heads.{head-of}
 use Rattle.answer.proofs.put_head.Statement.{statement}
 use Rattle.answer.proofs.put_head.Tie as tie

@@ -2,7 +2,7 @@ use borrow.Author.Needs.{needs}
 use mathlib.Core.Path.{ap, _∙_}
 use Prim.Native.Nat.{_≤_}
 use native.Mathlib.Omega.{arith}
-use Rattle.def_stages.specs.Overall.{stage4}
+use Rattle.definition.specs.Overall.{stage4}
 use Rattle.layout_run.proofs.Outcomes.{few-counts, judged-accepted, judged-refused}
 use Rattle.layout_run.proofs.judged.Statement.{statement}
 use Rattle.layout_run.proofs.judged.Tie as tie

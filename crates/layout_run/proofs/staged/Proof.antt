@@ -1,5 +1,5 @@
 use borrow.Author.Needs.{needs}
-use Rattle.tree.specs.Start.{sourceText}
+use Rattle.layout_run.specs.tree.Start.{sourceText}
 use Rattle.layout_run.proofs.Entered.{no-start, a-start, bad-start}
 use Rattle.layout_run.proofs.Outcomes.{start-refused}
 use Rattle.layout_run.proofs.staged.Statement.{statement}

@@ -3,7 +3,7 @@ use borrow.Author.Needs.{needs}
 use mathlib.Core.Path.{_≡_, sym, ap, _∙_}
 use mathlib.Core.Bool.{Bool, _&&_}
 use lib.Dec.{eqb}
-use Rattle.misc.specs.declared.OptionI128.{OptionI128}
+use Rattle.numbers.specs.declared.OptionI128.{OptionI128}
 use Rattle.leaves_replay.specs.Told.{agrees}
 use Rattle.leaves_replay.proofs.agree.Statement.{statement}
 use Rattle.leaves_replay.proofs.agree.Tie as tie

@@ -1,8 +1,8 @@
 use mathlib.Core.Path.{_≡_, refl, sym, ap, _∙_}
 use borrow.Author.Needs.{needs}
 use borrow.Author.Tests.{not-true, not-false}
-use Rattle.items.specs.Run.{itemsIn}
-use Rattle.component_types.specs.Places.{middleOf}
+use Rattle.image.specs.items.Run.{itemsIn}
+use Rattle.component.specs.types.Places.{middleOf}
 use Rattle.component.proofs.Starts.{middle-none, middle-after}
 use Rattle.component.proofs.places.middle.Statement.{statement}
 use Rattle.component.proofs.places.middle.Tie as tie

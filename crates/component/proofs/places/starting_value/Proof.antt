@@ -1,6 +1,6 @@
 use mathlib.Core.Path.{_≡_, ap, _∙_}
 use borrow.Author.Needs.{needs}
-use Rattle.def_numbers.specs.Basics.{placed}
+use Rattle.definition.specs.Basics.{placed}
 use Rattle.component.proofs.Starts.{start-none, start-refused, start-part}
 use Rattle.component.proofs.places.starting_value.Statement.{statement}
 use Rattle.component.proofs.places.starting_value.Tie as tie

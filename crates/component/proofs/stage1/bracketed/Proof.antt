@@ -1,8 +1,8 @@
 use mathlib.Core.Path.{refl, ap, _∙_}
 use borrow.Author.Needs.{needs}
-use Rattle.def_image.specs.Image.{bitsAt}
-use Rattle.def_stages.specs.Component.{typed}
-use Rattle.items.specs.Run.{itemsIn}
+use Rattle.definition.specs.Image.{bitsAt}
+use Rattle.definition.specs.Component.{typed}
+use Rattle.image.specs.items.Run.{itemsIn}
 use Rattle.component.specs.Stage1.{inBracket}
 use Rattle.component.proofs.Parsed.{read-range, read-none, read-refused}
 use Rattle.component.proofs.stage1.bracketed.Statement.{statement}

@@ -1,5 +1,5 @@
 use borrow.Author.Needs.{needs}
-use Rattle.items.specs.Run.{itemsIn}
+use Rattle.image.specs.items.Run.{itemsIn}
 use Rattle.component.proofs.Typing.{single-is}
 use Rattle.component.proofs.typed.single_bit.Statement.{statement}
 use Rattle.component.proofs.typed.single_bit.Tie as tie

@@ -1,9 +1,9 @@
 use borrow.Author.Needs.{needs}
 use borrow.Author.Tests.{not-true, not-false}
-use Rattle.def_image.specs.Image.{bitsAt}
-use Rattle.items.specs.Run.{itemsIn}
-use Rattle.usb.specs.Usb.{partOf, usbrOf}
-use Rattle.component_types.specs.Values.{bitsOf}
+use Rattle.definition.specs.Image.{bitsAt}
+use Rattle.image.specs.items.Run.{itemsIn}
+use Rattle.ranges.specs.Usb.{partOf, usbrOf}
+use Rattle.component.specs.types.Values.{bitsOf}
 use Rattle.component.proofs.Typing.{typed-variable, typed-none, typed-literal, no-bits, some-bits, all-bits}
 use Rattle.component.proofs.typed.typed.Statement.{statement}
 use Rattle.component.proofs.typed.typed.Tie as tie

@@ -1,4 +1,4 @@
--- `concatenation::after` meets its contract: by what the check said.
+-- `concatenation::overall::after` meets its contract: by what the check said.
 -- Assumes nothing.
 use borrow.Author.Needs.{needs}
 use Rattle.concatenation.proofs.overall.after.Statement.{statement}

@@ -1,8 +1,8 @@
--- `concatenation::join` meets its contract: the width first, then the source.
+-- `concatenation::overall::join` meets its contract: the width first, then the source.
 -- Assumes nothing.
 use mathlib.Core.Path.{sym, _∙_, ap}
 use borrow.Author.Needs.{needs}
-use Rattle.def_numbers.specs.Basics.{Result, ok}
+use Rattle.definition.specs.Basics.{Result, ok}
 use Rattle.concatenation.specs.Overall.{overallOf, answerOf, andThen}
 use Rattle.concatenation.proofs.Summaries.{turn-on, turn-off}
 use Rattle.concatenation.proofs.overall.join.Statement.{statement}

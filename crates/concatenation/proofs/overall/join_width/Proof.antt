@@ -2,8 +2,8 @@
 -- Assumes nothing.
 use mathlib.Core.Path.{sym, _∙_, ap}
 use borrow.Author.Needs.{needs}
-use Rattle.def_numbers.specs.Basics.{ok}
-use Rattle.misc.specs.Value.{optionUsize}
+use Rattle.definition.specs.Basics.{ok}
+use Rattle.numbers.specs.Value.{optionUsize}
 use Rattle.concatenation.specs.Overall.{overallOf}
 use Rattle.concatenation.proofs.Summaries.{width-unknown, width-first, width-same, width-differs}
 use Rattle.concatenation.proofs.overall.join_width.Statement.{statement}

@@ -1,7 +1,7 @@
 -- `concatenation::joined` meets its contract: field by field.
 -- Assumes nothing.
 use borrow.Author.Needs.{needs}
-use Rattle.misc.specs.Value.{optionUsize}
+use Rattle.numbers.specs.Value.{optionUsize}
 use Rattle.concatenation.specs.Overall.{overallOf}
 use Rattle.concatenation.proofs.Summaries.{joins}
 use Rattle.concatenation.proofs.overall.joined.Statement.{statement}

@@ -1,4 +1,4 @@
--- `concatenation::opposite` meets its contract: by the place.
+-- `concatenation::overall::opposite` meets its contract: by the place.
 use borrow.Author.Needs.{needs}
 use Rattle.concatenation.proofs.overall.opposite.Statement.{statement}
 use Rattle.concatenation.proofs.overall.opposite.Tie as tie

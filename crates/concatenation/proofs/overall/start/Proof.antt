@@ -1,4 +1,4 @@
--- `concatenation::start` meets its contract: by whether there is a concatenation 0.
+-- `concatenation::overall::start` meets its contract: by whether there is a concatenation 0.
 -- Assumes nothing.
 use Rattle.concatenation.proofs.Summaries.{starts-none, starts-some}
 use Rattle.concatenation.proofs.overall.start.Statement.{statement}

@@ -2,7 +2,7 @@
 use Prim.Native.Nat.{_-_}
 use native.Mathlib.Omega.{arith}
 use denote.Ref.{now}
-use Rattle.digits_out.specs.Put.{Toward, toward-start, toward, toward-length}
+use Rattle.listing.specs.digits.Put.{Toward, toward-start, toward, toward-length}
 use Rattle.listing.proofs.Concatenations.{fieldLines, field-next, fields-end}
 use borrow.Author.Needs.{needs}
 use Rattle.listing.proofs.groups.put_fields.Statement.{statement}

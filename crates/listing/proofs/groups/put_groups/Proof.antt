@@ -3,7 +3,7 @@ use mathlib.Core.Path.{_≡_}
 use Prim.Native.Nat.{ℕ, _-_, _≤_}
 use native.Mathlib.Omega.{arith}
 use denote.Ref.{now}
-use Rattle.digits_out.specs.Put.{Toward, toward-start, toward-length}
+use Rattle.listing.specs.digits.Put.{Toward, toward-start, toward-length}
 use Rattle.listing.proofs.Concatenations.{groupsFrom, groups-next, groups-end, stop-within}
 use borrow.Author.Needs.{needs}
 use Rattle.listing.proofs.groups.put_groups.Statement.{statement}

@@ -3,7 +3,7 @@ use borrow.Author.Needs.{needs}
 use mathlib.Core.Path.{_≡_, sym}
 use native.Mathlib.Omega.{arith}
 use lib.Seq.{length-take-le}
-use Rattle.def_numbers.specs.Prelude.{ℕ}
+use Rattle.definition.specs.Prelude.{ℕ}
 use Rattle.run_replay.proofs.compare.same_front.Statement.{statement}
 use Rattle.run_replay.proofs.compare.same_front.Tie as tie
 

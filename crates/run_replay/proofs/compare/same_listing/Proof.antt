@@ -2,7 +2,7 @@
 use borrow.Author.Needs.{needs}
 use mathlib.Core.Path.{_≡_}
 use native.Mathlib.Omega.{arith}
-use Rattle.def_numbers.specs.Prelude.{ℕ}
+use Rattle.definition.specs.Prelude.{ℕ}
 use Rattle.listing.specs.Outcomes.{listingOf}
 use Rattle.run_replay.proofs.Told.{told-whole}
 use Rattle.run_replay.proofs.compare.same_listing.Statement.{statement}

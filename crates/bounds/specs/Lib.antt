@@ -1,2 +1,0 @@
--- The tests of bounds on plain numbers.
-pub mod Checks

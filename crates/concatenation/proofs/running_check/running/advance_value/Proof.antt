@@ -1,0 +1,24 @@
+-- `concatenation::running_check::advance_value` meets its contract: what the step ensures, settled.
+-- Assumes nothing.
+use mathlib.Core.Path.{_∙_, ap}
+use borrow.Author.Needs.{needs}
+use Rattle.concatenation.specs.running_check.Running.{runningOf, keptOf, verdictOf}
+use Rattle.concatenation.proofs.running_check.running.advance_value.Statement.{statement}
+use Rattle.concatenation.proofs.running_check.running.advance_value.Tie as tie
+
+step-requires : tie.Need-step-requires
+step-requires c κs = search needs
+
+settle-requires : tie.Need-settle-requires
+settle-requires c κs = search needs
+
+returns : tie.Need-returns
+returns c =
+    λ d h. (
+      c .settle .ensures .0 ∙ ap (keptOf (runningOf (c .before .before .args .r))) (c .before .step .ensures d h),
+      c .settle .ensures
+          .1 ∙ ap verdictOf (c .before .step .ensures d h),
+    )
+
+pub advance-value-spec : {M : Type 1} → statement M
+advance-value-spec = tie.close (tie.spec step-requires settle-requires returns)

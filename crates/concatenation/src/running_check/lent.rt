@@ -1,0 +1,29 @@
+// The running check of a concatenation as a struct that is lent and altered component by component.
+use crate::running_check::running::Advanced;
+use crate::running_check::running::Running;
+use crate::running_check::running::Shape;
+use crate::running_check::running::advance_value;
+use errors::Checked;
+ghost use Rattle.errors.specs.Refused.{resultOf};
+ghost use Rattle.concatenation.specs.running_check.Running.{runningOf, Advances};
+
+// The struct is lent, and altered by one component.
+pub fn advance(r: &mut Running, i: u32, k: u32, first: bool, last: bool, shape: Shape) -> Checked
+    ensures { λ q. ⌜ Advances i k first last shape (runningOf (now (r .entry))) (runningOf (now (r .exit))) (resultOf q) ⌝ }
+{
+    let a = advance_value(*r, i, k, first, last, shape);
+    *r = a.running;
+    a.checked
+}
+
+// Plain parameters above the lent form: a local is lent once.
+pub fn lent_once(r: Running, i: u32, k: u32, first: bool, last: bool, shape: Shape) -> Advanced
+    ensures { λ a. ⌜ Advances i k first last shape (runningOf r) (runningOf (a .running)) (resultOf (a .checked)) ⌝ }
+{
+    let mut x = r;
+    let checked = advance(&mut x, i, k, first, last, shape);
+    Advanced {
+        running: x,
+        checked,
+    }
+}

@@ -1,5 +1,0 @@
--- Demand 3, proved: the pieces put together.
-pub mod Assemble
-pub mod Bare
-pub mod Cut
-pub mod Proved

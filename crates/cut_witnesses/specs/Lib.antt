@@ -1,2 +1,0 @@
--- Further witnesses of the cutting claim.
-pub mod Further

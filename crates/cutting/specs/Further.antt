@@ -1,0 +1,34 @@
+-- Two more closed examples that meet every premise of the cutting claim, with the claim computed on each.
+use mathlib.Core.Path.{_≡_, refl}
+use Rattle.definition.specs.Prelude.{[], _∷_}
+use Rattle.definition.specs.Basics.{ascii}
+use Rattle.definition.specs.Image.{kinds}
+use Rattle.definition.specs.Tree.{end, word, group}
+use Rattle.definition.specs.Readings.{tokens, parenthesised}
+use Rattle.cutting.specs.Statement.{Given, Premises, _⊕_}
+use Rattle.cutting.specs.Witnesses.{found, claimed, meets, example, byte, plain, sink, opened}
+
+-- the worked example with its 8 bits as one literal, cut into three: `[..3]`, `[3..=4]` and `[5..]`
+unfoldable pub three : Given
+three =
+    example [] [] (byte (tokens ("165u8" ∷ []))) [] (sink ∷ []) 0 8 3 (5 ∷ [])
+    (tokens ("." ∷ "." ∷ "3" ∷ []) ∷ tokens ("3" ∷ "." ∷ "." ∷ "=" ∷ "4" ∷ []) ∷ tokens ("5" ∷ "." ∷ "." ∷ []) ∷ [])
+
+-- `.., 165u8[1..7], a`: between a variable and an unbounded filler; `[1..(2+3)]`, `[5]` and `[6..7]`
+unfoldable pub between : Given
+between =
+    example [] (plain (tokens ("a" ∷ [])) ∷ []) (byte (word (ascii "165u8") (group (kinds .bracket) (tokens ("1" ∷ "." ∷ "." ∷ "7" ∷ [])) end)))
+    (plain (tokens ("." ∷ "." ∷ [])) ∷ []) ((plain (word (ascii "b") (group (kinds .bracket) (tokens ("." ∷ "." ∷ "64" ∷ [])) end)) ∷ []) ∷ []) 1 7 5 (6 ∷ [])
+    ((tokens ("1" ∷ "." ∷ "." ∷ []) ⊕ parenthesised ("2" ∷ "+" ∷ "3" ∷ [])) ∷ tokens ("5" ∷ []) ∷ tokens ("6" ∷ "." ∷ "." ∷ "7" ∷ []) ∷ [])
+
+pub three-right : found three ≡ claimed three
+unfolding opened three
+three-right = refl
+
+pub between-right : found between ≡ claimed between
+unfolding opened between
+between-right = refl
+
+-- the premises of the claim can be met
+pub met : Premises three × Premises between
+met = (meets three three-right, meets between between-right)

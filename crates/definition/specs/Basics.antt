@@ -1,0 +1,59 @@
+-- What the definitions share: a choice by a test, tables of values, and the answers of an operation that may refuse.
+use Rattle.definition.specs.Prelude.{ℕ, zero, suc, _+_, code, String, []ˢ, _∷ˢ_, Bool, true, false, _&&_, List, [], _∷_, _++_, leb, eqb}
+
+infixr 0 if_then_else_
+abbrev pub if_then_else_ {ℓ} : {A : Type ℓ} → Bool → A → A → A
+if true then a else b = a
+if false then a else b = b
+
+-- lo ≤ n ≤ hi
+abbrev pub within : ℕ → ℕ → ℕ → Bool
+within lo hi n = leb lo n && leb n hi
+
+-- Document 01, "How each operation refuses": a refusal is a number and two places (concatenation, component; 0 where none).
+pub data Result (A : Type 0) : Type 0 where
+  ok : A → Result A
+  refused : (number concatenation component : ℕ) → Result A
+
+infixl 20 _>>=_
+abbrev pub _>>=_ : {A B : Type 0} → Result A → (A → Result B) → Result B
+ok a >>= f = f a
+refused n i k >>= f = refused n i k
+
+-- a refusal met below is given its places
+abbrev pub placed : {A : Type 0} → ℕ → ℕ → Result A → Result A
+placed i k (ok a) = ok a
+placed i k (refused n i₀ k₀) = refused n i k
+
+abbrev pub isEmpty : {A : Type 0} → List A → Bool
+isEmpty [] = true
+isEmpty (a ∷ rest) = false
+
+-- two texts are equal when their bytes are
+unfoldable pub sameBytes : List ℕ → List ℕ → Bool
+sameBytes [] [] = true
+sameBytes [] (b ∷ t) = false
+sameBytes (a ∷ s) [] = false
+sameBytes (a ∷ s) (b ∷ t) = eqb a b && sameBytes s t
+
+unfoldable pub sum : List ℕ → ℕ
+sum [] = 0
+sum (n ∷ ns) = n + sum ns
+
+unfoldable pub all : {A : Type 0} → (A → Bool) → List A → Bool
+all p [] = true
+all p (a ∷ rest) = p a && all p rest
+
+unfoldable pub joined : {A : Type 0} → List (List A) → List A
+joined [] = []
+joined (l ∷ ls) = l ++ joined ls
+
+-- f from, f (from + 1), ..: n values
+unfoldable pub tab : {A : Type 0} → (ℕ → A) → ℕ → ℕ → List A
+tab f from zero = []
+tab f from (suc n) = f from ∷ tab f (suc from) n
+
+-- the bytes of a plain text
+unfoldable pub ascii : String → List ℕ
+ascii []ˢ = []
+ascii (c ∷ˢ s) = code c ∷ ascii s

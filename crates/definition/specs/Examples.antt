@@ -1,0 +1,70 @@
+-- Closed examples of the stages where a slip would be easy: each answer is the Rust's (differential/), run on the same line.
+use mathlib.Core.Path.{_≡_, refl}
+use Rattle.definition.specs.Prelude.{ℕ, false, Option, none, some, List, [], _∷_, map, pos}
+use Rattle.definition.specs.Basics.{Result, ok, refused, _>>=_, ascii}
+use Rattle.definition.specs.Image.{Unparsed, Placed, kinds}
+use Rattle.definition.specs.Tree.{Forest, end, word, group, flat}
+use Rattle.definition.specs.Component.{Component, stage1, stage2, startingValue, each, eachIn}
+use Rattle.definition.specs.Concatenation.{Concatenation, FillerAlign, align-none, align-lsb, align-msb, stage3, check, checkFrom, merge, bitsOf}
+use Rattle.definition.specs.Overall.{Overall, stage4, overallFrom, placeFrom, middleFrom, oppositeFrom}
+use Rattle.definition.specs.Readings.{Reading, Source, as-bound, as-range, bound, range, sum-of, read, tokens, parenthesised}
+
+-- `1..=4` ends at 5
+pub inclusive : read (as-range (tokens ("1" ∷ "." ∷ "." ∷ "=" ∷ "4" ∷ []))) ≡ range (sum-of "" (pos 1)) (some (sum-of "" (pos 5)))
+unfolding read tokens
+inclusive = refl
+
+-- `(1--2--3)` is cut at the leftmost pair of minuses
+pub leftmost-pair : read (as-bound (parenthesised ("1" ∷ "-" ∷ "-" ∷ "2" ∷ "-" ∷ "-" ∷ "3" ∷ []))) ≡ bound (sum-of "--2--3" (pos 1))
+unfolding read tokens
+leftmost-pair = refl
+
+-- a component of some records, and one that is a literal of some bits
+abbrev pub component : Forest → List ℕ → Placed Unparsed
+component f bits = record { base = 0; value = record { recs = flat f; bits = bits } }
+
+abbrev pub upTo : List ℕ → Forest
+upTo s = group (kinds .bracket) (word (ascii ".") (word (ascii ".") (word s end))) end
+
+abbrev pub filler : Forest
+filler = tokens ("." ∷ "." ∷ [])
+
+-- stages 1 to 4 of a tree
+unfoldable pub through : List (List (Placed Unparsed)) → Result (List Concatenation × Overall)
+unfolding read tokens stage1 stage2 startingValue each eachIn stage3 check checkFrom merge stage4 overallFrom placeFrom middleFrom oppositeFrom
+through t = do
+  t₁ ← stage1 t
+  t₂ ← stage2 t₁
+  cc ← stage3 0 (t₂ .cc)
+  o ← stage4 0 false cc
+  ok (cc, o)
+
+abbrev pub mergedBits : Result (List Concatenation × Overall) → List (List (List ℕ))
+mergedBits (refused n i k) = []
+mergedBits (ok r) = map (λ (c : Concatenation). map (λ (p : Placed Component). bitsOf (p .value)) (merge (c .comps))) (r .0)
+
+abbrev pub overallAlign : Result (List Concatenation × Overall) → Option FillerAlign
+overallAlign (refused n i k) = none
+overallAlign (ok r) = some (r .1 .align)
+
+-- `1u4, 3u4[..n], 5u4, 2u3, 6u4`: the three lowest literals are one, and the one with a text end stays apart
+pub runs : mergedBits (through (
+    (component (tokens ("6u4" ∷ [])) (0 ∷ 1 ∷ 1 ∷ 0 ∷ [])
+    ∷ component (tokens ("2u3" ∷ [])) (0 ∷ 1 ∷ 0 ∷ [])
+    ∷ component (tokens ("5u4" ∷ [])) (1 ∷ 0 ∷ 1 ∷ 0 ∷ [])
+    ∷ component (word (ascii "3u4") (upTo (ascii "n"))) (1 ∷ 1 ∷ 0 ∷ 0 ∷ [])
+    ∷ component (tokens ("1u4" ∷ [])) (1 ∷ 0 ∷ 0 ∷ 0 ∷ [])
+    ∷ [])
+    ∷ []))
+    ≡ ((0 ∷ 1 ∷ 1 ∷ 0 ∷ 0 ∷ 1 ∷ 0 ∷ 1 ∷ 0 ∷ 1 ∷ 0 ∷ []) ∷ (1 ∷ 1 ∷ 0 ∷ 0 ∷ []) ∷ (1 ∷ 0 ∷ 0 ∷ 0 ∷ []) ∷ []) ∷ []
+unfolding through
+runs = refl
+
+-- `..64; a, ..`: a later filler does not undo overall alignment none
+pub none-stays : overallAlign (through (
+    (component (tokens ("." ∷ "." ∷ "64" ∷ [])) [] ∷ [])
+    ∷ (component filler [] ∷ component (tokens ("a" ∷ [])) [] ∷ [])
+    ∷ []))
+    ≡ some align-none
+unfolding through
+none-stays = refl

@@ -1,0 +1,22 @@
+-- The definition of a run, from the bottom up: Prelude, Basics, Limits, Refusals, Numbers; the image (Image, Check, Tree); the stages (Text,
+-- Ranges, Component, Concatenation, Overall); Answer, Run, Listing. Examples, Readings, Worked hold it to document 01's examples.
+pub mod Answer
+pub mod Basics
+pub mod Check
+pub mod Component
+pub mod Compute
+pub mod Concatenation
+pub mod Examples
+pub mod Image
+pub mod Limits
+pub mod Listing
+pub mod Numbers
+pub mod Overall
+pub mod Prelude
+pub mod Ranges
+pub mod Readings
+pub mod Refusals
+pub mod Run
+pub mod Text
+pub mod Tree
+pub mod Worked

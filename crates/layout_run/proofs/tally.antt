@@ -1,0 +1,4 @@
+-- Laws that the functions' proofs cite.
+pub mod Loops
+pub mod Parts
+pub mod Steps

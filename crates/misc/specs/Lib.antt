@@ -1,3 +1,0 @@
--- What the numbers of 128 bits mean, and the steps towards it.
-pub mod Value
-pub mod Steps

@@ -1,0 +1,42 @@
+-- Numbers whose high half is 0, and the others: zero, and what usize takes.
+-- Assumes nothing.
+use mathlib.Core.Path.{_≡_, sym, ap, _∙_}
+use mathlib.Core.Option.{none, some}
+use Prim.Native.Nat.{_^_, _<_}
+use native.Mathlib.Omega.{arith}
+use lib.Dec.{ltb, eqb, eqb·suc-zero}
+use lib.IntN.{pos, natAbs}
+use borrow.Author.Tests.{lt-ltb, le-ltb, ne-eqb}
+use Rattle.numbers.specs.declared.I128.{I128}
+use Rattle.numbers.specs.Value.{bits, valueOf, toUsize, toNonZeroUsize}
+use Rattle.numbers.proofs.Halves.{by-test}
+
+pub small : (w : I128) → w .high ≡ 0 → valueOf w ≡ pos (w .low)
+unfolding valueOf
+small w h = rw h (ap pos (omega arith))
+
+pub small-usize : (w : I128) → w .low < 2 ^ 64 → w .high ≡ 0 → toUsize (valueOf w) ≡ some (w .low)
+small-usize w l h = rw (small w h, lt-ltb (w .low) (2 ^ 64) l)
+
+pub large-usize : (w : I128) → (w .high ≡ 0 → ⊥) → toUsize (valueOf w) ≡ none
+unfolding valueOf
+large-usize w h =
+    by-test (ltb (w .high) (2 ^ 63)) (λ e. rw (e, le-ltb (bits w) (2 ^ 64) (omega arith))) (λ e. rw e)
+
+pub zero-nonzero : (w : I128) → w .high ≡ 0 → w .low ≡ 0 → toNonZeroUsize (valueOf w) ≡ none
+zero-nonzero w h l = rw (small w h, l)
+
+pub small-nonzero : (w : I128) → w .low < 2 ^ 64 → w .high ≡ 0 → (w .low ≡ 0 → ⊥) → toNonZeroUsize (valueOf w) ≡ some (w .low)
+small-nonzero w l h k = rw (small-usize w l h, toNonZeroUsize, ne-eqb (w .low) 0 k)
+
+pub large-nonzero : (w : I128) → (w .high ≡ 0 → ⊥) → toNonZeroUsize (valueOf w) ≡ none
+large-nonzero w h = rw (large-usize w h, toNonZeroUsize)
+
+pub small-zero : (w : I128) → w .high ≡ 0 → eqb (w .low) 0 ≡ eqb (natAbs (valueOf w)) 0
+small-zero w h = rw (small w h)
+
+pub large-zero : (w : I128) → (w .high ≡ 0 → ⊥) → eqb (w .high) 0 ≡ eqb (natAbs (valueOf w)) 0
+unfolding valueOf
+large-zero w h =
+    ne-eqb (w .high) 0 h
+    ∙ sym (by-test (ltb (w .high) (2 ^ 63)) (λ e. rw (e, ne-eqb (bits w) 0 (omega arith))) (λ e. rw (e, eqb·suc-zero)))

@@ -1,0 +1,14 @@
+-- `ranges::checks::below` meets its contract: a number that is not known passes.
+use borrow.Author.Needs.{needs}
+use Rattle.ranges.proofs.Answers.{below-some}
+use Rattle.ranges.proofs.checks.below.Statement.{statement}
+use Rattle.ranges.proofs.checks.below.Tie as tie
+
+returns-2 : tie.Need-returns-2
+returns-2 c =
+    let a = c .before .before .before .before .before .args in
+    below-some (a .n) _ (a .w) (c .before .before .before .n .given .1) (c .before .usize-to-i128 .ensures) (c .less .ensures)
+
+pub below-spec : {M : Type 1} → statement M
+below-spec =
+    tie.close (tie.spec (λ c. search needs) (λ c. search needs) (λ c. search needs) (λ c κs. search needs) (λ c κs. search needs) returns-2)

@@ -1,0 +1,2 @@
+-- The tests of ranges on plain numbers.
+pub mod Checks

@@ -1,0 +1,8 @@
+-- The width between two bounds.
+use Rattle.definition.specs.Prelude.{Option, none, ℤ, _-ℤ_}
+use Rattle.definition.specs.Basics.{if_then_else_, sameBytes}
+use Rattle.definition.specs.Numbers.{narrow}
+use Rattle.definition.specs.Ranges.{Usb}
+
+abbrev pub widthOf : Usb → Usb → Option ℤ
+widthOf a b = if sameBytes (a .s .bytes) (b .s .bytes) then narrow (b .x -ℤ a .x) else none

@@ -1,2 +1,0 @@
--- Bounds and ranges in code, as the definition's.
-pub mod Usb
