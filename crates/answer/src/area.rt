@@ -39,7 +39,7 @@ fn put_inside(area: &mut [u8], at: usize, a: u8, b: u8, c: u8, d: u8)
 
 // Little-endian. Past the area's end there is nothing to write, and before it no sum below wraps. With room for all four bytes they
 // are one store.
-pub fn put_u32(area: &mut [u8], at: usize, n: u32)
+pub(crate) fn put_u32(area: &mut [u8], at: usize, n: u32)
     ensures { λ _. ⌜ now (area .exit) ≡ sets (now (area .entry)) at (u32 n) ⌝ }
 {
     let a = (n % 256) as u8;
@@ -57,7 +57,7 @@ pub fn put_u32(area: &mut [u8], at: usize, n: u32)
 }
 
 // Two numbers of 32 bits, the low half first.
-pub fn put_u64(area: &mut [u8], at: usize, n: u64)
+pub(crate) fn put_u64(area: &mut [u8], at: usize, n: u64)
     ensures { λ _. ⌜ now (area .exit) ≡ sets (now (area .entry)) at (u32 (n % 2 ^ 32) ++ u32 (n / 2 ^ 32)) ⌝ }
 {
     if area.len() <= at {

@@ -1,10 +1,10 @@
 // The answer area (document 01): writers of its blocks into a lent area. Each writes its bytes from a place on, those that lie
 // inside the area, and leaves all other bytes as they were.
-pub mod area;
-pub mod byte_bits;
+mod area;
+mod byte_bits;
 pub mod literal_bits;
-pub mod values;
-pub mod words;
+mod values;
+mod words;
 
 use crate::values::end_or_zero;
 use crate::values::flags;

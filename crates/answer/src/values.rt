@@ -11,7 +11,7 @@ ghost use Rattle.numbers.specs.Value.{optionUsize};
 ghost use Rattle.answer.specs.values.Numbers.{numberOf, startOf, hasEnd, endOrZero};
 
 // An absent width is 0.
-pub fn width_number(w: OptionUsize) -> u64
+pub(crate) fn width_number(w: OptionUsize) -> u64
     ensures { λ r. ⌜ r ≡ numberOf (optionUsize w) ⌝ }
 {
     match w {
@@ -21,7 +21,7 @@ pub fn width_number(w: OptionUsize) -> u64
 }
 
 // Where a text starts, of a component whose own text starts at `base`; an empty one starts at 0.
-pub fn text_start(base: u32, p: Part) -> u32
+pub(crate) fn text_start(base: u32, p: Part) -> u32
     ensures { λ r. ⌜ r ≡ startOf base (p .at) (p .len) ⌝ }
 {
     if p.len == 0 {
@@ -31,7 +31,7 @@ pub fn text_start(base: u32, p: Part) -> u32
     (start % 4294967296) as u32
 }
 
-pub fn has_end(e: OptionUsb) -> u32
+pub(crate) fn has_end(e: OptionUsb) -> u32
     ensures { λ r. ⌜ r ≡ hasEnd e ⌝ }
 {
     match e {
@@ -41,7 +41,7 @@ pub fn has_end(e: OptionUsb) -> u32
 }
 
 // An absent end is written as 0 without a text: zeros.
-pub fn end_or_zero(e: OptionUsb) -> Usb
+pub(crate) fn end_or_zero(e: OptionUsb) -> Usb
     ensures { λ r. ⌜ r ≡ endOrZero e ⌝ }
 {
     match e {
@@ -60,7 +60,7 @@ fn flag(b: bool, n: u32) -> u32
 }
 
 // 1 deterministic, 2 nonzero, 4 starting value given.
-pub fn flags(deterministic: bool, nonzero: bool, given: bool) -> u32
+pub(crate) fn flags(deterministic: bool, nonzero: bool, given: bool) -> u32
     ensures { λ r. ⌜ r ≡ flagOf deterministic 1 + flagOf nonzero 2 + flagOf given 4 ⌝ }
 {
     let d = flag(deterministic, 1);

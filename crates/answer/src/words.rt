@@ -1,7 +1,7 @@
 // The words of the answer area (document 01): widths, texts and bounds, written into a lent area. Each writer writes its bytes from a
 // place on, those that lie inside the area, and leaves all other bytes as they were.
-pub use crate::area::put_u32;
-pub use crate::area::put_u64;
+pub(crate) use crate::area::put_u32;
+use crate::area::put_u64;
 use crate::values::text_start;
 use crate::values::width_number;
 use numbers::I128;
@@ -18,14 +18,14 @@ ghost use Rattle.definition.specs.Answer.{widthBytes, textBytes, xBytes, usbByt
 ghost use Rattle.numbers.specs.Value.{optionUsize, valueOf};
 ghost use Rattle.ranges.specs.Usb.{usbOf};
 
-pub fn put_width(area: &mut [u8], at: usize, w: OptionUsize)
+pub(crate) fn put_width(area: &mut [u8], at: usize, w: OptionUsize)
     ensures { λ _. ⌜ now (area .exit) ≡ sets (now (area .entry)) at (widthBytes (optionUsize w)) ⌝ }
 {
     put_u64(area, at, width_number(w));
 }
 
 // The text of every part with this offset and this number of bytes.
-pub fn put_text(area: &mut [u8], at: usize, base: u32, p: Part)
+pub(crate) fn put_text(area: &mut [u8], at: usize, base: u32, p: Part)
     ensures { λ _. ⌜ ((d : Text.Part) → d .at ≡ p .at → length (d .bytes) ≡ p .len
         → now (area .exit) ≡ sets (now (area .entry)) at (textBytes base d)) ⌝ }
 {
@@ -37,7 +37,7 @@ pub fn put_text(area: &mut [u8], at: usize, base: u32, p: Part)
 }
 
 // Two's complement in 16 bytes, the low half first.
-pub fn put_x(area: &mut [u8], at: usize, x: I128)
+fn put_x(area: &mut [u8], at: usize, x: I128)
     ensures { λ _. ⌜ now (area .exit) ≡ sets (now (area .entry)) at (xBytes (valueOf x)) ⌝ }
 {
     if area.len() <= at {
@@ -47,7 +47,7 @@ pub fn put_x(area: &mut [u8], at: usize, x: I128)
     put_u64(area, at + 8, x.high);
 }
 
-pub fn put_usb(area: &mut [u8], at: usize, base: u32, u: Usb)
+pub(crate) fn put_usb(area: &mut [u8], at: usize, base: u32, u: Usb)
     ensures { λ _. ⌜ ((image : List ℕ) (text : ℕ)
         → now (area .exit) ≡ sets (now (area .entry)) at (usbBytes base (usbOf image text u))) ⌝ }
 {

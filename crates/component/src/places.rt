@@ -26,14 +26,14 @@ fn whole(run: Run) -> Run
     }
 }
 
-pub fn parts_of(image: &[u8], place: Place) -> Split
+pub(crate) fn parts_of(image: &[u8], place: Place) -> Split
     ensures { λ s. ⌜ splitIn (now (image .entry)) (place .text) s ≡ splitOf (unparsedIn (now (image .entry)) place) ⌝ }
 {
     split_range(image, place.text, whole(place.run))
 }
 
 // "A starting value and its colon are taken off first": of the component that is scanned for it.
-pub fn middle(image: &[u8], text: usize, mid: Run, scanned: bool) -> Run
+pub(crate) fn middle(image: &[u8], text: usize, mid: Run, scanned: bool) -> Run
     ensures { λ r. ⌜ itemsIn (now (image .entry)) text r ≡ middleOf scanned (itemsIn (now (image .entry)) text mid) ⌝ }
 {
     if !scanned {
@@ -46,7 +46,7 @@ pub fn middle(image: &[u8], text: usize, mid: Run, scanned: bool) -> Run
 }
 
 // The starting value of component k, where it is the one that is scanned for it: 10.
-pub fn starting_value(image: &[u8], place: Place, k: u32) -> StartResult
+pub(crate) fn starting_value(image: &[u8], place: Place, k: u32) -> StartResult
     ensures { λ r. ⌜ ((base : ℕ) → startIn (now (image .entry)) (place .text) base r ≡ startingValue k (placedAt base (unparsedIn (now (image .entry)) place) ∷ [])) ⌝ }
 {
     let parts = parts_of(image, place);

@@ -1,12 +1,12 @@
 // A component of common shape as a value: its numbers in 128 bits.
-pub mod bound;
-pub mod common;
-pub mod range;
-pub mod read;
-pub mod short;
-pub mod start;
-pub mod table;
-pub mod words;
+pub(crate) mod bound;
+pub(crate) mod common;
+pub(crate) mod range;
+pub(crate) mod read;
+pub(crate) mod short;
+pub(crate) mod start;
+pub(crate) mod table;
+pub(crate) mod words;
 
 use crate::plain::common::Common;
 use crate::plain::short::ShortUsb;
@@ -78,7 +78,7 @@ fn type_of(q: Common) -> ComponentType
 }
 
 // The component that a common one is.
-pub fn component_of(q: Common) -> Component
+pub(crate) fn component_of(q: Common) -> Component
     ensures { λ r. ⌜ ((image : List ℕ) (place : Places.Place) → componentOf image place r ≡ commonOf image place q) ⌝ }
 {
     let start = q.start;

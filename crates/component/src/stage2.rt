@@ -86,7 +86,7 @@ fn simplify_filler(image: &[u8], place: Place, range: Usbr) -> ComponentResult
     }
 }
 
-pub fn simplify(image: &[u8], place: Place, c: Component) -> ComponentResult
+pub(crate) fn simplify(image: &[u8], place: Place, c: Component) -> ComponentResult
     ensures { λ r. ⌜ resultIn (now (image .entry)) place r ≡ simplify (componentOf (now (image .entry)) place c) ⌝ }
 {
     let t = c.c_type;

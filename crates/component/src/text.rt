@@ -4,11 +4,11 @@ mod begins;
 mod ends;
 mod prefix;
 
-pub use begins::is_empty;
-pub use begins::is_literal;
-pub use begins::part_of;
+pub(crate) use begins::is_empty;
+pub(crate) use begins::is_literal;
+pub(crate) use begins::part_of;
 pub use ends::OptionRun;
 pub use ends::Split;
-pub use ends::split_range;
+pub(crate) use ends::split_range;
 pub use prefix::Colon;
-pub use prefix::split_colon;
+pub(crate) use prefix::split_colon;

@@ -5,8 +5,8 @@ pub use values::Bits;
 pub use values::Component;
 pub use values::ComponentResult;
 pub use values::ComponentType;
-pub use values::least;
-pub use values::ordered;
+pub(crate) use values::least;
+pub(crate) use values::ordered;
 
 mod places;
 mod values;

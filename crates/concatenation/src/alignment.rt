@@ -4,9 +4,9 @@ mod flags;
 
 pub use align::FillerAlign;
 pub use align::align_number;
-pub use align::filler_align;
-pub use align::is_align;
-pub use align::is_opposite;
-pub use align::join_align;
-pub use flags::both;
-pub use flags::either;
+pub(crate) use align::filler_align;
+pub(crate) use align::is_align;
+pub(crate) use align::is_opposite;
+pub(crate) use align::join_align;
+pub(crate) use flags::both;
+pub(crate) use flags::either;

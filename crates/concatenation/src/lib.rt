@@ -3,4 +3,4 @@ pub mod alignment;
 pub mod overall;
 pub mod running_check;
 pub mod stage4;
-pub mod width;
+mod width;

@@ -103,7 +103,7 @@ fn check_source(bare: bool, i: u32, s: Summary) -> Checked
 }
 
 // The second, unless the first refuses.
-pub fn after(a: Checked, r: OverallResult) -> OverallResult
+pub(crate) fn after(a: Checked, r: OverallResult) -> OverallResult
     ensures { λ q. ⌜ answerOf q ≡ andThen (resultOf a) (answerOf r) ⌝ }
 {
     match a {
@@ -112,7 +112,7 @@ pub fn after(a: Checked, r: OverallResult) -> OverallResult
     }
 }
 
-pub fn join(bare: bool, i: u32, s: Summary, o: Overall) -> OverallResult
+pub(crate) fn join(bare: bool, i: u32, s: Summary, o: Overall) -> OverallResult
     ensures { λ q. ⌜ ((c : Concatenation) → HasSummary c s → answerOf q ≡ turn bare i c (overallOf o)) ⌝ }
 {
     match join_width(i, s, o) {
@@ -122,7 +122,7 @@ pub fn join(bare: bool, i: u32, s: Summary, o: Overall) -> OverallResult
 }
 
 // What the loop starts with: concatenation 0, if there is one.
-pub fn start(n: usize, s: Summary) -> Overall
+pub(crate) fn start(n: usize, s: Summary) -> Overall
     ensures { λ q. ⌜ ((l : List Concatenation) → StartsAs l n s → overallOf q ≡ overall l) ⌝ }
 {
     let align = s.align;
@@ -146,7 +146,7 @@ pub fn start(n: usize, s: Summary) -> Overall
 }
 
 // 45 for concatenation i and the first one after it that is opposite to it, if there is one.
-pub fn opposite(i: u32, later: Place) -> Checked
+pub(crate) fn opposite(i: u32, later: Place) -> Checked
     ensures { λ q. ⌜ resultOf q ≡ oppositeAs i (placeOf later) ⌝ }
 {
     match later {

@@ -2,12 +2,9 @@
 mod lent;
 mod running;
 
-pub use lent::advance;
 pub use lent::lent_once;
 pub use running::Advanced;
 pub use running::Running;
 pub use running::Shape;
 pub use running::Stepped;
-pub use running::advance_value;
 pub use running::finish;
-pub use running::step;

@@ -34,7 +34,7 @@ fn add_fitting(n: usize, m: usize) -> OptionUsize
 }
 
 // A width added to the sum so far.
-pub fn sum(n: usize, x: I128) -> OptionUsize
+pub(crate) fn sum(n: usize, x: I128) -> OptionUsize
     ensures { λ r. ⌜ optionUsize r ≡ fitting (n + natAbs (valueOf x)) ⌝ }
 {
     match magnitude(x) {

@@ -1,7 +1,7 @@
 // A prepared image: its words and tables, its records, the check (document 01, numbers 2 to 7), and the items of a run of records.
 pub mod check;
 pub mod items;
-pub mod record_rules;
-pub mod table_walker;
+mod record_rules;
+mod table_walker;
 pub mod token_tree;
-pub mod words;
+mod words;

@@ -19,20 +19,20 @@ pub struct Delimiter {
     pub closing: u8,
 }
 
-pub fn both(a: bool, b: bool) -> bool
+pub(crate) fn both(a: bool, b: bool) -> bool
     ensures { λ r. ⌜ r ≡ (a && b) ⌝ }
 {
     if a { b } else { false }
 }
 
-pub fn between(lo: u32, hi: u32, n: u32) -> bool
+pub(crate) fn between(lo: u32, hi: u32, n: u32) -> bool
     ensures { λ r. ⌜ r ≡ within lo hi n ⌝ }
 {
     both(lo <= n, n <= hi)
 }
 
 // Whether the bits of a literal's last byte above the width are zero.
-pub fn spare_zero(last: u8, w: u32) -> bool
+pub(crate) fn spare_zero(last: u8, w: u32) -> bool
     ensures { λ r. ⌜ r ≡ spareBits last w ⌝ }
 {
     if w % 8 == 0 {
@@ -81,20 +81,20 @@ fn delimited(b: u8, e: Numbers, byte: u8) -> bool
     both((e.stop as u64) == (e.start as u64) + 1, byte == b)
 }
 
-pub fn word_right(t: u32, e: Numbers) -> bool
+pub(crate) fn word_right(t: u32, e: Numbers) -> bool
     ensures { λ r. ⌜ r ≡ wordRight t (entryWith e 0) ⌝ }
 {
     both(both(text_right(t, e), e.kind == 0), e.skip == 1)
 }
 
 // Whether e opens a group that stays in the `left` records from it on.
-pub fn skip_right(e: Numbers, left: u32) -> bool
+pub(crate) fn skip_right(e: Numbers, left: u32) -> bool
     ensures { λ r. ⌜ r ≡ skipRight (entryWith e 0) left ⌝ }
 {
     both(both(between(1, 4, e.kind), 2 <= e.skip), e.skip <= left)
 }
 
-pub fn opener_right(t: u32, e: Numbers, byte: u8, closer: Numbers) -> bool
+pub(crate) fn opener_right(t: u32, e: Numbers, byte: u8, closer: Numbers) -> bool
     ensures { λ r. ⌜ r ≡ openerRight t (entryWith e byte) (entryWith closer 0) ⌝ }
 {
     let d = delimiter_of(e.kind);
@@ -103,7 +103,7 @@ pub fn opener_right(t: u32, e: Numbers, byte: u8, closer: Numbers) -> bool
 }
 
 // The closer of opener e, but for its kind.
-pub fn close_right(t: u32, e: Numbers, closer: Numbers, byte: u8) -> bool
+pub(crate) fn close_right(t: u32, e: Numbers, closer: Numbers, byte: u8) -> bool
     ensures { λ r. ⌜ r ≡ closeRight t (entryWith e 0) (entryWith closer byte) ⌝ }
 {
     let d = delimiter_of(e.kind);

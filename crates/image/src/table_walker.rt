@@ -52,14 +52,7 @@ fn short_entry(image: &[u8], records: usize, text: usize, count: u32, t: u32, r:
 }
 
 // Record r of a table at `records`, of `count` records, whose texts stand at `text` and stop at t. For any numbers.
-pub fn entry_in(
-    image: &[u8],
-    records: usize,
-    text: usize,
-    count: u32,
-    t: u32,
-    r: u32,
-) -> RecordEntry
+fn entry_in(image: &[u8], records: usize, text: usize, count: u32, t: u32, r: u32) -> RecordEntry
     ensures { λ e. ⌜ entryOf e ≡ entryIn (now (image .entry)) records text count t r ⌝ }
 {
     let at = no_further(image, records) + 12 * (r as usize);
@@ -79,7 +72,7 @@ pub fn entry_in(
     }
 }
 
-pub fn entry_at(image: &[u8], r: PBind) -> RecordEntry
+fn entry_at(image: &[u8], r: PBind) -> RecordEntry
     ensures { λ e. ⌜ entryOf e ≡ entryAt (now (image .entry)) (r .0) ⌝ }
 {
     let h = crate::token_tree::counts_of(image);
@@ -93,19 +86,19 @@ pub struct Walker<'a> {
     pub at: u32,
 }
 
-pub fn walker_at<'a>(image: &'a [u8], r: PBind) -> Walker<'a>
+fn walker_at<'a>(image: &'a [u8], r: PBind) -> Walker<'a>
     ensures { λ w. ⌜ (w .image ≡ image .entry) × (w .at ≡ r .0) ⌝ }
 {
     Walker { image, at: r.0 }
 }
 
-pub fn entry<'a>(w: Walker<'a>) -> RecordEntry
+fn entry<'a>(w: Walker<'a>) -> RecordEntry
     ensures { λ e. ⌜ entryOf e ≡ entryAt (now (w .entry .image)) (w .entry .at) ⌝ }
 {
     entry_at(w.image, PBind(w.at))
 }
 
-pub fn read_entry(image: &[u8], r: PBind) -> RecordEntry
+pub(crate) fn read_entry(image: &[u8], r: PBind) -> RecordEntry
     ensures { λ e. ⌜ entryOf e ≡ entryAt (now (image .entry)) (r .0) ⌝ }
 {
     entry(walker_at(image, r))

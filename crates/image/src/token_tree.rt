@@ -104,7 +104,7 @@ pub fn counts_of(image: &[u8]) -> Counts
     }
 }
 
-pub fn tables_for(h: Counts) -> Tables
+pub(crate) fn tables_for(h: Counts) -> Tables
     ensures { λ r. ⌜ tablesOf r ≡ tablesFor (h .c) (h .n) (h .r) (h .t) (h .b) ⌝ }
 {
     let components = 40 + 4 * (h.c as usize);
@@ -121,7 +121,7 @@ pub fn tables_for(h: Counts) -> Tables
     }
 }
 
-pub fn tables_of(image: &[u8]) -> Tables
+fn tables_of(image: &[u8]) -> Tables
     ensures { λ r. ⌜ tablesOf r ≡ tables (now (image .entry)) ⌝ }
 {
     tables_for(counts_of(image))

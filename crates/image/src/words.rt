@@ -19,7 +19,7 @@ pub fn byte_at(s: &[u8], at: usize) -> u8
 }
 
 // Where the text of record r of `count` stops: t, or the start that follows.
-pub fn stop_of(next: u32, count: u32, t: u32, r: u32) -> u32
+pub(crate) fn stop_of(next: u32, count: u32, t: u32, r: u32) -> u32
     ensures { λ n. ⌜ n ≡ (if eqb (r + 1) count then t else next) ⌝ }
 {
     if (r as usize) + 1 == (count as usize) {

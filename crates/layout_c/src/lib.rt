@@ -1,5 +1,5 @@
 // The run for C and Rust (include/layout.h, bindings/).
-pub mod outcome;
+mod outcome;
 
 use errors::Checked;
 use listing::Written;

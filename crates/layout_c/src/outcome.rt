@@ -18,7 +18,7 @@ fn code(r: Refusal) -> u64
 }
 
 // The answer's length, or a refusal. The remainder is the number itself for what a run comes to.
-pub fn coded(o: Outcome) -> u64
+pub(crate) fn coded(o: Outcome) -> u64
     ensures { λ r. ⌜ r ≡ codeOf (outcomeOf o) % 2 ^ 64 ⌝ }
 {
     match o {

@@ -18,7 +18,7 @@ fn enough(image: &[u8], area: usize) -> bool
 }
 
 // 1, the image check, 8.
-pub fn admitted(image: &[u8], mode: u32, area: usize) -> Checked
+pub(crate) fn admitted(image: &[u8], mode: u32, area: usize) -> Checked
     ensures { λ r. ⌜ resultOf r ≡ admittedOf (now (image .entry)) mode area ⌝ }
 {
     if 2 < mode {

@@ -26,7 +26,7 @@ pub struct Spot {
     pub place: Place,
 }
 
-pub fn first() -> Cursor
+pub(crate) fn first() -> Cursor
     ensures { λ c. ⌜ c ≡ firstIn ⌝ }
 {
     Cursor { k: 0, r: 0, l: 0 }
@@ -51,7 +51,7 @@ fn bytes_for(width: u32) -> usize
 }
 
 // A cursor out of range stays.
-pub fn next(image: &[u8], c: Cursor) -> Cursor
+pub(crate) fn next(image: &[u8], c: Cursor) -> Cursor
     ensures { λ n. ⌜ n ≡ nextIn (now (image .entry)) c ⌝ }
 {
     if !in_range(c) {
@@ -67,7 +67,7 @@ pub fn next(image: &[u8], c: Cursor) -> Cursor
 }
 
 // The cursor after n components.
-pub fn advanced(image: &[u8], c: Cursor, n: u32) -> Cursor
+pub(crate) fn advanced(image: &[u8], c: Cursor, n: u32) -> Cursor
     ensures { λ r. ⌜ r ≡ advance (now (image .entry)) c n ⌝ }
 {
     let mut at = c;
@@ -128,7 +128,7 @@ fn standing(image: &[u8], k: u32, r: u32, l: usize) -> Spot
 }
 
 // The component at a cursor: its text start, its records and its literal. One of no records where the cursor is out of range.
-pub fn place_at(image: &[u8], c: Cursor) -> Spot
+pub(crate) fn place_at(image: &[u8], c: Cursor) -> Spot
     ensures { λ s. ⌜ s ≡ spotIn (now (image .entry)) c ⌝ }
 {
     if !in_range(c) {
@@ -138,14 +138,14 @@ pub fn place_at(image: &[u8], c: Cursor) -> Spot
 }
 
 // m, or n where there are only so many.
-pub fn at_most(m: u32, n: u32) -> u32
+pub(crate) fn at_most(m: u32, n: u32) -> u32
     ensures { λ r. ⌜ (r ≡ atMost m n) × (r ≤ n) ⌝ }
 {
     if m < n { m } else { n }
 }
 
 // The most significant of concatenation 0 is scanned for a starting value.
-pub fn is_last(i: u32, m: u32) -> bool
+pub(crate) fn is_last(i: u32, m: u32) -> bool
     ensures { λ b. ⌜ b ≡ (eqb i 0 && eqb m 0) ⌝ }
 {
     if i == 0 {

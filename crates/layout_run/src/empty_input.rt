@@ -6,7 +6,7 @@ ghost use Rattle.definition.specs.Listing.{output};
 ghost use Rattle.listing.specs.Shown.{Shown};
 
 // "Empty input is number 2."
-pub fn write_empty(out: &mut [u8]) -> Written
+pub(crate) fn write_empty(out: &mut [u8]) -> Written
     ensures { λ w. ⌜ Shown (now (out .entry)) (output []) (now (out .exit)) w ⌝ }
 {
     listing::write_listing(b"", b"", Outcome::Refused(errors::refuse(2)), out)

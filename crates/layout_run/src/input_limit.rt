@@ -4,7 +4,7 @@ ghost use mathlib.Core.Logic.{_⊎_};
 ghost use Prim.Native.Nat.{_≤_};
 
 // The lesser of a length and 51,306.
-pub fn judged(n: usize) -> usize
+pub(crate) fn judged(n: usize) -> usize
     ensures { λ r. ⌜ (r ≤ n) × (r ≤ 51306) × ((r ≡ n) ⊎ (r ≡ 51306)) ⌝ }
 {
     if n <= 51306 {

@@ -1,17 +1,17 @@
 // The whole run (document 01): the mode, the image check, the area's length, and stages 1 to 5. The area is written only when
 // nothing can refuse any more.
-pub mod admission;
-pub mod cursor;
-pub mod empty_input;
-pub mod input_limit;
-pub mod merging;
+mod admission;
+mod cursor;
+mod empty_input;
+mod input_limit;
+mod merging;
 mod output;
-pub mod parts;
-pub mod stage3;
-pub mod stage5;
+mod parts;
+mod stage3;
+mod stage5;
 mod stages;
-pub mod tally;
-pub mod tree;
+mod tally;
+mod tree;
 
 use crate::parts::Stage3;
 use crate::stage3::check_all;

@@ -4,11 +4,9 @@ mod bits;
 mod merging;
 mod span;
 
-pub use bits::append_bits;
-pub use bits::bytes_for;
 pub use merging::Merging;
-pub use merging::close;
-pub use merging::step;
+pub(crate) use merging::close;
+pub(crate) use merging::step;
 
 // Where the next component's block stands, where the literal block begins, and how many of its bytes are written.
 pub struct Writing {

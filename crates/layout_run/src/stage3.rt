@@ -13,11 +13,11 @@ ghost use Rattle.layout_run.specs.tally.Walk.{walk};
 mod all;
 mod turn;
 
-pub use all::check_all;
+pub(crate) use all::check_all;
 
 // Concatenation i, of n components from a cursor: each component's stages 1 and 2, then its 34, 30, 31, 32; after the last one 33. What
 // this says of the definition's stages is `check-is` (layout_run/specs/tally/Whole).
-pub fn check(image: &[u8], i: u32, c: Cursor, n: u32) -> CheckResult
+pub(crate) fn check(image: &[u8], i: u32, c: Cursor, n: u32) -> CheckResult
     ensures { λ r. ⌜ answerOf r ≡ walk (now (image .entry)) i 0 c n noTally ⌝ }
 {
     let mut s = start();

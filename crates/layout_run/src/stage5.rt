@@ -9,11 +9,18 @@ use crate::merging::Merging;
 use crate::merging::Writing;
 use crate::merging::close;
 use turns::turn;
-pub use write::write_answer;
+pub(crate) use write::write_answer;
 ghost use Rattle.layout_run.specs.merging.Put.{PutIs};
 
 // Concatenation i, of n components from a cursor.
-pub fn put_merged(area: &mut [u8], image: &[u8], i: u32, c: Cursor, n: u32, w: Writing) -> Writing
+pub(crate) fn put_merged(
+    area: &mut [u8],
+    image: &[u8],
+    i: u32,
+    c: Cursor,
+    n: u32,
+    w: Writing,
+) -> Writing
     ensures { λ r. ⌜ PutIs (now (image .entry)) i c n w r (now (area .entry)) (now (area .exit)) ⌝ }
 {
     let mut s = Merging {

@@ -12,8 +12,8 @@ mod step;
 
 pub use state::State;
 pub use state::Turned;
-pub use state::start;
-pub use step::stepped;
+pub(crate) use state::start;
+pub(crate) use step::stepped;
 
 // What stage 4 reads of a concatenation, and the number of its components after merging.
 pub struct Found {
@@ -49,7 +49,7 @@ fn summed(s: State) -> Found
 }
 
 // After the last component: 33.
-pub fn ended(i: u32, s: State) -> CheckResult
+pub(crate) fn ended(i: u32, s: State) -> CheckResult
     ensures { λ r. ⌜ answerOf r ≡ endOf i (tallyOf s) ⌝ }
 {
     let running = s.running;

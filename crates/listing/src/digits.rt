@@ -1,6 +1,6 @@
 // Writing bytes and numbers into a lent buffer. Every function takes the place to write at, writes as much as fits, and gives
 // the place after it; nothing is asked of a caller.
-pub mod decimal;
+pub(crate) mod decimal;
 
 ghost use mathlib.Core.Path.{_≡_};
 ghost use mathlib.Core.List.{[], _∷_};
@@ -18,7 +18,7 @@ fn next(at: usize) -> usize
     }
 }
 
-pub fn put_byte(out: &mut [u8], at: usize, b: u8) -> usize
+pub(crate) fn put_byte(out: &mut [u8], at: usize, b: u8) -> usize
     ensures { λ r. ⌜ Put (now (out .entry)) at (b ∷ []) (now (out .exit)) r ⌝ }
 {
     if at < out.len() {
@@ -28,7 +28,7 @@ pub fn put_byte(out: &mut [u8], at: usize, b: u8) -> usize
     next(at)
 }
 
-pub fn put_bytes(out: &mut [u8], at: usize, s: &[u8]) -> usize
+pub(crate) fn put_bytes(out: &mut [u8], at: usize, s: &[u8]) -> usize
     ensures { λ r. ⌜ Put (now (out .entry)) at (now (s .entry)) (now (out .exit)) r ⌝ }
 {
     let mut place = at;

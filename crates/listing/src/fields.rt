@@ -114,7 +114,7 @@ fn put_content(
 }
 
 // The line of component k.
-pub fn put_field(out: &mut [u8], at: usize, image: &[u8], s: &[u8], k: u32) -> usize
+pub(crate) fn put_field(out: &mut [u8], at: usize, image: &[u8], s: &[u8], k: u32) -> usize
     ensures { λ r. ⌜ Put (now (out .entry)) at (fieldLine (fieldAt (now (image .entry)) (now (s .entry)) k)) (now (out .exit)) r ⌝ }
 {
     let first = 32 + 20 * (u32_at(s, 0) as usize);

@@ -18,7 +18,7 @@ fn width_at(s: &[u8], at: usize) -> u64
 }
 
 // The line of concatenation i.
-pub fn put_group(out: &mut [u8], at: usize, s: &[u8], i: u32) -> usize
+pub(crate) fn put_group(out: &mut [u8], at: usize, s: &[u8], i: u32) -> usize
     ensures { λ r. ⌜ Put (now (out .entry)) at (groupLine i (groupAt (now (s .entry)) i)) (now (out .exit)) r ⌝ }
 {
     let place = 32 + 20 * (i as usize);

@@ -28,7 +28,7 @@ fn put_init(out: &mut [u8], at: usize, image: &[u8], s: &[u8]) -> usize
 }
 
 // Line 1.
-pub fn put_head(out: &mut [u8], at: usize, image: &[u8], s: &[u8]) -> usize
+pub(crate) fn put_head(out: &mut [u8], at: usize, image: &[u8], s: &[u8]) -> usize
     ensures { λ r. ⌜ Put (now (out .entry)) at (headLine (now (image .entry)) (now (s .entry))) (now (out .exit)) r ⌝ }
 {
     let groups = u32_at(s, 0);

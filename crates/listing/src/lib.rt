@@ -1,12 +1,12 @@
 // The listing of an outcome, written into a lent buffer.
-pub mod digits;
-pub mod fields;
-pub mod group;
+mod digits;
+mod fields;
+mod group;
 mod groups;
-pub mod heads;
-pub mod refusal;
-pub mod text;
-pub mod words;
+mod heads;
+mod refusal;
+mod text;
+mod words;
 
 use crate::groups::put_groups;
 use crate::heads::put_head;

@@ -8,7 +8,7 @@ ghost use Rattle.definition.specs.Listing.{listing};
 ghost use Rattle.errors.specs.Refused.{refusedAs};
 ghost use Rattle.listing.specs.digits.Put.{Put};
 
-pub fn put_refusal(out: &mut [u8], at: usize, r: Refusal) -> usize
+pub(crate) fn put_refusal(out: &mut [u8], at: usize, r: Refusal) -> usize
     ensures { λ q. ⌜ Put (now (out .entry)) at (listing [] (refusedAs r)) (now (out .exit)) q ⌝ }
 {
     let after = put_bytes(out, at, b"refused");

@@ -18,7 +18,7 @@ fn hex_digit(d: u8) -> u8
     if d < 10 { 48 + d } else { 87 + d }
 }
 
-pub fn put_hex(out: &mut [u8], at: usize, b: u8) -> usize
+fn put_hex(out: &mut [u8], at: usize, b: u8) -> usize
     ensures { λ r. ⌜ Put (now (out .entry)) at (hex b) (now (out .exit)) r ⌝ }
 {
     let place = put_byte(out, at, hex_digit(b / 16));
@@ -36,7 +36,7 @@ fn is_plain(b: u8) -> bool
 }
 
 // A byte of a text: as it is, or as a backslash and two digits.
-pub fn put_shown(out: &mut [u8], at: usize, b: u8) -> usize
+fn put_shown(out: &mut [u8], at: usize, b: u8) -> usize
     ensures { λ r. ⌜ Put (now (out .entry)) at (shownByte b) (now (out .exit)) r ⌝ }
 {
     if is_plain(b) {
@@ -57,7 +57,7 @@ fn byte_on(s: &[u8], at: usize, n: usize) -> u8
 }
 
 // The text of `count` bytes from a place.
-pub fn put_text(out: &mut [u8], at: usize, s: &[u8], from: usize, count: usize) -> usize
+pub(crate) fn put_text(out: &mut [u8], at: usize, s: &[u8], from: usize, count: usize) -> usize
     ensures { λ r. ⌜ Put (now (out .entry)) at (shown (bytesAt (now (s .entry)) from count)) (now (out .exit)) r ⌝ }
 {
     let mut place = at;
@@ -78,7 +78,7 @@ fn from_top(count: usize, i: usize) -> usize
 }
 
 // `count` bytes from a place in hex, the highest first.
-pub fn put_number(out: &mut [u8], at: usize, s: &[u8], from: usize, count: usize) -> usize
+pub(crate) fn put_number(out: &mut [u8], at: usize, s: &[u8], from: usize, count: usize) -> usize
     ensures { λ r. ⌜ Put (now (out .entry)) at (joined (map hex (reverse (bytesAt (now (s .entry)) from count)))) (now (out .exit)) r ⌝ }
 {
     let mut place = at;

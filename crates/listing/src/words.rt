@@ -9,7 +9,7 @@ ghost use Rattle.definition.specs.Listing.{decimal, widthWord, alignWord, flagW
 ghost use Rattle.listing.specs.digits.Put.{Put};
 ghost use Rattle.listing.specs.words.Spaced.{spaced};
 
-pub fn put_count(out: &mut [u8], at: usize, n: u64) -> usize
+pub(crate) fn put_count(out: &mut [u8], at: usize, n: u64) -> usize
     ensures { λ r. ⌜ Put (now (out .entry)) at (32 ∷ decimal n) (now (out .exit)) r ⌝ }
 {
     let place = put_byte(out, at, b' ');
@@ -65,7 +65,7 @@ fn put_flag(out: &mut [u8], at: usize, set: bool, letter: u8) -> usize
     put_byte(out, place, b'-')
 }
 
-pub fn put_summary(out: &mut [u8], at: usize, width: u64, align: u32, flags: u32) -> usize
+pub(crate) fn put_summary(out: &mut [u8], at: usize, width: u64, align: u32, flags: u32) -> usize
     ensures { λ r. ⌜ Put (now (out .entry)) at (spaced (summaryWords width align flags)) (now (out .exit)) r ⌝ }
 {
     let place = put_width(out, at, width);

@@ -1,6 +1,6 @@
 // Reading a number: i128_try_parse of src/ranges.rs.
-pub mod halves;
-pub mod short;
+pub(crate) mod halves;
+pub(crate) mod short;
 
 use crate::I128;
 use crate::OptionI128;

@@ -17,7 +17,7 @@ use numbers::I128;
 use numbers::OptionI128;
 
 // A number as a bound.
-pub fn value(x: I128) -> Usb
+pub(crate) fn value(x: I128) -> Usb
     ensures { λ r. ⌜ ((image : List ℕ) (text : ℕ) → usbOf image text r ≡ val (valueOf x)) ⌝ }
 {
     Usb {
@@ -27,7 +27,7 @@ pub fn value(x: I128) -> Usb
 }
 
 // Usb::simplify: a text that is a number is added to x and emptied.
-pub fn simplify_usb(image: &[u8], text: usize, u: Usb) -> ResultUsb
+pub(crate) fn simplify_usb(image: &[u8], text: usize, u: Usb) -> ResultUsb
     ensures { λ r. ⌜ resultUsb (now (image .entry)) text r ≡ simplifyUsb (usbOf (now (image .entry)) text u) ⌝ }
 {
     let OptionI128::Some(v) = parse_text(image, text, u.s) else {
@@ -40,7 +40,7 @@ pub fn simplify_usb(image: &[u8], text: usize, u: Usb) -> ResultUsb
 }
 
 // Whether a bound has no text.
-pub fn is_number(u: Usb) -> bool
+pub(crate) fn is_number(u: Usb) -> bool
     ensures { λ r. ⌜ r ≡ eqb (u .s .len) 0 ⌝ }
 {
     let s = u.s;
@@ -59,7 +59,7 @@ pub fn static_val(u: Usb) -> OptionI128
 }
 
 // The number of an end, where there is one without a text.
-pub fn end_val(e: OptionUsb) -> OptionI128
+pub(crate) fn end_val(e: OptionUsb) -> OptionI128
     ensures { λ r. ⌜ optionOf r ≡ endNumber e ⌝ }
 {
     let OptionUsb::Some(u) = e else {
@@ -69,7 +69,7 @@ pub fn end_val(e: OptionUsb) -> OptionI128
 }
 
 // Whether a bound is surely 0.
-pub fn is_guaranteed_zero(u: Usb) -> bool
+pub(crate) fn is_guaranteed_zero(u: Usb) -> bool
     ensures { λ r. ⌜ ((image : List ℕ) (text : ℕ) → r ≡ isZero (usbOf image text u)) ⌝ }
 {
     let OptionI128::Some(x) = static_val(u) else {

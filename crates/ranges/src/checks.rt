@@ -9,20 +9,20 @@ ghost use Rattle.ranges.specs.Checks.{needed, andThen, passes};
 use errors::Checked;
 use numbers::OptionI128;
 
-pub fn both(a: bool, b: bool) -> bool
+pub(crate) fn both(a: bool, b: bool) -> bool
     ensures { λ r. ⌜ r ≡ (a && b) ⌝ }
 {
     a && b
 }
 
-pub fn either(a: bool, b: bool) -> bool
+pub(crate) fn either(a: bool, b: bool) -> bool
     ensures { λ r. ⌜ r ≡ (a || b) ⌝ }
 {
     a || b
 }
 
 // Passed, or the refusal of that number.
-pub fn needs(ok: bool, number: u32) -> Checked
+pub(crate) fn needs(ok: bool, number: u32) -> Checked
     ensures { λ r. ⌜ resultOf r ≡ needed ok number ⌝ }
 {
     if ok {
@@ -32,7 +32,7 @@ pub fn needs(ok: bool, number: u32) -> Checked
 }
 
 // The first refusal of the two.
-pub fn first(a: Checked, b: Checked) -> Checked
+pub(crate) fn first(a: Checked, b: Checked) -> Checked
     ensures { λ r. ⌜ resultOf r ≡ andThen (resultOf a) (resultOf b) ⌝ }
 {
     let Checked::Passed = a else {
@@ -42,7 +42,7 @@ pub fn first(a: Checked, b: Checked) -> Checked
 }
 
 // n < w
-pub fn below(n: OptionI128, w: usize) -> bool
+pub(crate) fn below(n: OptionI128, w: usize) -> bool
     ensures { λ r. ⌜ r ≡ passes (λ x. ltZ x (pos w)) (optionOf n) ⌝ }
 {
     let OptionI128::Some(x) = n else {
@@ -52,7 +52,7 @@ pub fn below(n: OptionI128, w: usize) -> bool
 }
 
 // n <= w
-pub fn at_most(n: OptionI128, w: usize) -> bool
+pub(crate) fn at_most(n: OptionI128, w: usize) -> bool
     ensures { λ r. ⌜ r ≡ passes (λ x. leZ x (pos w)) (optionOf n) ⌝ }
 {
     let OptionI128::Some(x) = n else {
@@ -62,7 +62,7 @@ pub fn at_most(n: OptionI128, w: usize) -> bool
 }
 
 // 0 <= n
-pub fn not_negative(n: OptionI128) -> bool
+pub(crate) fn not_negative(n: OptionI128) -> bool
     ensures { λ r. ⌜ r ≡ passes nonNeg (optionOf n) ⌝ }
 {
     let OptionI128::Some(x) = n else {
@@ -72,7 +72,7 @@ pub fn not_negative(n: OptionI128) -> bool
 }
 
 // 0 < n
-pub fn above_zero(n: OptionI128) -> bool
+pub(crate) fn above_zero(n: OptionI128) -> bool
     ensures { λ r. ⌜ r ≡ passes (ltZ (pos 0)) (optionOf n) ⌝ }
 {
     let OptionI128::Some(x) = n else {

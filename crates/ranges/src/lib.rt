@@ -1,10 +1,10 @@
 // Bounds and ranges as values (the structs of src/ranges.rs): a text is a part of the image's text, never a copy.
 pub mod bound;
-pub mod checks;
+mod checks;
 pub mod literal;
 pub mod parse;
-pub mod sides;
-pub mod signs;
+mod sides;
+mod signs;
 pub mod simplify;
 pub mod text;
 pub mod width;

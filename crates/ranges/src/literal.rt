@@ -122,7 +122,7 @@ fn cut(w: usize, start: Usb, end: Usb) -> CutLiteral
 }
 
 // Usbr::simplify_literal: 24 to 27, and the cut, of a range whose start is no number below 0, as `simplify` leaves it.
-pub fn simplify_literal(image: &[u8], text: usize, w: usize, r: Usbr) -> CutResult
+fn simplify_literal(image: &[u8], text: usize, w: usize, r: Usbr) -> CutResult
     ensures { λ q. ⌜ ((bits : List ℕ) → length bits ≡ w → ifStatic nonNeg (usbOf (now (image .entry)) text (r .start)) ≡ true → resultCut (now (image .entry)) text bits q ≡ simplifyLiteral bits (usbrOf (now (image .entry)) text r)) ⌝ }
 {
     let start = r.start;

@@ -22,7 +22,7 @@ pub struct Sides {
 }
 
 // "An empty side counts as 0."
-pub fn number_in(image: &[u8], text: usize, p: Part) -> OptionI128
+fn number_in(image: &[u8], text: usize, p: Part) -> OptionI128
     ensures { λ r. ⌜ optionOf r ≡ numberIn (partOf (now (image .entry)) text p) ⌝ }
 {
     if p.len == 0 {
@@ -32,7 +32,7 @@ pub fn number_in(image: &[u8], text: usize, p: Part) -> OptionI128
 }
 
 // A side: its number, or its text.
-pub fn side(image: &[u8], text: usize, p: Part) -> Usb
+fn side(image: &[u8], text: usize, p: Part) -> Usb
     ensures { λ r. ⌜ usbOf (now (image .entry)) text r ≡ side (partOf (now (image .entry)) text p) ⌝ }
 {
     let OptionI128::Some(v) = number_in(image, text, p) else {
@@ -48,7 +48,7 @@ pub fn side(image: &[u8], text: usize, p: Part) -> Usb
 }
 
 // The bound with that text, where its number fits 128 bits.
-pub fn bound_of(s: Part, x: OptionI128) -> ResultUsb
+fn bound_of(s: Part, x: OptionI128) -> ResultUsb
     ensures { λ r. ⌜ ((image : List ℕ) (text : ℕ) → resultUsb image text r ≡ boundOf (partOf image text s) (optionOf x)) ⌝ }
 {
     let OptionI128::Some(v) = x else {
@@ -69,7 +69,7 @@ fn moved(left: Usb, negative: bool, n: I128) -> ResultUsb
 }
 
 // The bound that the two sides make, `original` being its text as written.
-pub fn join(image: &[u8], text: usize, original: Part, sides: Sides) -> ResultUsb
+pub(crate) fn join(image: &[u8], text: usize, original: Part, sides: Sides) -> ResultUsb
     ensures { λ r. ⌜ resultUsb (now (image .entry)) text r ≡ joinParts (partOf (now (image .entry)) text original) (partOf (now (image .entry)) text (sides .before)) (partOf (now (image .entry)) text (sides .after)) (partOf (now (image .entry)) text (sides .kept)) (sides .negative) ⌝ }
 {
     let before = sides.before;
@@ -88,7 +88,7 @@ pub fn join(image: &[u8], text: usize, original: Part, sides: Sides) -> ResultUs
 }
 
 // "`..=` adds 1 to x of the end if there is one"
-pub fn raised(u: ResultUsb, inclusive: bool) -> ResultUsb
+pub(crate) fn raised(u: ResultUsb, inclusive: bool) -> ResultUsb
     ensures { λ r. ⌜ ((image : List ℕ) (text : ℕ) → resultUsb image text r ≡ raisedBy inclusive (resultUsb image text u)) ⌝ }
 {
     if !inclusive {

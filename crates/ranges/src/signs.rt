@@ -55,7 +55,7 @@ fn pair_by(found: Run, minus: Run, r: u32, token: bool) -> Run
 }
 
 // The signs with the item that stands at `cur`.
-pub fn stepped(signs: Signs, item: Item, cur: Run) -> Signs
+pub(crate) fn stepped(signs: Signs, item: Item, cur: Run) -> Signs
     ensures { λ s. ⌜ s ≡ steppedLast signs item cur ⌝ }
 {
     let token = image::items::is_token(item, b'-');
@@ -74,7 +74,7 @@ pub fn stepped(signs: Signs, item: Item, cur: Run) -> Signs
     }
 }
 
-pub fn chosen(signs: Signs) -> Sign
+pub(crate) fn chosen(signs: Signs) -> Sign
     ensures { λ s. ⌜ s ≡ chosenOf signs ⌝ }
 {
     let plus = signs.plus;

@@ -11,7 +11,7 @@ ghost use Rattle.ranges.specs.Usb.{usbOf, usbrOf};
 ghost use Rattle.ranges.specs.width.Width.{widthOf};
 
 // The width from a to b, where they have the same text and it fits.
-pub fn width(image: &[u8], text: usize, a: Usb, b: Usb) -> OptionI128
+pub(crate) fn width(image: &[u8], text: usize, a: Usb, b: Usb) -> OptionI128
     ensures { λ r. ⌜ optionOf r ≡ widthOf (usbOf (now (image .entry)) text a) (usbOf (now (image .entry)) text b) ⌝ }
 {
     if same_text(image, text, a.s, b.s) {

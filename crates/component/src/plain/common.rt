@@ -25,7 +25,7 @@ pub struct Common {
     pub known: bool,
 }
 
-pub fn other() -> Common
+pub(crate) fn other() -> Common
     ensures { λ q. ⌜ q .kind ≡ 0 ⌝ }
 {
     Common {
@@ -154,7 +154,7 @@ fn variable(len: usize, r: Range, w: Width) -> Common
 }
 
 // A word of so many bytes that begins with a byte.
-pub fn typed(image: &[u8], place: Place, len: usize, byte: u8, r: Range) -> Common
+pub(crate) fn typed(image: &[u8], place: Place, len: usize, byte: u8, r: Range) -> Common
     ensures { λ q. ⌜ TypedIs (now (image .entry)) place len byte r q ⌝ }
 {
     if !r.fits {
@@ -178,7 +178,7 @@ pub fn typed(image: &[u8], place: Place, len: usize, byte: u8, r: Range) -> Comm
 }
 
 // A word without a range. (`typed` is called from one place, so that no range is handed over in memory.)
-pub fn typed_alone(place: Place, len: usize, byte: u8) -> Common
+pub(crate) fn typed_alone(place: Place, len: usize, byte: u8) -> Common
     ensures { λ q. ⌜ ((image : List ℕ) → TypedIs image place len byte noEnd q) ⌝ }
 {
     if begins_number(byte) {

@@ -116,7 +116,7 @@ fn several(image: &[u8], place: Place, e: usize) -> Common
 }
 
 // The component at a place, where it is of common shape.
-pub fn read_common(image: &[u8], place: Place) -> Common
+pub(crate) fn read_common(image: &[u8], place: Place) -> Common
     ensures { λ q. ⌜ CommonIs (now (image .entry)) place q ⌝ }
 {
     let run = Run {

@@ -38,13 +38,13 @@ pub const LIMIT: u64 = 0x4000_0000_0000_0000;
 // but valgrind speaks of an uninitialised value.
 const NONE: u64 = 0x7000_0000_0000_0000;
 
-pub fn short_number(x: u64) -> ShortUsb
+pub(crate) fn short_number(x: u64) -> ShortUsb
     ensures { λ u. ⌜ u ≡ record { at = 0; len = 0; x = x } ⌝ }
 {
     ShortUsb { at: 0, len: 0, x }
 }
 
-pub fn no_bound() -> Bound
+pub(crate) fn no_bound() -> Bound
     ensures { λ b. ⌜ (b .records ≡ 0) × (b .len ≡ 0) ⌝ }
 {
     Bound {
@@ -55,7 +55,7 @@ pub fn no_bound() -> Bound
 }
 
 // The number that a text is, where it is short.
-pub fn number_in(image: &[u8], text: usize, at: usize, len: usize) -> u64
+pub(crate) fn number_in(image: &[u8], text: usize, at: usize, len: usize) -> u64
     ensures { λ x. ⌜ NumberIs (now (image .entry)) text at len x ⌝ }
 {
     let OptionI128::Some(x) = ranges::text::parse_text(image, text, Part { at, len }) else {
@@ -68,7 +68,7 @@ pub fn number_in(image: &[u8], text: usize, at: usize, len: usize) -> u64
 }
 
 // A word's bound: its number, or its text where it begins with no digit and no sign; else a number that is not short.
-pub fn word_usb(image: &[u8], text: usize, at: usize, len: usize, byte: u8) -> ShortUsb
+pub(crate) fn word_usb(image: &[u8], text: usize, at: usize, len: usize, byte: u8) -> ShortUsb
     ensures { λ u. ⌜ WordIs (now (image .entry)) text at len byte u ⌝ }
 {
     if b'9' < byte {
@@ -82,14 +82,14 @@ pub fn word_usb(image: &[u8], text: usize, at: usize, len: usize, byte: u8) -> S
     short_number(number_in(image, text, at, len))
 }
 
-pub fn is_short(u: ShortUsb) -> bool
+pub(crate) fn is_short(u: ShortUsb) -> bool
     ensures { λ r. ⌜ r ≡ ltb (u .x) (2 ^ 62) ⌝ }
 {
     u.x < LIMIT
 }
 
 // A bound of so many records and bytes, where its number is short.
-pub fn word_bound(u: ShortUsb, records: u32, len: usize) -> Bound
+pub(crate) fn word_bound(u: ShortUsb, records: u32, len: usize) -> Bound
     ensures { λ b. ⌜ (b .records ≤ records) × (b .len ≤ len) × (0 < b .records → (b ≡ record { records = records; len = len; u = u }) × (u .x < 2 ^ 62)) ⌝ }
 {
     if is_short(u) {
@@ -99,7 +99,7 @@ pub fn word_bound(u: ShortUsb, records: u32, len: usize) -> Bound
 }
 
 // x, or the number that it is taken from 0.
-pub fn signed(sign: u8, x: u64) -> u64
+pub(crate) fn signed(sign: u8, x: u64) -> u64
     ensures { λ y. ⌜ (sign ≡ 45 → (y + x) % 2 ^ 64 ≡ 0) × ((sign ≡ 45 → ⊥) → y ≡ x) ⌝ }
 {
     if sign == b'-' {
@@ -108,7 +108,7 @@ pub fn signed(sign: u8, x: u64) -> u64
     x
 }
 
-pub fn is_sign(b: u8) -> bool
+pub(crate) fn is_sign(b: u8) -> bool
     ensures { λ r. ⌜ (r ≡ true → (b ≡ 43) ⊎ (b ≡ 45)) ⌝ }
 {
     if b == b'+' {
@@ -117,7 +117,7 @@ pub fn is_sign(b: u8) -> bool
     b == b'-'
 }
 
-pub fn no_range() -> Range
+pub(crate) fn no_range() -> Range
     ensures { λ r. ⌜ r .fits ≡ false ⌝ }
 {
     Range {
@@ -129,7 +129,7 @@ pub fn no_range() -> Range
 }
 
 // A bound plus 0 or 1.
-pub fn plus(u: ShortUsb, one: u64) -> ShortUsb
+pub(crate) fn plus(u: ShortUsb, one: u64) -> ShortUsb
     ensures { λ v. ⌜ v ≡ raised u one ⌝ }
 {
     ShortUsb {

@@ -47,7 +47,7 @@ fn word_first(image: &[u8], place: Place, e: usize) -> bool
     ends_after(image, e, place.run.left)
 }
 
-pub fn no_colon(image: &[u8], place: Place) -> bool
+pub(crate) fn no_colon(image: &[u8], place: Place) -> bool
     ensures { λ r. ⌜ NoStartIf (now (image .entry)) place r ⌝ }
 {
     let run = Run {

@@ -13,7 +13,7 @@ fn plain_byte(b: u8) -> bool
 }
 
 // A token of two bytes or more, or of a plain one.
-pub fn is_word(kind: u32, len: usize, byte: u8) -> bool
+pub(crate) fn is_word(kind: u32, len: usize, byte: u8) -> bool
     ensures { λ r. ⌜ r ≡ isWord kind len byte ⌝ }
 {
     if kind != 0 {
@@ -25,7 +25,7 @@ pub fn is_word(kind: u32, len: usize, byte: u8) -> bool
     len != 0
 }
 
-pub fn is_dot(kind: u32, len: usize, byte: u8) -> bool
+pub(crate) fn is_dot(kind: u32, len: usize, byte: u8) -> bool
     ensures { λ r. ⌜ r ≡ isDot kind len byte ⌝ }
 {
     if kind != 0 {

@@ -46,7 +46,7 @@ fn literal_item(item: Item) -> bool
 }
 
 // "a text beginning with `-` or a digit makes it a literal"
-pub fn is_literal(image: &[u8], text: usize, run: Run) -> bool
+pub(crate) fn is_literal(image: &[u8], text: usize, run: Run) -> bool
     ensures { λ r. ⌜ r ≡ isLiteral (itemsIn (now (image .entry)) text run) ⌝ }
 {
     let Next::First(item, _) = image::items::next_item(image, text, run) else {
@@ -56,7 +56,7 @@ pub fn is_literal(image: &[u8], text: usize, run: Run) -> bool
 }
 
 // Whether a run has no items.
-pub fn is_empty(text: usize, run: Run) -> bool
+pub(crate) fn is_empty(text: usize, run: Run) -> bool
     ensures { λ r. ⌜ ((image : List ℕ) → r ≡ isEmpty (itemsIn image text run)) ⌝ }
 {
     if !image::items::in_reach(text, run) {
@@ -66,7 +66,7 @@ pub fn is_empty(text: usize, run: Run) -> bool
 }
 
 // "The text of a run of records is thus one part of the text"
-pub fn part_of(image: &[u8], text: usize, run: Run) -> Part
+pub(crate) fn part_of(image: &[u8], text: usize, run: Run) -> Part
     ensures { λ p. ⌜ Usb.partOf (now (image .entry)) text p ≡ partOf (itemsIn (now (image .entry)) text run) ⌝ }
 {
     if !image::items::in_reach(text, run) {

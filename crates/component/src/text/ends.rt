@@ -48,7 +48,7 @@ fn last_of(image: &[u8], text: usize, run: Run) -> Last
     }
 }
 
-pub fn split_range(image: &[u8], text: usize, run: Run) -> Split
+pub(crate) fn split_range(image: &[u8], text: usize, run: Run) -> Split
     ensures { λ r. ⌜ splitIn (now (image .entry)) text r ≡ splitRange (itemsIn (now (image .entry)) text run) ⌝ }
 {
     let Last::At(item, before) = last_of(image, text, run) else {

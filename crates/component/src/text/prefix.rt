@@ -60,7 +60,7 @@ fn colon_step(image: &[u8], text: usize, cur: Run) -> Step
     Step::Pass(next)
 }
 
-pub fn split_colon(image: &[u8], text: usize, run: Run) -> Colon
+pub(crate) fn split_colon(image: &[u8], text: usize, run: Run) -> Colon
     ensures { λ r. ⌜ colonIn (now (image .entry)) text r ≡ partsOf (splitColon (itemsIn (now (image .entry)) text run)) ⌝ }
 {
     if !image::items::in_reach(text, run) {

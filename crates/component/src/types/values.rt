@@ -27,14 +27,14 @@ pub enum ComponentResult {
     Refused(Refusal),
 }
 
-pub fn least(a: usize, b: usize) -> usize
+pub(crate) fn least(a: usize, b: usize) -> usize
     ensures { λ r. ⌜ Least a b r ⌝ }
 {
     if a < b { a } else { b }
 }
 
 // The same bits of a literal of so many, the places in order and no further than the last.
-pub fn ordered(width: usize, b: Bits) -> Bits
+pub(crate) fn ordered(width: usize, b: Bits) -> Bits
     ensures { λ r. ⌜ SameBits width b r ⌝ }
 {
     let to = least(b.to, width);

@@ -30,14 +30,14 @@ pub fn align_number(a: FillerAlign) -> u32
     }
 }
 
-pub fn is_align(a: FillerAlign, b: FillerAlign) -> bool
+pub(crate) fn is_align(a: FillerAlign, b: FillerAlign) -> bool
     ensures { λ r. ⌜ r ≡ isAlign (alignOf a) (alignOf b) ⌝ }
 {
     align_number(a) == align_number(b)
 }
 
 // What an unbounded filler gives, by whether it is the first and the last component.
-pub fn filler_align(first: bool, last: bool) -> FillerAlign
+pub(crate) fn filler_align(first: bool, last: bool) -> FillerAlign
     ensures { λ r. ⌜ alignOf r ≡ placedAlign first last ⌝ }
 {
     if first {
@@ -70,7 +70,7 @@ fn join_sided(overall: FillerAlign, this: FillerAlign) -> FillerAlign
 }
 
 // None stays none; a filler standing alone takes the other's; two that differ are multiple.
-pub fn join_align(overall: FillerAlign, this: FillerAlign) -> FillerAlign
+pub(crate) fn join_align(overall: FillerAlign, this: FillerAlign) -> FillerAlign
     ensures { λ r. ⌜ alignOf r ≡ joinAlign (alignOf overall) (alignOf this) ⌝ }
 {
     if is_align(this, FillerAlign::None) {
@@ -92,7 +92,7 @@ fn is_sided(a: FillerAlign) -> bool
     )
 }
 
-pub fn is_opposite(a: FillerAlign, b: FillerAlign) -> bool
+pub(crate) fn is_opposite(a: FillerAlign, b: FillerAlign) -> bool
     ensures { λ r. ⌜ r ≡ (isSided (alignOf a) && isSided (alignOf b) && not (isAlign (alignOf a) (alignOf b))) ⌝ }
 {
     both(both(is_sided(a), is_sided(b)), !is_align(a, b))

@@ -8,7 +8,7 @@ ghost use Rattle.errors.specs.Refused.{resultOf};
 ghost use Rattle.concatenation.specs.running_check.Running.{runningOf, Advances};
 
 // The struct is lent, and altered by one component.
-pub fn advance(r: &mut Running, i: u32, k: u32, first: bool, last: bool, shape: Shape) -> Checked
+fn advance(r: &mut Running, i: u32, k: u32, first: bool, last: bool, shape: Shape) -> Checked
     ensures { λ q. ⌜ Advances i k first last shape (runningOf (now (r .entry))) (runningOf (now (r .exit))) (resultOf q) ⌝ }
 {
     let a = advance_value(*r, i, k, first, last, shape);

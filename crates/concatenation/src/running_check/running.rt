@@ -148,7 +148,7 @@ fn check_type(i: u32, k: u32, first: bool, last: bool, shape: Shape, r: Running)
 }
 
 // One component: 34, 30, 31, 32. A kind that no component has counts as a filler.
-pub fn step(i: u32, k: u32, first: bool, last: bool, shape: Shape, r: Running) -> Stepped
+fn step(i: u32, k: u32, first: bool, last: bool, shape: Shape, r: Running) -> Stepped
     ensures { λ q. ⌜ ((c : Component) → HasShape c shape → steppedOf q ≡ stepOf i k first last c (runningOf r)) ⌝ }
 {
     let width = shape.width;
@@ -198,7 +198,14 @@ fn settle(r: Running, q: Stepped) -> Advanced
 }
 
 // The step, by value, with the struct kept on a refusal.
-pub fn advance_value(r: Running, i: u32, k: u32, first: bool, last: bool, shape: Shape) -> Advanced
+pub(crate) fn advance_value(
+    r: Running,
+    i: u32,
+    k: u32,
+    first: bool,
+    last: bool,
+    shape: Shape,
+) -> Advanced
     ensures { λ a. ⌜ Advances i k first last shape (runningOf r) (runningOf (a .running)) (resultOf (a .checked)) ⌝ }
 {
     settle(r, step(i, k, first, last, shape, r))

@@ -8,7 +8,7 @@ ghost use lib.Seq.{sets};
 ghost use Rattle.definition.specs.Image.{bytesFor};
 ghost use Rattle.layout_run.specs.merging.Literals.{AppendIs};
 
-pub fn bytes_for(bits: usize) -> usize
+pub(crate) fn bytes_for(bits: usize) -> usize
     ensures { λ n. ⌜ (n ≡ bytesFor bits) × (n ≤ bits) ⌝ }
 {
     bits / 8 + (bits % 8 + 7) / 8
@@ -67,7 +67,7 @@ fn append_front(area: &mut [u8], k: usize, s: &[u8], from: usize, n: usize)
 }
 
 // The same at byte `at`: places of bits are counted from there, so that none can pass 64 bits.
-pub fn append_bits(area: &mut [u8], at: usize, k: usize, s: &[u8], from: usize, n: usize)
+pub(crate) fn append_bits(area: &mut [u8], at: usize, k: usize, s: &[u8], from: usize, n: usize)
     ensures { λ _. ⌜ AppendIs at k (now (s .entry)) from n (now (area .entry)) (now (area .exit)) ⌝ }
 {
     if area.len() < at {

@@ -89,7 +89,7 @@ fn finish(area: &mut [u8], base: u32, kind: Kind, range: Usbr, bits: usize, w: W
 }
 
 // An open run becomes a literal. Its block shows the lowest 32 bits of the width.
-pub fn close(area: &mut [u8], s: Merging) -> Merging
+pub(crate) fn close(area: &mut [u8], s: Merging) -> Merging
     ensures { λ r. ⌜ CloseIs s r (now (area .entry)) (now (area .exit)) ⌝ }
 {
     if !s.running {
@@ -125,7 +125,7 @@ fn put_other(area: &mut [u8], image: &[u8], spot: Spot, x: Component, s: Merging
 
 // "Every maximal run of literals with static ranges becomes one literal from 0 to its width, the sum of the run's widths, the lowest
 // component's bits lowest."
-pub fn step(area: &mut [u8], image: &[u8], spot: Spot, x: Component, s: Merging) -> Merging
+pub(crate) fn step(area: &mut [u8], image: &[u8], spot: Spot, x: Component, s: Merging) -> Merging
     ensures { λ r. ⌜ StepIs (record { base = spot .base; value = componentOf (now (image .entry)) (spot .place) x }) s r (now (area .entry)) (now (area .exit)) ⌝ }
 {
     if !component::tests::is_static_literal(x) {

@@ -10,7 +10,7 @@ ghost use Rattle.answer.specs.Kinds.{HasKind};
 ghost use Rattle.component.specs.types.Values.{bitsOf, typeOf};
 ghost use Rattle.layout_run.specs.merging.Literals.{Span, typeBits};
 
-pub fn least(a: usize, b: usize) -> usize
+pub(crate) fn least(a: usize, b: usize) -> usize
     ensures { λ r. ⌜ r ≡ min a b ⌝ }
 {
     if a < b { a } else { b }
@@ -28,7 +28,7 @@ fn span(place: Place, b: Bits) -> Bits
 }
 
 // None, of a component that is no literal.
-pub fn span_of(place: Place, t: ComponentType) -> Bits
+pub(crate) fn span_of(place: Place, t: ComponentType) -> Bits
     ensures { λ r. ⌜ Span place (λ image. typeBits (typeOf image place t)) r ⌝ }
 {
     match t {
@@ -38,7 +38,7 @@ pub fn span_of(place: Place, t: ComponentType) -> Bits
     }
 }
 
-pub fn kind_of(place: Place, t: ComponentType) -> Kind
+pub(crate) fn kind_of(place: Place, t: ComponentType) -> Kind
     ensures { λ k. ⌜ ((image : List ℕ) → HasKind image (place .text) k (typeOf image place t)) ⌝ }
 {
     match t {

@@ -24,7 +24,7 @@ fn blank() -> Summary {
 
 // Of so many concatenations, at most 16, of n components. Where nothing refuses, an answer has at most N components, so the sum's
 // remainder is the sum.
-pub fn check_all(image: &[u8], count: u32, n: u32) -> Stage3
+pub(crate) fn check_all(image: &[u8], count: u32, n: u32) -> Stage3
     ensures { λ r. ⌜ (count ≤ 16 → StageIs (now (image .entry)) count n r) ⌝ }
 {
     let most = crate::cursor::at_most(count, 16);

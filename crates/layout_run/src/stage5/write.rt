@@ -52,7 +52,7 @@ fn put_components(area: &mut [u8], image: &[u8], count: u32, n: u32, from: Writi
 }
 
 // The whole answer of so many concatenations, at most 16, from the area's first byte, and its length.
-pub fn write_answer(
+pub(crate) fn write_answer(
     area: &mut [u8],
     image: &[u8],
     count: u32,

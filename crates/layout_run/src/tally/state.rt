@@ -27,7 +27,7 @@ pub enum Turned {
     Refused(Refusal),
 }
 
-pub fn start() -> State
+pub(crate) fn start() -> State
     ensures { λ s. ⌜ tallyOf s ≡ noTally ⌝ }
 {
     let running = Running {

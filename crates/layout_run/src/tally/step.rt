@@ -13,7 +13,7 @@ ghost use Rattle.component.specs.types.Values.{componentOf};
 ghost use Rattle.layout_run.specs.tally.Tally.{tallyOf, turnedOf, stepTally};
 
 // Component j of concatenation i, as read: 34, 30, 31, 32.
-pub fn stepped(
+pub(crate) fn stepped(
     image: &[u8],
     i: u32,
     j: u32,

@@ -105,14 +105,14 @@ fn concatenations(image: &[u8], second: bool, count: u32, n: u32) -> Checked
     Checked::Passed
 }
 
-pub fn stage1_components(image: &[u8]) -> Checked
+pub(crate) fn stage1_components(image: &[u8]) -> Checked
     ensures { λ r. ⌜ resultOf r ≡ stage1All (now (image .entry)) ⌝ }
 {
     let h = image::token_tree::counts_of(image);
     concatenations(image, false, h.c, h.n)
 }
 
-pub fn stage2_components(image: &[u8]) -> Checked
+pub(crate) fn stage2_components(image: &[u8]) -> Checked
     ensures { λ r. ⌜ resultOf r ≡ passed (readAll (now (image .entry))) ⌝ }
 {
     let h = image::token_tree::counts_of(image);

@@ -18,7 +18,7 @@ pub enum Start {
 }
 
 // The last component of concatenation 0 is looked at for it.
-pub fn starting_value(image: &[u8]) -> Start
+pub(crate) fn starting_value(image: &[u8]) -> Start
     ensures { λ r. ⌜ startOf (now (image .entry)) r ≡ startAll (now (image .entry)) ⌝ }
 {
     let h = image::token_tree::counts_of(image);

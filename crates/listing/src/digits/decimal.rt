@@ -50,14 +50,14 @@ fn put_digits(out: &mut [u8], at: usize, steps: usize, high: u64, low: u64) -> u
 }
 
 // Two halves of a number without a sign.
-pub fn put_decimal(out: &mut [u8], at: usize, high: u64, low: u64) -> usize
+pub(crate) fn put_decimal(out: &mut [u8], at: usize, high: u64, low: u64) -> usize
     ensures { λ r. ⌜ Put (now (out .entry)) at (decimal (high * 2 ^ 64 + low)) (now (out .exit)) r ⌝ }
 {
     put_digits(out, at, 39, high, low)
 }
 
 // Two halves of a number in two's complement, with its sign.
-pub fn put_signed(out: &mut [u8], at: usize, high: u64, low: u64) -> usize
+pub(crate) fn put_signed(out: &mut [u8], at: usize, high: u64, low: u64) -> usize
     ensures { λ r. ⌜ Put (now (out .entry)) at (signed (untwos (high * 2 ^ 64 + low))) (now (out .exit)) r ⌝ }
 {
     if high < 0x8000_0000_0000_0000 {

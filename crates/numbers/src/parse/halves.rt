@@ -20,7 +20,7 @@ pub enum OptionU128 {
 }
 
 // The number as it stands, where it is below 2^127.
-pub fn positive(m: OptionU128) -> OptionI128
+pub(crate) fn positive(m: OptionU128) -> OptionI128
     ensures { λ r. ⌜ optionOf r ≡ signedAs pos (numberOf m) ⌝ }
 {
     let OptionU128::Some(w) = m else {

@@ -32,7 +32,7 @@ fn value(s: &[u8]) -> u64
 
 // The number, where it is as short and has no prefix: "if more than two characters remain and the first is `0`, the second must be `x`,
 // `o` or `b`".
-pub fn read(s: &[u8]) -> u64
+pub(crate) fn read(s: &[u8]) -> u64
     ensures { λ r. ⌜ (r < 2 ^ 63 → narrow (pos r) ≡ tryParse (now (s .entry))) ⌝ }
 {
     if s.len() == 0 {

@@ -78,7 +78,7 @@ fn read_bound(image: &[u8], text: usize, run: Run) -> ResultUsb
 }
 
 // One item and no more: a token, or a group in parentheses, which is read inside.
-pub fn parse_usb(image: &[u8], text: usize, run: Run) -> ResultUsb
+pub(crate) fn parse_usb(image: &[u8], text: usize, run: Run) -> ResultUsb
     ensures { λ r. ⌜ resultUsb (now (image .entry)) text r ≡ parseUsb (itemsIn (now (image .entry)) text run) ⌝ }
 {
     let Next::First(item, rest) = image::items::next_item(image, text, run) else {
