@@ -1,4 +1,6 @@
 // Refusals (src/errors.rs): numbers and places only, as document 01 gives them.
+pub mod flags;
+
 ghost use mathlib.Core.Path.{_≡_};
 ghost use Rattle.definition.specs.Basics.{refused, placed};
 ghost use Rattle.errors.specs.Refused.{refusedAs};

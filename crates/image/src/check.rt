@@ -4,10 +4,10 @@ mod entries;
 mod records;
 
 use crate::record_rules::between;
-use crate::record_rules::both;
 use crate::token_tree::Counts;
 use crate::token_tree::Tables;
 use errors::Checked;
+use errors::flags::both;
 ghost use mathlib.Core.Path.{_≡_};
 ghost use Prim.Native.Nat.{_+_, _≤_};
 ghost use lib.Dec.{eqb};

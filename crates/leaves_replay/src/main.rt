@@ -2,10 +2,11 @@
 // differential/ (its README.md, "The files of `leaves`"): texts with the number that the unchanged i128_try_parse reads in them, and
 // images with the number that document 01's check gives them. Each entry is read, asked of our own code and compared; an entry that
 // is cut off or too long counts as different.
+use errors::flags::both;
 use libc::STDOUT_FILENO;
 use numbers::OptionI128;
 ghost use mathlib.Core.Path.{_≡_};
-ghost use mathlib.Core.Bool.{true, _&&_};
+ghost use mathlib.Core.Bool.{true};
 ghost use Prim.Native.Nat.{_≤_};
 ghost use lib.Dec.{eqb};
 ghost use lib.ListN.{getD};
@@ -69,12 +70,6 @@ fn u64_at(s: &[u8], at: usize) -> u64
 {
     (image::token_tree::u32_at(s, at) as u64)
         + 0x1_0000_0000 * (image::token_tree::u32_at(s, at + 4) as u64)
-}
-
-fn both(a: bool, b: bool) -> bool
-    ensures { λ r. ⌜ r ≡ (a && b) ⌝ }
-{
-    if a { b } else { false }
 }
 
 fn agree(o: OptionI128, found: u8, high: u64, low: u64) -> bool

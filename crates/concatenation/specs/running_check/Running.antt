@@ -75,6 +75,11 @@ checkAs kind ends full sink first last r =
     else if eqb kind 2 then ok (withFull full r)
     else if ends then ok r else checkOpen sink first last r
 
+-- component k of concatenation i, by its shape
+abbrev pub stepAs : ℕ → ℕ → Bool → Bool → Shape → Running → Result Running
+stepAs i k first last s r =
+    placed i 0 (addAs (optionOf (s .width)) r) >>= λ r₁. placed i k (checkAs (s .kind) (s .«has_end») (s .full) (not (eqb i 0)) first last r₁)
+
 -- the running check after a step, as it was where the step refuses; and whether it refused
 abbrev pub keptOf : Running → Result Running → Running
 keptOf r (ok s) = s
@@ -83,7 +88,9 @@ keptOf r (refused n i k) = r
 abbrev pub verdictOf : Result Running → Result Unit
 verdictOf q = q >>= λ _. ok tt
 
--- a step from r: r′ stands afterwards, and v is the answer
-abbrev pub Advances : ℕ → ℕ → Bool → Bool → Shape → Running → Running → Result Unit → Type 0
-Advances i k first last s r r′ v =
-    (c : Component) → HasShape c s → (r′ ≡ keptOf r (stepOf i k first last c r)) × (v ≡ verdictOf (stepOf i k first last c r))
+abbrev pub settledOf : Running → Result Running → Running × Result Unit
+settledOf r q = (keptOf r q, verdictOf q)
+
+-- the running check after a step from r, and the step's answer
+abbrev pub advancedAs : ℕ → ℕ → Bool → Bool → Shape → Running → Running × Result Unit
+advancedAs i k first last s r = settledOf r (stepAs i k first last s r)

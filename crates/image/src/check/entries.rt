@@ -1,8 +1,8 @@
 // 5: concatenation and component entries, their sums, and the literals' spare bits.
 use crate::check::four_at;
-use crate::record_rules::both;
 use crate::token_tree::Counts;
 use crate::token_tree::Tables;
+use errors::flags::both;
 ghost use mathlib.Core.Path.{_≡_};
 ghost use Prim.Native.Nat.{_+_, _*_, _^_, _≤_};
 ghost use lib.ListN.{length};

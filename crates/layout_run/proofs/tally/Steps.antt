@@ -20,7 +20,7 @@ use Rattle.component.specs.types.Values.{stage2Component}
 use Rattle.layout_run.specs.cursor.Read.{readAt}
 use Rattle.layout_run.specs.declared.cursor.Cursor.{Cursor}
 use Rattle.layout_run.specs.declared.cursor.Spot.{Spot}
-use Rattle.concatenation.specs.Running.{keptOf, verdictOf}
+use Rattle.concatenation.specs.Running.{keptOf, verdictOf, settledOf}
 use Rattle.layout_run.specs.tally.Tally.{Tally, stepTally}
 use Rattle.layout_run.specs.tally.Walk.{turnOf}
 
@@ -33,7 +33,13 @@ kept-refused : (m : Result Running) (n i k : ℕ) → refused n i k ≡ verdictO
 kept-refused (ok x) n i k e = let z : _≡_ {A = ℕ} 0 1 = cc in absurd (omega arith)
 kept-refused (refused n₁ i₁ k₁) n i k e = cc
 
-module _ (m : Result Running) (r r′ : Running) (s : Checked) (kept : r′ ≡ keptOf r m) (verdict : resultOf s ≡ verdictOf m) (tl : Running → Tally) where
+module _ (m : Result Running) (r r′ : Running) (s : Checked) (said : (r′, resultOf s) ≡ settledOf r m) (tl : Running → Tally) where
+  kept : r′ ≡ keptOf r m
+  kept = ap (λ x. x .0) said
+
+  verdict : resultOf s ≡ verdictOf m
+  verdict = ap (λ x. x .1) said
+
   pub step-on : (x : Tally) → s ≡ C.Passed → x ≡ tl r′ → ok x ≡ (m >>= λ a. ok (tl a))
   step-on x h e = rw (kept-ok m r r′ kept (sym (ap resultOf h) ∙ verdict), e)
 

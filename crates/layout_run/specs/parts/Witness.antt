@@ -15,7 +15,7 @@ use Rattle.answer_facts.specs.fits.Fixed.{AllFixed, none-left, one-more}
 use Rattle.numbers.specs.declared.OptionUsize.the-variants as U
 use Rattle.concatenation.specs.Overall as S
 use Rattle.concatenation.specs.declared.alignment.align.FillerAlign.the-variants as A
-use Rattle.concatenation.specs.declared.overall.Place.the-variants as P
+use Rattle.concatenation.specs.declared.overall.OptionPlace.the-variants as P
 use Rattle.concatenation.specs.declared.overall.Summary.{Summary}
 use Rattle.layout_run.specs.cursor.Chain.{atMost}
 use Rattle.layout_run.specs.cursor.Cursor.{nextIn, standingIn, spotIn}
