@@ -14,7 +14,7 @@ use Rattle.listing.specs.Outcomes.{resultAs, listingOf}
 use Rattle.errors.specs.declared.Outcome.{Outcome}
 use Rattle.errors.specs.declared.Outcome.the-variants.{Accepted, Refused}
 use Rattle.listing.specs.declared.Written.{Written}
-use Rattle.layout_run.specs.Ran.{ranOn}
+use Rattle.definition.specs.Run.{ranOn}
 use Rattle.listing.specs.Shown.{Shown}
 
 -- the outcome's answer, read from the area afterwards, is the run's

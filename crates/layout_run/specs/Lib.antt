@@ -2,7 +2,6 @@
 pub mod Judged
 pub mod Order
 pub mod Printed
-pub mod Ran
 pub mod admission
 pub mod cursor
 pub mod merging

@@ -28,7 +28,7 @@ ghost use lib.ListN.{length};
 ghost use Rattle.definition.specs.Image.{counts};
 ghost use Rattle.errors.specs.Refused.{outcomeOf};
 ghost use Rattle.layout_run.specs.Order.{Admitted};
-ghost use Rattle.layout_run.specs.Ran.{ranOn};
+ghost use Rattle.definition.specs.Run.{ranOn};
 ghost use Rattle.layout_run.specs.Judged.{givenOf, JudgedIs, StartedIs, StagesIs};
 
 fn is_given(init: Init) -> bool

@@ -7,7 +7,8 @@ use lib.IntN.{+ℤ-assoc, +ℤ-comm}
 use borrow.Author.Tests.{le-ltb, lt-leb, leb-true, ne-eqb}
 use Rattle.definition.specs.Prelude.{ℕ, zero, suc, _+_, _*_, _-_, Bool, true, false, _&&_, not, Option, none, some, List, [], _∷_, length, getD, leb, ltb, eqb, ℤ, pos, _+ℤ_, _-ℤ_}
 use Rattle.definition.specs.Basics.{Result, ok, if_then_else_, within, isEmpty, sameBytes}
-use Rattle.definition.specs.Numbers.{fits128, char, digitWorth, digitIn, digitsFrom, signedAs, inner, unsignedParse, tryParse}
+use Rattle.definition.specs.Characters.{char}
+use Rattle.definition.specs.Numbers.{fits128, digitWorth, digitIn, digitsFrom, signedAs, inner, unsignedParse, tryParse}
 use Rattle.definition.specs.Refusals.{Reason, refuse, overflow, bound-overflow}
 use Rattle.definition.specs.Image.{padded}
 use Rattle.definition.specs.Text.{Part, noText, Item, items, isGroup, isToken, partOf, bytesOf}

@@ -2,7 +2,7 @@
 use mathlib.Core.Path.{_≡_}
 use Rattle.definition.specs.Prelude.{ℕ, Bool, true, false, none, some, List, length, eqb}
 use Rattle.definition.specs.Basics.{Result, ok, if_then_else_}
-use Rattle.definition.specs.Numbers.{char}
+use Rattle.definition.specs.Characters.{char}
 use Rattle.definition.specs.Ranges as Ranges
 use Rattle.errors.specs.Refused.{refusedAs}
 use Rattle.image.specs.items.Run.{itemsOf, tokenOf}
