@@ -2,10 +2,7 @@
 // nothing can refuse any more.
 mod admission;
 mod cursor;
-mod empty_input;
-mod input_limit;
 mod merging;
-mod output;
 mod parts;
 mod stage3;
 mod stage5;
@@ -21,7 +18,6 @@ use answer::Init;
 use concatenation::overall::OverallResult;
 use errors::Checked;
 use errors::Outcome;
-pub use output::answer;
 use stages::in_turn;
 ghost use mathlib.Core.Path.{_≡_};
 ghost use lib.ListN.{length};

@@ -21,7 +21,7 @@ fn width_at(s: &[u8], at: usize) -> u64
 pub(crate) fn put_group(out: &mut [u8], at: usize, s: &[u8], i: u32) -> usize
     ensures { λ r. ⌜ Put (now (out .entry)) at (groupLine i (concatAt (now (s .entry)) i)) (now (out .exit)) r ⌝ }
 {
-    let place = 32 + 20 * (i as usize);
+    let place = limits::HEAD_SIZE + limits::CONCATENATION_SIZE * (i as usize);
     let size = u32_at(s, place);
     let align = u32_at(s, place + 4);
     let flags = u32_at(s, place + 8);

@@ -42,7 +42,14 @@ pub(crate) fn put_groups(out: &mut [u8], at: usize, image: &[u8], s: &[u8]) -> u
     let mut i: u32 = 0;
     let mut k: u32 = 0;
     while i < groups {
-        let to = stop_of(k, u32_at(s, 32 + 20 * (i as usize)), fields);
+        let to = stop_of(
+            k,
+            u32_at(
+                s,
+                limits::HEAD_SIZE + limits::CONCATENATION_SIZE * (i as usize),
+            ),
+            fields,
+        );
         place = put_group(out, place, s, i);
         place = put_fields(out, place, image, s, k, to);
         k = to;

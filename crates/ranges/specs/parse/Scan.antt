@@ -52,5 +52,5 @@ Places image text run (S.Going s) = (s .found ≡ true) → Walked image text ru
 Places image text run (S.Refused r) = Unit
 
 pub record ScanIs (image : List ℕ) (text : ℕ) (run : Run) (q : Scanned) : Type 0 where
-  pub result : resultScan image text run q ≡ Ranges.scan (itemsOf image text run)
+  pub result : resultScan image text run q ≡ Ranges.scanDots (itemsOf image text run)
   pub places : Places image text run q
