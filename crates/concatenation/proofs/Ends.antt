@@ -6,7 +6,7 @@ use Rattle.definition.specs.Prelude.{ℕ, suc, _+_, Option, none, some, Bool, t
 use Rattle.definition.specs.Basics.{ok, refused}
 use Rattle.definition.specs.Refusals.{numberOf, no-common-width}
 use Rattle.definition.specs.Concatenation.{Concatenation}
-use Rattle.definition.specs.Overall.{Overall, overallFrom, overall, placeFrom, stage4}
+use Rattle.definition.specs.Overall.{Overall, overallFrom, overallStart, placeFrom, stage4}
 use Rattle.numbers.specs.declared.OptionUsize.the-variants as U
 use Rattle.concatenation.specs.declared.alignment.align.FillerAlign.the-variants as A
 use Rattle.concatenation.specs.declared.overall.Place.the-variants as P
@@ -43,10 +43,10 @@ pub opposite-as : (i : ℕ) (c : Concatenation) (later : List Concatenation) (p 
 opposite-as i c later p e = let g : placeFrom (isOpposite c) (suc i) later ≡ p = rw add-one at e in ap (oppositeAs i) (sym g)
 
 module _ (mode : ℕ) (given : Bool) (l : List Concatenation) where
-  pub ends : (o : Overall) → overallFrom (leb 1 mode && not given) 0 l (overall l) ≡ ok o → checksOf mode l o ≡ stage4 mode given l
+  pub ends : (o : Overall) → overallFrom (leb 1 mode && not given) 0 l (overallStart l) ≡ ok o → checksOf mode l o ≡ stage4 mode given l
   unfolding stage4
   ends o e = rw e
 
-  pub refuses : (n i k : ℕ) → overallFrom (leb 1 mode && not given) 0 l (overall l) ≡ refused n i k → refused n i k ≡ stage4 mode given l
+  pub refuses : (n i k : ℕ) → overallFrom (leb 1 mode && not given) 0 l (overallStart l) ≡ refused n i k → refused n i k ≡ stage4 mode given l
   unfolding stage4
   refuses n i k e = rw e

@@ -6,7 +6,7 @@ use native.Mathlib.Numerals.{add-one}
 use native.Mathlib.Nat.{le-of-suc-le-suc}
 use lib.Seq.{length-take-le, getD-take}
 use Rattle.definition.specs.Prelude.{ℕ, zero, suc, _+_, Option, none, some, Bool, true, false, List, [], _∷_, length, getD, take, drop}
-use Rattle.definition.specs.Basics.{Result, ok, refused, _>>=_, placed, if_then_else_}
+use Rattle.definition.specs.Basics.{Result, ok, refused, _>>=_, withPlaces, if_then_else_}
 use Rattle.definition.specs.Refusals.{Reason, refuse, middle-filler, opposite-fillers}
 use Rattle.definition.specs.Concatenation.{Concatenation, isAlign, align-mid}
 use Rattle.definition.specs.Overall.{Overall, joinWidth, checkSource, overallFrom, middleFrom, oppositeFrom, placeFrom}
@@ -105,7 +105,7 @@ module _ (F : ℕ → List Concatenation → Result Unit) (one : ℕ → Concate
 
 -- a refusal at the place that was found, if one was
 found : Bool → ℕ → Reason → Option ℕ → Result Unit → Result Unit
-found t i r p later = if t then elim p [ none ↦ later | some k ↦ placed i k (refuse r) ] else later
+found t i r p later = if t then elim p [ none ↦ later | some k ↦ withPlaces i k (refuse r) ] else later
 
 found-more : (t : Bool) (i : ℕ) (r : Reason) (p : Option ℕ) (later : Result Unit) → found t i r p later ≡ andThen (found t i r p (ok tt)) later
 unfolding found

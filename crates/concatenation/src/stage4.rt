@@ -20,7 +20,7 @@ ghost use Prim.Native.Nat.{_+_, _≤_, _<_};
 ghost use lib.ListN.{length, take, drop};
 ghost use Rattle.definition.specs.Basics.{refused};
 ghost use Rattle.definition.specs.Concatenation.{Concatenation};
-ghost use Rattle.definition.specs.Overall.{overallFrom, overall, middleFrom, oppositeFrom, placeFrom, stage4 as stage4Of};
+ghost use Rattle.definition.specs.Overall.{overallFrom, overallStart, middleFrom, oppositeFrom, placeFrom, stage4 as stage4Of};
 ghost use Rattle.errors.specs.Refused.{resultOf};
 ghost use Rattle.numbers.specs.Value.{optionUsize};
 ghost use Rattle.concatenation.specs.alignment.Align.{alignOf};
@@ -38,7 +38,7 @@ fn refused_at(number: u32, i: u32, k: u32) -> Checked
 
 fn overall_of(bare: bool, cs: [Summary; 16], n: usize) -> OverallResult
     requires { ⌜ n ≤ 16 ⌝ }
-    ensures { λ q. ⌜ ((l : List Concatenation) → Summarised l (take n cs) → answerOf q ≡ overallFrom bare 0 l (overall l)) ⌝ }
+    ensures { λ q. ⌜ ((l : List Concatenation) → Summarised l (take n cs) → answerOf q ≡ overallFrom bare 0 l (overallStart l)) ⌝ }
 {
     let mut o = start(n, cs[0]);
     let mut i: usize = 0;

@@ -10,7 +10,7 @@ ghost use lib.Dec.{eqb, ltb};
 ghost use lib.IntN.{pos, natAbs};
 ghost use lib.Signed.{ltZ, nonNeg};
 ghost use Rattle.numbers.specs.Steps.{orderOf};
-ghost use Rattle.numbers.specs.Value.{bits, valueOf, optionUsize, toUsize, toNonZeroUsize};
+ghost use Rattle.numbers.specs.Value.{bits, valueOf, optionUsize, toUsize};
 
 // Two halves, in two's complement.
 pub struct I128 {
@@ -80,20 +80,6 @@ pub fn i128_to_usize(x: I128) -> OptionUsize
 {
     if x.high == 0 {
         OptionUsize::Some(x.low as usize)
-    } else {
-        OptionUsize::None
-    }
-}
-
-pub fn i128_to_nonzerousize(x: I128) -> OptionUsize
-    ensures { λ r. ⌜ optionUsize r ≡ toNonZeroUsize (valueOf x) ⌝ }
-{
-    if x.high == 0 {
-        if x.low == 0 {
-            OptionUsize::None
-        } else {
-            OptionUsize::Some(x.low as usize)
-        }
     } else {
         OptionUsize::None
     }

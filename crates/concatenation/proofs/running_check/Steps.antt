@@ -2,7 +2,7 @@
 use mathlib.Core.Path.{_≡_, refl, ap}
 use borrow.Author.Tests.{eq-eqb, ne-eqb}
 use Rattle.definition.specs.Prelude.{ℕ, _+_, none, some, Bool, true, false, not, _&&_, eqb, ℤ, natAbs}
-use Rattle.definition.specs.Basics.{ok, refused, placed, if_then_else_}
+use Rattle.definition.specs.Basics.{ok, refused, withPlaces, if_then_else_}
 use Rattle.definition.specs.Refusals.{refuse, lone-filler-sink, second-filler, sum-overflow}
 use Rattle.definition.specs.Component.{Component, ComponentType, literal, variable, filler, hasEnd}
 use Rattle.definition.specs.Concatenation.{Running, addWidth, checkType, hasFullRange, isAlign, align-none, alignOf as placedAlign}
@@ -67,11 +67,11 @@ module _ (i k : ℕ) (first last : Bool) (c : Component) (s : Shape) (h : HasSha
 
 pub step-on :
     (i k : ℕ) (first last : Bool) (c : Component) (s : Shape) → HasShape c s → (r r₁ : Running)
-    → placed i 0 (addAs (optionOf (s .width)) r) ≡ ok r₁
-    → stepOf i k first last c r ≡ placed i k (checkAs (s .kind) (s .«has_end») (s .full) (not (eqb i 0)) first last r₁)
-step-on i k first last c s h r r₁ e = rw (add-is i k first last c s h r, e) (ap (placed i k) (check-is i k first last c s h r₁))
+    → withPlaces i 0 (addAs (optionOf (s .width)) r) ≡ ok r₁
+    → stepOf i k first last c r ≡ withPlaces i k (checkAs (s .kind) (s .«has_end») (s .full) (not (eqb i 0)) first last r₁)
+step-on i k first last c s h r r₁ e = rw (add-is i k first last c s h r, e) (ap (withPlaces i k) (check-is i k first last c s h r₁))
 
 pub step-off :
     (i k : ℕ) (first last : Bool) (c : Component) (s : Shape) → HasShape c s → (r : Running) (n a b : ℕ)
-    → placed i 0 (addAs (optionOf (s .width)) r) ≡ refused n a b → stepOf i k first last c r ≡ refused n a b
+    → withPlaces i 0 (addAs (optionOf (s .width)) r) ≡ refused n a b → stepOf i k first last c r ≡ refused n a b
 step-off i k first last c s h r n a b e = rw (add-is i k first last c s h r, e)

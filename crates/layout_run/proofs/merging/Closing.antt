@@ -12,7 +12,7 @@ use Rattle.definition.specs.Image.{Placed, padded, bytesFor}
 use Rattle.definition.specs.Tree.{u32, packed}
 use Rattle.definition.specs.Ranges.{val}
 use Rattle.definition.specs.Component.{Component, literal}
-use Rattle.definition.specs.Concatenation.{bitsOf, fixedLiteral}
+use Rattle.definition.specs.Concatenation.{bitsOf, wholeLiteral}
 use Rattle.definition.specs.Answer.{componentBytes, usbBytes}
 use Rattle.laws.specs.Tests.{by-test}
 use Rattle.laws.specs.Lists.{length-tab}
@@ -150,7 +150,7 @@ block-first base w m ms after v room p q =
 abbrev shown : ℕ → Component
 shown n = record { c-type = literal (replicate (n % 2 ^ 32) 0); range = fixedRange n }
 
-shown-as : (at : ℕ) (bits : List ℕ) → componentBytes at (record { base = 0; value = shown (length bits) }) ≡ componentBytes at (record { base = 0; value = fixedLiteral bits })
+shown-as : (at : ℕ) (bits : List ℕ) → componentBytes at (record { base = 0; value = shown (length bits) }) ≡ componentBytes at (record { base = 0; value = wholeLiteral bits })
 shown-as at bits =
     let n : ℕ = length bits in
     ap (λ (x : List ℕ). u32 1 ++ u32 0 ++ u32 0 ++ x ++ u32 at ++ u32 1 ++ usbBytes 0 (val (pos 0)) ++ usbBytes 0 (val (pos n)))
@@ -174,6 +174,6 @@ pub close-some : (s : Merging) (entry after : List ℕ) (range : Usbr) (w : Writ
     → CloseIs s (record { w = w; running = false; bits = 0 }) entry after
 close-some s entry after range w t fixed fin =
     close-block s entry after w t
-    (λ b l base ms e room. fin [] 0 (shown (s .bits)) (fixedLiteral (b .value)) (replicate (s .bits % 2 ^ 32) 0, refl, length-replicate (s .bits % 2 ^ 32) 0)
+    (λ b l base ms e room. fin [] 0 (shown (s .bits)) (wholeLiteral (b .value)) (replicate (s .bits % 2 ^ 32) 0, refl, length-replicate (s .bits % 2 ^ 32) 0)
     (fixed [] 0) (ap (λ (n : ℕ). componentBytes (s .w .offset) (record { base = 0; value = shown n })) (sym l) ∙ shown-as (s .w .offset) (b .value)) l base ms e
     (record { blocks = room .blocks; literal-block = room .literal-block; offsets = room .offsets }))

@@ -7,7 +7,7 @@ use native.Mathlib.Omega.{arith}
 use borrow.Author.Needs.{needs}
 use lib.ListN.{take, drop}
 use Rattle.definition.specs.Concatenation.{Concatenation}
-use Rattle.definition.specs.Overall.{overallFrom, overall}
+use Rattle.definition.specs.Overall.{overallFrom, overallStart}
 use Rattle.concatenation.specs.Overall.{answerOf}
 use Rattle.concatenation.specs.Overall.{Summarised, overallOf}
 use Rattle.concatenation.proofs.Turns.{turn-at, end-at, starts-at, over-on, over-off, over-end}
@@ -17,7 +17,7 @@ use Rattle.concatenation.proofs.stage4.overall_of.Tie as tie
 abbrev Inv-loop : tie.InvT-loop
 Inv-loop bare n cs o₀ i₀ o i =
     (i ≤ n) × ((l : List Concatenation) → Summarised l (take n cs) → overallFrom bare i (drop i l) (overallOf o) ≡ overallFrom bare 0 l
-    (overall l))
+    (overallStart l))
 
 abbrev μ-loop : tie.MeasureT-loop
 μ-loop bare n cs o₀ i₀ o i = n - i

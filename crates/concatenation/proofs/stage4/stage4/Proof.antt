@@ -3,7 +3,7 @@
 use mathlib.Core.Path.{sym, _∙_, ap}
 use mathlib.Core.Bool.{Bool}
 use borrow.Author.Needs.{needs}
-use Rattle.definition.specs.Overall.{overallFrom, overall}
+use Rattle.definition.specs.Overall.{overallFrom, overallStart}
 use Rattle.concatenation.specs.Overall.{overallOf, answerOf}
 use Rattle.concatenation.proofs.Ends.{ends, refuses}
 use Rattle.concatenation.proofs.stage4.stage4.Statement.{statement}
@@ -32,7 +32,7 @@ returns c =
     let p = c .before .before .before .before .before .before .before .args in
     λ l h. c .checks .ensures l (rw (c .before .before .before .before .before .before .at-most-16 .ensures .1 (p .cs) (c .before .before
     .before .before .before .before .before .good .1 .1 .0 .1 .0 .1)) h) ∙ ends (p .mode) (p .given) l (overallOf (c .before .before .o
-    .given .0 .0)) (ap (λ (b : Bool). overallFrom b 0 l (overall l)) (sym (c .before .before .before .before .before .both .ensures)) ∙ sym
+    .given .0 .0)) (ap (λ (b : Bool). overallFrom b 0 l (overallStart l)) (sym (c .before .before .before .before .before .both .ensures)) ∙ sym
     (c .before .before .before .before .overall-of .ensures l (rw (c .before .before .before .before .before .before .at-most-16 .ensures
     .1 (p .cs) (c .before .before .before .before .before .before .before .good .1 .1 .0 .1 .0 .1)) h)) ∙ ap answerOf (c .before .before .o
     .given .1))
@@ -40,7 +40,7 @@ returns c =
 returns-2 : tie.Need-returns-2
 returns-2 c =
     let p = c .before .before .before .before .before .before .args in
-    λ l h. refuses (p .mode) (p .given) l _ _ _ (ap (λ (b : Bool). overallFrom b 0 l (overall l)) (sym (c .before .before .before .before
+    λ l h. refuses (p .mode) (p .given) l _ _ _ (ap (λ (b : Bool). overallFrom b 0 l (overallStart l)) (sym (c .before .before .before .before
     .both .ensures)) ∙ sym (c .before .before .before .overall-of .ensures l (rw (c .before .before .before .before .before .at-most-16
     .ensures .1 (p .cs) (c .before .before .before .before .before .before .good .1 .1 .0 .1 .0 .1)) h)) ∙ ap answerOf (c .before .e .given
     .1))
