@@ -2,7 +2,7 @@
 pub mod flags;
 
 ghost use mathlib.Core.Path.{_≡_};
-ghost use Rattle.definition.specs.Basics.{refused, placed};
+ghost use Rattle.definition.specs.Basics.{refused, withPlaces};
 ghost use Rattle.errors.specs.Refused.{refusedAs};
 
 // A number of document 01 and two places: concatenation and component, 0 where there is none.
@@ -37,7 +37,7 @@ pub fn refuse(number: u32) -> Refusal
 
 // The same refusal at other places.
 pub fn placed_at(r: Refusal, concatenation: u32, component: u32) -> Refusal
-    ensures { λ q. ⌜ refusedAs {A = Unit} q ≡ placed concatenation component (refusedAs r) ⌝ }
+    ensures { λ q. ⌜ refusedAs {A = Unit} q ≡ withPlaces concatenation component (refusedAs r) ⌝ }
 {
     Refusal {
         number: r.number,

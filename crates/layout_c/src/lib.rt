@@ -22,7 +22,7 @@ pub extern "C" fn layout_run(image: &[u8], mode: u32, area: &mut [u8]) -> u64
 pub extern "C" fn layout_listing(input: &[u8], out: &mut [u8]) -> usize
     ensures { λ n. ⌜ (n, now (out .exit)) ≡ listedIn (now (input .entry)) (now (out .entry)) ⌝ }
 {
-    match layout_run::answer(input, out) {
+    match output::answer(input, out) {
         Written::Whole(n) => n,
         Written::Cut => 0,
     }

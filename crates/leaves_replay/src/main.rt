@@ -193,7 +193,7 @@ fn replay_file(path: &[u8], images: bool, buf: &mut [u8]) {
 }
 
 fn main() {
-    let mut buf = [0u8; 51306];
+    let mut buf = [0u8; limits::MAX_INPUT];
     replay_file(b"numbers", false, &mut buf);
     replay_file(b"images", true, &mut buf);
 }

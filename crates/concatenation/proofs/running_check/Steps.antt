@@ -2,7 +2,7 @@
 use mathlib.Core.Path.{_≡_}
 use borrow.Author.Tests.{eq-eqb, ne-eqb}
 use Rattle.definition.specs.Prelude.{ℕ, _+_, none, some, Bool, true, false, not, _&&_, eqb, ℤ, natAbs}
-use Rattle.definition.specs.Basics.{ok, refused, placed, if_then_else_}
+use Rattle.definition.specs.Basics.{ok, refused, withPlaces, if_then_else_}
 use Rattle.definition.specs.Refusals.{refuse, lone-filler-sink, second-filler, sum-overflow}
 use Rattle.definition.specs.Concatenation.{Running, isAlign, align-none, alignOf as placedAlign}
 use Rattle.numbers.specs.Value.{optionOf}

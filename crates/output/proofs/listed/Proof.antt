@@ -1,9 +1,9 @@
--- `layout_run::output::listed` meets its contract: the listing of what the run left in an area as long as the program's. Assumes nothing.
+-- `output::listed` meets its contract: the listing of what the run left in an area as long as the program's. Assumes nothing.
 use borrow.Author.Needs.{needs}
 use mathlib.Core.Path.{sym}
-use Rattle.layout_run.proofs.Listing.{shows}
-use Rattle.layout_run.proofs.output.listed.Statement.{statement}
-use Rattle.layout_run.proofs.output.listed.Tie as tie
+use Rattle.output.proofs.Listing.{shows}
+use Rattle.output.proofs.listed.Statement.{statement}
+use Rattle.output.proofs.listed.Tie as tie
 
 returns : tie.Need-returns
 returns c =

@@ -1,9 +1,9 @@
--- `layout_run::empty_input::write_empty` meets its contract: the listing of number 2. Assumes nothing.
+-- `output::write_empty` meets its contract: the listing of number 2. Assumes nothing.
 use borrow.Author.Needs.{needs}
 use Rattle.definition.specs.Prelude.{[]}
-use Rattle.layout_run.proofs.empty_input.Empty.{shows-empty}
-use Rattle.layout_run.proofs.empty_input.write_empty.Statement.{statement}
-use Rattle.layout_run.proofs.empty_input.write_empty.Tie as tie
+use Rattle.output.proofs.Empty.{shows-empty}
+use Rattle.output.proofs.write_empty.Statement.{statement}
+use Rattle.output.proofs.write_empty.Tie as tie
 
 returns : tie.Need-returns
 returns c =

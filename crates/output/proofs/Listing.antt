@@ -1,10 +1,11 @@
 -- The listing of what a run leaves in its area is that of the definition's run, and an input's is the program's output. Assumes nothing.
 use mathlib.Core.Path.{_≡_, refl, ap, subst, _∙_}
-use mathlib.Core.Logic.{_⊎_, inl, inr}
 use native.Mathlib.Omega.{arith}
-use Prim.Native.Nat.{_≤_, _<_}
+use Prim.Native.Nat.{_≤_, _<_, min}
+use borrow.Author.Tests.{leb-true, leb-false}
 use lib.Seq.{take-append-seam, take-all}
-use Rattle.definition.specs.Prelude.{ℕ, _-_, List, [], _∷_, length, take, drop, getD}
+use Rattle.definition.specs.Prelude.{ℕ, _-_, List, [], _∷_, length, take, drop, getD, leb}
+use Rattle.laws.specs.Tests.{by-test}
 use Rattle.definition.specs.Basics.{Result, ok, refused, _>>=_}
 use Rattle.definition.specs.Limits.{maxInput}
 use Rattle.definition.specs.Listing.{listing, output, programArea}
@@ -14,7 +15,7 @@ use Rattle.listing.specs.Outcomes.{resultAs, listingOf}
 use Rattle.errors.specs.declared.Outcome.{Outcome}
 use Rattle.errors.specs.declared.Outcome.the-variants.{Accepted, Refused}
 use Rattle.listing.specs.declared.Written.{Written}
-use Rattle.layout_run.specs.Ran.{ranOn}
+use Rattle.definition.specs.Run.{ranOn}
 use Rattle.listing.specs.Shown.{Shown}
 
 -- the outcome's answer, read from the area afterwards, is the run's
@@ -53,17 +54,19 @@ unfolding output
 read-part [] h part e = absurd (omega arith)
 read-part (x ∷ input) h part e = rw e refl
 
--- of an input that is not empty at least one byte is judged
-pub some-judged : (n stop : ℕ) → 0 < n → (stop ≡ n) ⊎ (stop ≡ maxInput) → 1 ≤ stop
-some-judged n stop h (inl e) = omega arith
-some-judged n stop h (inr e) = omega arith
+-- of an input that is not empty at least one byte is judged, and none beyond its end
+pub some-judged : (n stop : ℕ) → 0 < n → stop ≡ min n maxInput → (1 ≤ stop) × (stop ≤ n)
+some-judged n stop h e = (omega arith, omega arith)
 
 -- up to the length or the limit, whichever is less
-pub read-judged : (input : List ℕ) (stop : ℕ) → 0 < length input → stop ≤ maxInput → (stop ≡ length input) ⊎ (stop ≡ maxInput)
+pub read-judged : (input : List ℕ) (stop : ℕ) → 0 < length input → stop ≡ min (length input) maxInput
     → (part : List ℕ) → part ≡ take (stop - 1) (drop 1 input) → listing part (run part (getD input 0 0) programArea) ≡ output input
-read-judged input stop h le (inl e) part p =
-    read-whole input h (subst (λ (n : ℕ). n ≤ maxInput) e le) part (p ∙ ap (λ (n : ℕ). take (n - 1) (drop 1 input)) e)
-read-judged input stop h le (inr e) part p = read-part input h part (p ∙ ap (λ (n : ℕ). take (n - 1) (drop 1 input)) e)
+read-judged input stop h e part p =
+    by-test (leb (length input) maxInput)
+    (λ t. let le = leb-true (length input) maxInput t in
+    let s : stop ≡ length input = omega arith in read-whole input h le part (p ∙ ap (λ (n : ℕ). take (n - 1) (drop 1 input)) s))
+    (λ t. let gt = leb-false (length input) maxInput t in
+    let s : stop ≡ maxInput = omega arith in read-part input h part (p ∙ ap (λ (n : ℕ). take (n - 1) (drop 1 input)) s))
 
 -- a listing shown is any list equal to it shown
 pub shown-as : (out L L' out' : List ℕ) (w : Written) → L ≡ L' → Shown out L out' w → Shown out L' out' w

@@ -1,11 +1,11 @@
--- `layout_run::output::answer` meets its contract: nothing read, or all that is judged. Assumes nothing.
+-- `output::answer` meets its contract: nothing read, or all that is judged. Assumes nothing.
 use borrow.Author.Needs.{needs}
 use mathlib.Core.Path.{refl}
 use native.Mathlib.Omega.{arith}
 use Prim.Native.Nat.{_≤_}
-use Rattle.layout_run.proofs.Listing.{shown-as, empty-input, some-judged, read-judged}
-use Rattle.layout_run.proofs.output.answer.Statement.{statement}
-use Rattle.layout_run.proofs.output.answer.Tie as tie
+use Rattle.output.proofs.Listing.{shown-as, empty-input, some-judged, read-judged}
+use Rattle.output.proofs.answer.Statement.{statement}
+use Rattle.output.proofs.answer.Tie as tie
 
 returns : tie.Need-returns
 returns c =
@@ -21,22 +21,19 @@ cast-mode c = omega (arith, c .shared-slice-known2 .given 0)
 
 sub-listed : tie.Need-sub-listed
 sub-listed c =
-    let (a, b, d) = c .judged .ensures in
-    let h : 1 ≤ c .judged .result = some-judged _ _ (search needs) d in
+    let (a, b) = some-judged _ _ (search needs) (c .judged .ensures) in
     search needs
 
 part-listed-start : tie.Need-part-listed-start
 part-listed-start c =
-    let (a, b, d) = c .judged .ensures in
-    let h : 1 ≤ c .judged .result = some-judged _ _ (search needs) d in
+    let (a, b) = some-judged _ _ (search needs) (c .judged .ensures) in
     search needs
 
 returns-2 : tie.Need-returns-2
 returns-2 c =
     let j = c .before .before .before .before .before in
-    let (a, b, d) = j .judged .ensures in
     shown-as (j .before .before .before .before .before .args .out .now) _ _ (c .before .before .listed .last .1 .1 .0) (c .before .before .listed .result)
-    (read-judged (j .before .before .before .before .before .args .input .now) (j .judged .result) (search needs) b d _ refl)
+    (read-judged (j .before .before .before .before .before .args .input .now) (j .judged .result) (search needs) (j .judged .ensures) _ refl)
     (c .before .before .listed .ensures)
 
 pub answer-spec : {M : Type 1} → statement M
