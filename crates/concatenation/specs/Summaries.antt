@@ -1,6 +1,6 @@
 -- Stage 4 over what it reads of each concatenation, in document 01's order (stage4 of src/concatenation.rs).
 use Rattle.definition.specs.Prelude.{ℕ, suc, Bool, true, false, _&&_, _||_, not, Option, none, some, List, [], _∷_, length, leb, eqb}
-use Rattle.definition.specs.Basics.{Result, ok, _>>=_, placed, if_then_else_}
+use Rattle.definition.specs.Basics.{Result, ok, _>>=_, withPlaces, if_then_else_}
 use Rattle.definition.specs.Refusals.{need, refuse, filler-without-start, unequal-widths, no-common-width, only-source, middle-filler, opposite-fillers}
 use Rattle.definition.specs.Concatenation.{FillerAlign, align-none, align-mid, align-multiple, isAlign}
 use Rattle.definition.specs.Overall.{Overall, placeFrom, joinAlign, isSided}
@@ -38,13 +38,13 @@ joinWidthAs i s o =
       | none ↦ ok (joinedAs s (o .known) (o .width) o)
       | some w ↦ elim (o .width) [
         | none ↦ ok (joinedAs s i (some w) o)
-        | some v ↦ (placed (o .known) i (need (eqb w v) unequal-widths) >>= λ _. ok (joinedAs s (o .known) (some v) o))
+        | some v ↦ (withPlaces (o .known) i (need (eqb w v) unequal-widths) >>= λ _. ok (joinedAs s (o .known) (some v) o))
       ]
     ]
 
 -- "40 the first filler in concatenation 0 under mode 1 or 2 without starting value": `bare` says that the mode is one and there is none
 abbrev pub checkSourceAs : Bool → ℕ → Summary → Result Unit
-checkSourceAs bare i s = elim (s .filler) [ none ↦ ok tt | some k ↦ placed 0 k (need (not (bare && eqb i 0)) filler-without-start) ]
+checkSourceAs bare i s = elim (s .filler) [ none ↦ ok tt | some k ↦ withPlaces 0 k (need (not (bare && eqb i 0)) filler-without-start) ]
 
 -- one turn of the loop
 abbrev pub turnAs : Bool → ℕ → Summary → Overall → Result Overall
@@ -83,7 +83,7 @@ onlyAs n deterministic = need (deterministic || not (eqb n 1)) only-source
 
 -- "44 not deterministic, filler in the middle": the first such concatenation's unbounded filler
 abbrev pub middleAt : ℕ → Summary → Result Unit
-middleAt i s = if isAlign (s .align) align-mid then elim (s .unbounded) [ none ↦ ok tt | some k ↦ placed i k (refuse middle-filler) ] else ok tt
+middleAt i s = if isAlign (s .align) align-mid then elim (s .unbounded) [ none ↦ ok tt | some k ↦ withPlaces i k (refuse middle-filler) ] else ok tt
 
 unfoldable pub middleFromAs : ℕ → List Summary → Result Unit
 middleFromAs i [] = ok tt
@@ -99,7 +99,7 @@ abbrev pub isOpposite : FillerAlign → Summary → Bool
 isOpposite a s = isSided a && isSided (s .align) && not (isAlign a (s .align))
 
 abbrev pub oppositeTo : ℕ → Option ℕ → Result Unit
-oppositeTo i later = elim later [ none ↦ ok tt | some j ↦ placed i j (refuse opposite-fillers) ]
+oppositeTo i later = elim later [ none ↦ ok tt | some j ↦ withPlaces i j (refuse opposite-fillers) ]
 
 -- of concatenation i, the first of the list
 abbrev pub oppositeAt : ℕ → List Summary → Result Unit

@@ -2,10 +2,10 @@
 use mathlib.Core.Path.{_≡_, refl, _∙_, ap, ap₂}
 use lib.ListN.{length-map}
 use Rattle.definition.specs.Prelude.{ℕ, suc, Option, none, some, Bool, true, false, List, [], _∷_, map}
-use Rattle.definition.specs.Basics.{Result, ok, refused, _>>=_, placed, if_then_else_}
+use Rattle.definition.specs.Basics.{Result, ok, refused, _>>=_, withPlaces, if_then_else_}
 use Rattle.definition.specs.Refusals.{Reason, refuse, middle-filler, opposite-fillers}
 use Rattle.definition.specs.Concatenation.{Concatenation, isAlign, align-mid}
-use Rattle.definition.specs.Overall.{Overall, joinWidth, checkSource, overallFrom, overall, middleFrom, oppositeFrom, placeFrom, stage4}
+use Rattle.definition.specs.Overall.{Overall, joinWidth, checkSource, overallFrom, overallStart, middleFrom, oppositeFrom, placeFrom, stage4}
 use Rattle.concatenation.specs.declared.overall.Summary.{Summary as Now}
 use Rattle.concatenation.specs.Overall.{summaryOf, fillerIn, unboundedIn, HasSummary, Summarised, none-left, one-more}
 use Rattle.concatenation.specs.Summaries.{Summary, andThen, overallFromAs, overallAs, middleAt, middleFromAs, isOpposite, oppositeFromAs, stage4As}
@@ -50,13 +50,13 @@ overall-from bare i [] o = refl
 overall-from bare i (c ∷ l) o =
     one-turn (joinWidth i c o) (checkSource bare i c) (overallFromAs bare (suc i) (map summaryIn l)) (overallFrom bare (suc i) l) (overall-from bare (suc i) l)
 
-overall-start : (l : List Concatenation) → overallAs (map summaryIn l) ≡ overall l
+overall-start : (l : List Concatenation) → overallAs (map summaryIn l) ≡ overallStart l
 overall-start [] = refl
 overall-start (c ∷ l) = refl
 
 -- a refusal at the place that was found, if one was
 found : Bool → ℕ → Reason → Option ℕ → Result Unit → Result Unit
-found t i r p later = if t then elim p [ none ↦ later | some k ↦ placed i k (refuse r) ] else later
+found t i r p later = if t then elim p [ none ↦ later | some k ↦ withPlaces i k (refuse r) ] else later
 
 found-more : (t : Bool) (i : ℕ) (r : Reason) (p : Option ℕ) (later : Result Unit) → andThen (found t i r p (ok tt)) later ≡ found t i r p later
 unfolding found
@@ -88,7 +88,7 @@ opposite-from i (c ∷ l) =
 
 of-all : (mode : ℕ) (given : Bool) (l : List Concatenation) → stage4As mode given (map summaryIn l) ≡ stage4 mode given l
 unfolding stage4As stage4
-of-all mode given l = rw (overall-start l, overall-from _ 0 l (overall l), length-map l summaryIn, middle-from 0 l, opposite-from 0 l)
+of-all mode given l = rw (overall-start l, overall-from _ 0 l (overallStart l), length-map l summaryIn, middle-from 0 l, opposite-from 0 l)
 
 pub stage4-as : (mode : ℕ) (given : Bool) {l : List Concatenation} {ss : List Now} → Summarised l ss
     → stage4As mode given (map summaryOf ss) ≡ stage4 mode given l

@@ -7,7 +7,7 @@ use Rattle.definition.specs.Image.{Placed}
 use Rattle.definition.specs.Text.{noText}
 use Rattle.definition.specs.Ranges.{val, unbounded}
 use Rattle.definition.specs.Component.{Component, literal, variable, filler}
-use Rattle.definition.specs.Concatenation.{Concatenation, running, align-none, align-lsb}
+use Rattle.definition.specs.Concatenation.{Concatenation, unchecked, align-none, align-lsb}
 use Rattle.definition.specs.Overall.{placeFrom, stage4}
 use Rattle.numbers.specs.Value.{valueOf}
 use Rattle.numbers.specs.declared.OptionI128.the-variants as I
@@ -52,19 +52,19 @@ dots-shape : HasShape dots dots-told
 dots-shape = record { kind-is = refl; width-is = refl; end-is = refl; full-is = refl }
 
 -- a step over each, by the shape and so by the component: the bits in a source and in a sink, a name, and `..` alone in a sink
-bits-step : stepOf 0 0 true true bits running ≡ ok (record { width = some 2; align = align-none; deterministic = true; nonzero = true })
+bits-step : stepOf 0 0 true true bits unchecked ≡ ok (record { width = some 2; align = align-none; deterministic = true; nonzero = true })
 unfolding half128 valueOf
-bits-step = step-as bits bits-told bits-shape 0 0 true true running
+bits-step = step-as bits bits-told bits-shape 0 0 true true unchecked
 
-sink-step : stepOf 1 0 true true bits running ≡ refused 30 1 0
+sink-step : stepOf 1 0 true true bits unchecked ≡ refused 30 1 0
 unfolding half128 valueOf
-sink-step = step-as bits bits-told bits-shape 1 0 true true running
+sink-step = step-as bits bits-told bits-shape 1 0 true true unchecked
 
-name-step : stepOf 1 1 false true name running ≡ ok (record { width = none; align = align-none; deterministic = true; nonzero = true })
-name-step = step-as name name-told name-shape 1 1 false true running
+name-step : stepOf 1 1 false true name unchecked ≡ ok (record { width = none; align = align-none; deterministic = true; nonzero = true })
+name-step = step-as name name-told name-shape 1 1 false true unchecked
 
-dots-step : stepOf 1 0 true true dots running ≡ refused 31 1 0
-dots-step = step-as dots dots-told dots-shape 1 0 true true running
+dots-step : stepOf 1 0 true true dots unchecked ≡ refused 31 1 0
+dots-step = step-as dots dots-told dots-shape 1 0 true true unchecked
 
 abbrev at-0 : Component → Placed Component
 at-0 c = record { base = 0; value = c }

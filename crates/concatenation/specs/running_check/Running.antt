@@ -78,7 +78,7 @@ checkAs kind ends full sink first last r =
 -- component k of concatenation i, by its shape
 abbrev pub stepAs : ℕ → ℕ → Bool → Bool → Shape → Running → Result Running
 stepAs i k first last s r =
-    placed i 0 (addAs (optionOf (s .width)) r) >>= λ r₁. placed i k (checkAs (s .kind) (s .«has_end») (s .full) (not (eqb i 0)) first last r₁)
+    withPlaces i 0 (addAs (optionOf (s .width)) r) >>= λ r₁. withPlaces i k (checkAs (s .kind) (s .«has_end») (s .full) (not (eqb i 0)) first last r₁)
 
 -- the running check after a step, as it was where the step refuses; and whether it refused
 abbrev pub keptOf : Running → Result Running → Running

@@ -12,7 +12,7 @@ ghost use mathlib.Core.Path.{_≡_};
 ghost use mathlib.Core.Bool.{not};
 ghost use mathlib.Core.Option.{some};
 ghost use lib.Dec.{eqb};
-ghost use Rattle.definition.specs.Basics.{placed, refused as refusedDef};
+ghost use Rattle.definition.specs.Basics.{withPlaces, refused as refusedDef};
 ghost use Rattle.errors.specs.Refused.{resultOf};
 ghost use Rattle.numbers.specs.Value.{valueOf, optionOf};
 ghost use Rattle.concatenation.specs.running_check.Running.{runningOf, steppedOf, finishOf, settledOf, advancedAs};
