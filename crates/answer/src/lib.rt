@@ -120,22 +120,22 @@ pub enum Init {
     Missing,
 }
 
-struct Start {
+struct InitFields {
     given: bool,
     base: u32,
     text: Part,
 }
 
-fn start_of(init: Init) -> Start
+fn start_of(init: Init) -> InitFields
     ensures { λ r. ⌜ r ≡ startText init ⌝ }
 {
     match init {
-        Init::Given(base, text) => Start {
+        Init::Given(base, text) => InitFields {
             given: true,
             base,
             text,
         },
-        Init::Missing => Start {
+        Init::Missing => InitFields {
             given: false,
             base: 0,
             text: Part { at: 0, len: 0 },

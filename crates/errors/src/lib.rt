@@ -3,7 +3,7 @@ pub mod flags;
 
 ghost use mathlib.Core.Path.{_≡_};
 ghost use Rattle.definition.specs.Basics.{refused, withPlaces};
-ghost use Rattle.errors.specs.Refused.{refusedAs};
+ghost use Rattle.errors.specs.Refused.{refusedAs, resultOf, numberIn};
 
 // A number of document 01 and two places: concatenation and component, 0 where there is none.
 pub struct Refusal {
@@ -43,5 +43,15 @@ pub fn placed_at(r: Refusal, concatenation: u32, component: u32) -> Refusal
         number: r.number,
         concatenation,
         component,
+    }
+}
+
+// A check's answer as one number: 0, or the refusal's.
+pub fn number_of(c: Checked) -> u32
+    ensures { λ n. ⌜ n ≡ numberIn (resultOf c) ⌝ }
+{
+    match c {
+        Checked::Passed => 0,
+        Checked::Refused(r) => r.number,
     }
 }

@@ -37,11 +37,7 @@ fn write_empty(out: &mut [u8]) -> Written
 fn judged(n: usize) -> usize
     ensures { λ r. ⌜ r ≡ min n maxInput ⌝ }
 {
-    if n < limits::MAX_INPUT {
-        n
-    } else {
-        limits::MAX_INPUT
-    }
+    numbers::least(n, limits::MAX_INPUT)
 }
 
 // The whole output for an input, one mode byte and an image.

@@ -82,7 +82,7 @@ fn finish(area: &mut [u8], base: u32, kind: Kind, range: Usbr, bits: usize, w: W
         range,
     );
     Writing {
-        at: std::num::wrapping_add_usize(w.at, 72),
+        at: std::num::wrapping_add_usize(w.at, limits::COMPONENT_SIZE),
         literals: w.literals,
         offset: std::num::wrapping_add_usize(w.offset, bytes_for(bits)),
     }
