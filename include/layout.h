@@ -1,4 +1,4 @@
-/* The layout reader: two functions of the static library target/staticlib/liblayout_c.a, which `rt staticlib layout_c` proves and
+/* The layout reader: three functions of the static library target/staticlib/liblayout_c.a, which `rt staticlib layout_c` proves and
  * writes (for x86-64 Linux). They take any bytes, allocate nothing, keep nothing between calls, and write nothing but what is lent to
  * be written.
  *
@@ -47,6 +47,9 @@ uint64_t layout_run(const uint8_t *image, size_t image_length, uint32_t mode, ui
 size_t layout_listing(const uint8_t *input, size_t input_length, uint8_t *out, size_t out_length);
 
 #define LAYOUT_ANY_LISTING 140577
+
+/* The image check alone: 0 for an image that passes it, else the number that refuses it, 2 to 7. */
+uint32_t layout_check(const uint8_t *image, size_t image_length);
 
 /* What an outcome of layout_run says. */
 static inline int layout_accepted(uint64_t outcome) { return outcome >> 32 == 0; }
