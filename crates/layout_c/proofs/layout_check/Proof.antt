@@ -9,4 +9,4 @@ returns : tie.Need-returns
 returns c = c .number-of .ensures ∙ ap numberIn (c .before .check-image .ensures)
 
 pub layout-check-spec : {M : Type 1} → statement M
-layout-check-spec = tie.close (tie.spec (λ c κs. search needs) returns)
+layout-check-spec = tie.close (tie.spec (λ c κs. search needs) (λ c κs. search needs) returns)

@@ -7,4 +7,4 @@ returns : tie.Need-returns
 returns c = rw (c .before .number-of .ensures, c .before .before .check-image .ensures, c .byte-at .ensures)
 
 pub same-image-spec : {M : Type 1} → statement M
-same-image-spec = tie.close (tie.spec (λ c κs. search needs) (λ c κs. search needs) (λ c. search needs) returns)
+same-image-spec = tie.close (tie.spec (λ c κs. search needs) (λ c κs. search needs) (λ c κs. search needs) (λ c. search needs) returns)
