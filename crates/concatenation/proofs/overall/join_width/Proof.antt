@@ -36,7 +36,7 @@ returns-2 : tie.Need-returns-2
 returns-2 c =
     let p = c .before .before .before .before .before .before .args in
     let w = c .before .before .before .before .width .given in
-    rw (w .1) (ap ok (c .joined2 .ensures)) ∙ sym (width-first (p .i) (summaryOf (p .s)) (overallOf (p .o)) (w .0 .0) (ap optionUsize (w .1))
+    ap ok (c .joined2 .ensures) ∙ sym (width-first (p .i) (summaryOf (p .s)) (overallOf (p .o)) (w .0 .0) (ap optionUsize (w .1))
     (ap optionUsize (c .before .enum-told2 .given .1)))
 
 joined-requires-3 : tie.Need-joined-requires-3
