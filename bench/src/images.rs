@@ -61,10 +61,13 @@ pub fn thirty() -> Image {
     Image::of_line("30 components", CARD)
 }
 
-/// The same with an unbounded filler, which is not read in one pass.
+/// The same with an unbounded filler.
 pub fn open() -> Image {
     let line = CARD.strip_suffix("..6").expect("its last component");
-    Image::of_line("30 components with an unbounded filler", &format!("{line}.."))
+    Image::of_line(
+        "30 components with an unbounded filler",
+        &format!("{line}.."),
+    )
 }
 
 fn chars(text: &str) -> Item {
@@ -201,4 +204,38 @@ pub fn generated(count: usize) -> Vec<Call> {
         .filter_map(|pair| call(pair.case.input))
         .take(count)
         .collect()
+}
+
+/// The thirty with a starting value.
+pub fn started() -> Image {
+    let (source, sinks) = CARD.split_once(';').expect("two");
+    let (front, last) = source.rsplit_once(", ").expect("two");
+    Image::of_line(
+        "30 components with a starting value",
+        &format!("{front}, imm::start(7): {last}; {sinks}"),
+    )
+}
+
+/// Bounds of several signs, with operators and numbers in all places.
+const ODD: &str = "a[(a+b-3)..(a+b-1)], b[(8+n&3)..], c[(x--2)..(x+9)], d[..(n-1-2)], \
+    e[(p-q)..=(p-q)], f[(3-m)..(9-m)], g[(-4+k)..(k)], h[(u*v+1)..(u*v+5)], \
+    i[(0x10+w)..(w+0x20)], j[..(len(z)-1)]";
+
+pub fn odd() -> Image {
+    Image::of_line(
+        "30 components with odd bounds",
+        &format!("{ODD}, {ODD}; {ODD}"),
+    )
+}
+
+/// Groups in groups, in names and in bounds.
+const NESTED: &str = "a(b(c))[((m))..((m)+4)], x.y[(f(g(h))[2])..(f(g(h))[2]+8)], \
+    (q)[..({r}+1)], s{t[u]}[((v)-1)..]";
+
+pub fn nested() -> Image {
+    let (n, sinks) = (NESTED, [NESTED; 3].join(", "));
+    Image::of_line(
+        "28 components with groups in groups",
+        &format!("{n}, {n}, {n}, {n}; {sinks}"),
+    )
 }

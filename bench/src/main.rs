@@ -29,8 +29,17 @@ fn main() {
     for image in &compared {
         compare(image);
     }
-    println!("\nnot read in one pass, but stage by stage");
-    compare(&images::open());
+    let others = [
+        images::open(),
+        images::started(),
+        images::odd(),
+        images::nested(),
+        images::deepest(),
+        images::one_bound(2_000),
+    ];
+    for image in &others {
+        compare(image);
+    }
     println!("\ngrowth over components, ours");
     for count in [1, 4, 16, 64, 256] {
         grow(&images::variables(count), count, "component");
