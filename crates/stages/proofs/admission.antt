@@ -1,0 +1,2 @@
+-- Each way out of the tests.
+mod Ways

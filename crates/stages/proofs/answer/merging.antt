@@ -1,0 +1,2 @@
+-- Bits behind others.
+pub mod Appended

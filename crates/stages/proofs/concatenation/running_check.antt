@@ -1,0 +1,2 @@
+-- Laws over plain values that the functions' proofs cite.
+pub mod Steps

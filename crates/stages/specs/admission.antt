@@ -1,0 +1,2 @@
+-- What a run asks before the stages.
+pub mod Asked

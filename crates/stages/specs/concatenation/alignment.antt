@@ -1,0 +1,2 @@
+-- What the values of this crate mean.
+pub mod Align

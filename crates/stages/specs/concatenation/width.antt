@@ -1,0 +1,2 @@
+-- Numbers that fit 64 bits.
+pub mod Fitting
