@@ -1,2 +1,3 @@
 -- Bits behind others.
 pub mod Appended
+pub mod Whole

@@ -1,7 +1,7 @@
 -- Stage 1 of a component over the items of its run.
 use mathlib.Core.Path.{_≡_}
 use Prim.Native.Nat.{_≤_}
-use Rattle.definition.specs.Prelude.{ℕ, Bool, true, false, Option, none, some, List, [], _∷_, _++_, length, drop}
+use Rattle.definition.specs.Prelude.{ℕ, _+_, Bool, true, false, Option, none, some, List, [], _∷_, _++_, length, drop}
 use Rattle.definition.specs.Basics.{Result}
 use Rattle.definition.specs.Image.{Unparsed, kinds}
 use Rattle.definition.specs.Text.{Item, items}

@@ -34,7 +34,7 @@ pub record RecordsFit (image : List ℕ) (t : Tables) (k : ℕ) : Type 0 where
 -- ---- the colon: its record, or the one where the run stops
 
 abbrev pub colonBy : ℕ → ℕ → ℕ → ℕ
-colonBy open at stop = if eqb open stop then at else stop
+colonBy seen at stop = if eqb seen stop then at else stop
 
 abbrev pub colonPlace : List ℕ → Table → ℕ → ℕ → Option Prefix → ℕ
 colonPlace image t r stop none = stop

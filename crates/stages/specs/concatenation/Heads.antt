@@ -50,7 +50,7 @@ abbrev pub widthOr0 : Option ℕ → ℕ
 widthOr0 w = elim w [ none ↦ 0 | some n ↦ n ]
 
 abbrev pub headWords : Concatenation → List ℕ
-headWords d = length (merge (d .comps)) + 2 ^ 32 * alignNumber (d .align) + flag (d .nonzero) (2 ^ 40) ∷ widthOr0 (d .width) ∷ []
+headWords d = (length (merge (d .comps)) + 2 ^ 32 * alignNumber (d .align) + flag (d .nonzero) (2 ^ 40)) ∷ widthOr0 (d .width) ∷ []
 
 abbrev pub HeadsAre : List ℕ → List Concatenation → Type 0
 HeadsAre heads ds = Holds heads 0 (joined (map headWords ds))

@@ -43,7 +43,7 @@ pub(crate) fn stage5(
     o: Overall,
     s: Start,
 ) -> usize
-    requires { ⌜ ((base : ℕ) (ds : List Def.Concatenation) × (2 * c ≤ length (now heads)) × Answers (now image) (now words) (now heads) c base o s (length (now area)) ds) ⌝ }
+    requires { ⌜ ((base : ℕ) × (ds : List Def.Concatenation) × (2 * c ≤ length (now heads)) × Answers (now image) (now words) (now heads) c base o s (length (now area)) ds) ⌝ }
     ensures { λ r. ⌜ Stage5Is (now (image .entry)) (now (words .entry)) (now (heads .entry)) c o s r (now (area .entry)) (now (area .exit)) ⌝ }
 {
     let m = merged_of(heads, c);

@@ -21,7 +21,7 @@ ghost use mathlib.Core.Path.{_≡_};
 ghost use mathlib.Core.Bool.{_||_};
 ghost use mathlib.Core.Option.{none, some};
 ghost use mathlib.Core.List.{List, [], _∷_, _++_};
-ghost use Prim.Native.Nat.{ℕ, _≤_, _<_};
+ghost use Prim.Native.Nat.{ℕ, _+_, _≤_, _<_};
 ghost use lib.Dec.{eqb};
 ghost use lib.ListN.{length};
 ghost use Rattle.definition.specs.Basics.{within};
@@ -73,7 +73,7 @@ fn typed(image: &[u8], tree: Tree, s: PText, t: PText, w: u32, range: Usbr) -> C
 // With a range in brackets from the record `last` on.
 fn bracketed(image: &[u8], tree: Tree, run: Run, last: PBind, w: u32) -> ComponentResult
     requires { ⌜ ((s : ℕ) × Runs (now image) tree (run .stop .0) (run .«end» .0) (run .r .0) s)
-        × ((base s : ℕ) (mid : List Item) (i : Item) × Ended (now image) tree run (last .0) base s mid i) ⌝ }
+        × ((base : ℕ) × (s : ℕ) × (mid : List Item) × (i : Item) × Ended (now image) tree run (last .0) base s mid i) ⌝ }
     ensures { λ q. ⌜ ((base s literal : ℕ) (mid : List Item) (i : Item) → w ≤ 4096 → Ended (now (image .entry)) tree run (last .0) base s mid i
         → ComponentReads (now (image .entry)) tree base literal q
           (parseComponent mid (some (items (i .inside-at) (i .inside))) (bitsAt (now (image .entry)) literal w))) ⌝ }

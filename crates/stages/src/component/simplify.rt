@@ -76,7 +76,7 @@ fn cut_both(x: I128, y: I128, width: OptionI128) -> ComponentResult
 
 // "with a number end it is cut there, and with a number start too it loses the bits below and starts at 0"
 fn cut(w: u32, range: Usbr, width: OptionI128) -> ComponentResult
-    requires { ⌜ ((image : List ℕ) (t : TreeIn) (base : ℕ) × Within w (usbrOf image t base range)) ⌝ }
+    requires { ⌜ ((image : List ℕ) × (t : TreeIn) × (base : ℕ) × Within w (usbrOf image t base range)) ⌝ }
     ensures { λ r. ⌜ ((image : List ℕ) (t : TreeIn) (base at : ℕ) → w ≤ 4096 → Within w (usbrOf image t base range)
         → Measured image t base range width
         → StagedReads image t base at r (ok (cutLiteral (bitsAt image at w) (usbrOf image t base range)))) ⌝ }
@@ -96,7 +96,7 @@ fn cut(w: u32, range: Usbr, width: OptionI128) -> ComponentResult
 
 // What stage 2 leaves of a literal of w bits, its range tested.
 fn cut_of(w: u32, q: Simplified) -> ComponentResult
-    requires { ⌜ ((image : List ℕ) (t : TreeIn) (base : ℕ) (v : Ranges.Usbr) × Positive v × SimplifiedReads image t base q (literalRange w v)) ⌝ }
+    requires { ⌜ ((image : List ℕ) × (t : TreeIn) × (base : ℕ) × (v : Ranges.Usbr) × Positive v × SimplifiedReads image t base q (literalRange w v)) ⌝ }
     ensures { λ r. ⌜ ((image : List ℕ) (t : TreeIn) (base at : ℕ) (v : Ranges.Usbr) → w ≤ 4096 → Positive v
         → SimplifiedReads image t base q (literalRange w v) → StagedReads image t base at r (cutAll (bitsAt image at w) (literalRange w v))) ⌝ }
 {

@@ -54,11 +54,11 @@ fn records_before(image: &[u8], t: Tables, k: PVal) -> PBind
     r
 }
 
-// The open colon after an item at record `at`: after a first colon a second one is skipped with it. `stop` for none.
-fn opened(open: PBind, at: PBind, stop: PBind) -> PBind
-    ensures { λ r. ⌜ r .0 ≡ colonBy (open .0) (at .0) (stop .0) ⌝ }
+// The colon that is seen, after one at record `at`: after a first colon a second one is skipped with it. `stop` for none.
+fn opened(seen: PBind, at: PBind, stop: PBind) -> PBind
+    ensures { λ r. ⌜ r .0 ≡ colonBy (seen .0) (at .0) (stop .0) ⌝ }
 {
-    if open.0 == stop.0 { at } else { stop }
+    if seen.0 == stop.0 { at } else { stop }
 }
 
 // The record of the single colon among the items from r up to stop, or stop.
@@ -69,19 +69,19 @@ fn colon_in(image: &[u8], tree: Tree, r: PBind, stop: PBind, end: PText) -> PBin
 {
     let mut at = r;
     let mut s = start_or(image, tree, r, stop, end);
-    let mut open = stop;
+    let mut seen = stop;
     while at.0 < stop.0 {
         let next = behind(image, tree, at);
         let t = start_or(image, tree, next, stop, end);
         if single(image, tree, s, t) == b':' {
-            open = opened(open, at, stop);
-        } else if open.0 != stop.0 {
-            return open;
+            seen = opened(seen, at, stop);
+        } else if seen.0 != stop.0 {
+            return seen;
         }
         at = next;
         s = t;
     }
-    open
+    seen
 }
 
 // The text from record r up to a colon, before the record `to`, of component k: 10.

@@ -45,8 +45,7 @@ fn bytes_for(width: u32) -> usize
 
 // Component j of concatenation i.
 fn turn(words: &mut [u64], image: &[u8], t: Tables, after: PBind, i: u32, j: u32, w: Walk) -> Walk
-    requires { ⌜ ((s : ℕ) (n : Node) (ns : List Node) (scanned : Bool)
-        × Rows (now image) t (w .k .0) (w .r .0) s (w .l) (n ∷ ns)
+    requires { ⌜ ((s : ℕ) × (n : Node) × (ns : List Node) × (scanned : Bool) × Rows (now image) t (w .k .0) (w .r .0) s (w .l) (n ∷ ns)
         × WalkFits (now image) t w (length (n ∷ ns)) (length (now words))
         × AfterIs (now image) (t .tree) (after .0) (w .r .0) scanned n) ⌝ }
     ensures { λ r. ⌜ ((s : ℕ) (n : Node) (ns : List Node) (scanned : Bool) → Rows (now (image .entry)) t (w .k .0) (w .r .0) s (w .l) (n ∷ ns)
@@ -81,7 +80,7 @@ fn turns(
     n: u32,
     start: Walk,
 ) -> Walk
-    requires { ⌜ ((s : ℕ) (ns ms : List Node) × (length ns ≡ n)
+    requires { ⌜ ((s : ℕ) × (ns : List Node) × (ms : List Node) × (length ns ≡ n)
         × Rows (now image) t (start .k .0) (start .r .0) s (start .l) (ns ++ ms)
         × WalkFits (now image) t start (length (ns ++ ms)) (length (now words))
         × AfterIn (now image) (t .tree) (after .0) i (start .r .0) ns) ⌝ }
