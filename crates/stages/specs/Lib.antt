@@ -1,4 +1,5 @@
 -- What the values of the stages mean, and what each function promises.
+pub mod Witness
 pub mod admission
 pub mod answer
 pub mod component

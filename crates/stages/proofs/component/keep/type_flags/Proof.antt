@@ -1,0 +1,73 @@
+use borrow.Author.Needs.{needs}
+use Rattle.stages.proofs.component.keep.type_flags.Statement.{statement}
+use Rattle.stages.proofs.component.keep.type_flags.Tie as tie
+use Rattle.stages.proofs.component.keep.type_flags.Reads as reads
+use Rattle.stages.proofs.component.keep.type_flags.Lts as lts
+use Rattle.stages.proofs.component.keep.flag.Reads as flag-reads
+use Rattle.stages.proofs.component.types.Component.has_full_range.Reads as has-full-range-reads
+use Rattle.stages.proofs.component.types.Component.is_static_literal.Reads as is-static-literal-reads
+
+-- src/component/keep.rt:92:47
+enum-told : tie.Need-enum-told
+enum-told c = search needs
+
+-- src/component/keep.rt:92:47
+is-static-literal-requires : tie.Need-is-static-literal-requires
+is-static-literal-requires c κs = search needs
+
+-- src/component/keep.rt:92:42
+flag-requires : tie.Need-flag-requires
+flag-requires c κs = search needs
+
+-- src/component/keep.rt:92:38
+add-result : tie.Need-add-result
+add-result c = search needs
+
+-- src/component/keep.rt:93:48
+enum-told-2 : tie.Need-enum-told-2
+enum-told-2 c = search needs
+
+-- src/component/keep.rt:93:48
+has-full-range-requires : tie.Need-has-full-range-requires
+has-full-range-requires c κs = search needs
+
+-- src/component/keep.rt:93:43
+flag-requires-2 : tie.Need-flag-requires-2
+flag-requires-2 c κs = search needs
+
+-- src/component/keep.rt:93:39
+add-result-2 : tie.Need-add-result-2
+add-result-2 c = search needs
+
+-- src/component/keep.rt:94:34
+enum-told-3 : tie.Need-enum-told-3
+enum-told-3 c = search needs
+
+-- src/component/keep.rt:86:1
+returns : tie.Need-returns
+returns c = ?
+
+-- src/component/keep.rt:86:1
+returns-2 : tie.Need-returns-2
+returns-2 c = ?
+
+-- src/component/keep.rt:86:1
+returns-3 : tie.Need-returns-3
+returns-3 c = ?
+
+pub type-flags-spec : {M : Type 1} → statement M
+type-flags-spec =
+    tie.close
+    (tie.spec
+    enum-told
+    is-static-literal-requires
+    flag-requires
+    add-result
+    enum-told-2
+    has-full-range-requires
+    flag-requires-2
+    add-result-2
+    enum-told-3
+    returns
+    returns-2
+    returns-3)

@@ -1,0 +1,15 @@
+use Rattle.stages.proofs.concatenation.heads.width_from.Statement.{statement}
+use Rattle.stages.proofs.concatenation.heads.width_from.Tie as tie
+use Rattle.stages.proofs.concatenation.heads.width_from.Reads as reads
+use Rattle.stages.proofs.concatenation.heads.width_from.Lts as lts
+
+-- src/concatenation/heads.rt:113:9
+returns : tie.Need-returns
+returns c = ?
+
+-- src/concatenation/heads.rt:109:1
+returns-2 : tie.Need-returns-2
+returns-2 c = ?
+
+pub width-from-spec : {M : Type 1} → statement M
+width-from-spec = tie.close (tie.spec returns returns-2)

@@ -1,0 +1,53 @@
+use borrow.Author.Needs.{needs}
+use Rattle.stages.proofs.ranges.literal.end_checked.Statement.{statement}
+use Rattle.stages.proofs.ranges.literal.end_checked.Tie as tie
+use Rattle.stages.proofs.ranges.literal.end_checked.Reads as reads
+use Rattle.stages.proofs.ranges.literal.end_checked.Lts as lts
+use Rattle.stages.proofs.ranges.literal.above.Reads as above-reads
+use Rattle.stages.proofs.ranges.literal.end_zero.Reads as end-zero-reads
+use Rattle.stages.proofs.ranges.usbr.end_val.Reads as end-val-reads
+
+-- src/ranges/literal.rt:46:14
+end-val-requires : tie.Need-end-val-requires
+end-val-requires c κs = search needs
+
+-- src/ranges/literal.rt:46:8
+above-requires : tie.Need-above-requires
+above-requires c κs = search needs
+
+-- src/ranges/literal.rt:47:9
+returns : tie.Need-returns
+returns c = ?
+
+-- src/ranges/literal.rt:49:8
+above-requires-2 : tie.Need-above-requires-2
+above-requires-2 c κs = search needs
+
+-- src/ranges/literal.rt:50:9
+returns-2 : tie.Need-returns-2
+returns-2 c = ?
+
+-- src/ranges/literal.rt:52:8
+end-zero-requires : tie.Need-end-zero-requires
+end-zero-requires c κs = search needs
+
+-- src/ranges/literal.rt:53:9
+returns-3 : tie.Need-returns-3
+returns-3 c = ?
+
+-- src/ranges/literal.rt:41:1
+returns-4 : tie.Need-returns-4
+returns-4 c = ?
+
+pub end-checked-spec : {M : Type 1} → statement M
+end-checked-spec =
+    tie.close
+    (tie.spec
+    end-val-requires
+    above-requires
+    returns
+    above-requires-2
+    returns-2
+    end-zero-requires
+    returns-3
+    returns-4)

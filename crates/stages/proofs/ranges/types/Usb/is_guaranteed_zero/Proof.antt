@@ -1,0 +1,21 @@
+use borrow.Author.Needs.{needs}
+use Rattle.stages.proofs.ranges.types.Usb.is_guaranteed_zero.Statement.{statement}
+use Rattle.stages.proofs.ranges.types.Usb.is_guaranteed_zero.Tie as tie
+use Rattle.stages.proofs.ranges.types.Usb.is_guaranteed_zero.Reads as reads
+use Rattle.stages.proofs.ranges.types.Usb.is_guaranteed_zero.Lts as lts
+use Rattle.numbers.proofs.is_zero.Reads as is-zero-reads
+
+-- src/ranges/usb.rt:101:13
+returns : tie.Need-returns
+returns c = ?
+
+-- src/ranges/usb.rt:103:9
+is-zero-requires : tie.Need-is-zero-requires
+is-zero-requires c κs = search needs
+
+-- src/ranges/usb.rt:97:5
+returns-2 : tie.Need-returns-2
+returns-2 c = ?
+
+pub is-guaranteed-zero-spec : {M : Type 1} → statement M
+is-guaranteed-zero-spec = tie.close (tie.spec returns is-zero-requires returns-2)

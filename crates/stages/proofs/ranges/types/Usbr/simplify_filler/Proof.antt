@@ -1,0 +1,35 @@
+use borrow.Author.Needs.{needs}
+use Rattle.stages.proofs.ranges.types.Usbr.simplify_filler.Statement.{statement}
+use Rattle.stages.proofs.ranges.types.Usbr.simplify_filler.Tie as tie
+use Rattle.stages.proofs.ranges.types.Usbr.simplify_filler.Reads as reads
+use Rattle.stages.proofs.ranges.types.Usbr.simplify_filler.Lts as lts
+use Rattle.stages.proofs.ranges.types.Usb.is_guaranteed_zero.Reads as is-guaranteed-zero-reads
+
+-- src/ranges/literal.rt:107:35
+enum-told : tie.Need-enum-told
+enum-told c = search needs
+
+-- src/ranges/literal.rt:109:20
+enum-told-2 : tie.Need-enum-told-2
+enum-told-2 c = search needs
+
+-- src/ranges/literal.rt:109:20
+is-guaranteed-zero-requires : tie.Need-is-guaranteed-zero-requires
+is-guaranteed-zero-requires c κs = search needs
+
+-- src/ranges/literal.rt:110:21
+returns : tie.Need-returns
+returns c = ?
+
+-- src/ranges/literal.rt:100:5
+returns-2 : tie.Need-returns-2
+returns-2 c = ?
+
+-- src/ranges/literal.rt:100:5
+returns-3 : tie.Need-returns-3
+returns-3 c = ?
+
+pub simplify-filler-spec : {M : Type 1} → statement M
+simplify-filler-spec =
+    tie.close
+    (tie.spec enum-told enum-told-2 is-guaranteed-zero-requires returns returns-2 returns-3)
