@@ -60,14 +60,7 @@ pub(crate) fn put_plain(area: &mut [u8], at: usize, words: &[u64], w: usize)
 }
 
 // A literal that is not static.
-pub(crate) fn put_open(
-    area: &mut [u8],
-    at: usize,
-    words: &[u64],
-    w: usize,
-    bits: u32,
-    offset: u32,
-)
+pub(crate) fn put_open(area: &mut [u8], at: usize, words: &[u64], w: usize, bits: u32, offset: u32)
     requires { ⌜ (w + 11 ≤ length (now words)) × (at + 72 ≤ length (now area)) ⌝ }
     ensures { λ _. ⌜ now (area .exit) ≡ sets (now (area .entry)) at (openBlock (now (words .entry)) w bits offset) ⌝ }
 {

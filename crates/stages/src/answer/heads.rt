@@ -43,11 +43,7 @@ fn put_concatenation(area: &mut [u8], heads: &[u64], i: u32)
     let align = s.align;
     put_u32(area, at, head_size(heads[2 * (i as usize)]));
     put_u32(area, at + 4, align_number(align));
-    put_u32(
-        area,
-        at + 8,
-        flag(s.deterministic, 1) + flag(s.nonzero, 2),
-    );
+    put_u32(area, at + 8, flag(s.deterministic, 1) + flag(s.nonzero, 2));
     put_u64(area, at + 12, heads[2 * (i as usize) + 1]);
 }
 

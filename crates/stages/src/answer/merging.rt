@@ -89,13 +89,7 @@ fn close(area: &mut [u8], s: Merging) -> Merging
 }
 
 // Component k, a literal that is not static: its bits are a run of its own. No run is open.
-fn put_open_literal(
-    area: &mut [u8],
-    image: &[u8],
-    words: &[u64],
-    k: usize,
-    s: Merging,
-) -> Merging
+fn put_open_literal(area: &mut [u8], image: &[u8], words: &[u64], k: usize, s: Merging) -> Merging
     requires { ⌜ ((d : Placed Component) × IsAt (now image) (now words) k d × Fixed d × Writable (now area) s (d ∷ [])
         × (isStaticLiteral (d .value) ≡ false) × (s .running ≡ false) × (getD (now words) (11 * k) 0 % 4 ≡ 1)) ⌝ }
     ensures { λ r. ⌜ (s .running ≡ false → (d : Placed Component) → IsAt (now (image .entry)) (now (words .entry)) k d → Fixed d
@@ -149,7 +143,13 @@ fn put(area: &mut [u8], image: &[u8], words: &[u64], k: usize, s: Merging) -> Me
 
 impl Concatenation {
     // Stage 5: neighbouring static literals become one, as they are written.
-    pub(crate) fn simplify(self, area: &mut [u8], image: &[u8], words: &[u64], w: Writing) -> Writing
+    pub(crate) fn simplify(
+        self,
+        area: &mut [u8],
+        image: &[u8],
+        words: &[u64],
+        w: Writing,
+    ) -> Writing
         requires { ⌜ Lies self (length (now words)) × ((cs : List (Placed Component)) × (length cs ≡ self .len)
             × KeptFrom (now image) (now words) (self .first .0) cs × AllFixed cs × Room (now area) w (merge cs)) ⌝ }
         ensures { λ r. ⌜ PutIs (now (image .entry)) (now (words .entry)) (self .first .0) (self .len) w r (now (area .entry)) (now (area .exit)) ⌝ }

@@ -59,7 +59,7 @@ fn typed(image: &[u8], tree: Tree, s: PText, t: PText, w: u32, range: Usbr) -> C
     ensures { λ q. ⌜ ((base literal r stop : ℕ) (mid : List Item) → w ≤ 4096 → 1 ≤ length mid
         → Laid (now (image .entry)) tree base stop (t .0) r (s .0) mid → UsbrFits (now (image .entry)) tree base range
         → ComponentReads (now (image .entry)) tree base literal q
-          (typedOf mid (bitsAt (now (image .entry)) literal w) (usbrOf (now (image .entry)) tree base range))) ⌝ }
+        (typedOf mid (bitsAt (now (image .entry)) literal w) (usbrOf (now (image .entry)) tree base range))) ⌝ }
 {
     if begins_number(byte_at(image, tree, s)) {
         if w == 0 {
@@ -76,7 +76,7 @@ fn bracketed(image: &[u8], tree: Tree, run: Run, last: PBind, w: u32) -> Compone
         × ((base : ℕ) × (s : ℕ) × (mid : List Item) × (i : Item) × Ended (now image) tree run (last .0) base s mid i) ⌝ }
     ensures { λ q. ⌜ ((base s literal : ℕ) (mid : List Item) (i : Item) → w ≤ 4096 → Ended (now (image .entry)) tree run (last .0) base s mid i
         → ComponentReads (now (image .entry)) tree base literal q
-          (parseComponent mid (some (items (i .inside-at) (i .inside))) (bitsAt (now (image .entry)) literal w))) ⌝ }
+        (parseComponent mid (some (items (i .inside-at) (i .inside))) (bitsAt (now (image .entry)) literal w))) ⌝ }
 {
     let r = run.r;
     let stop = run.stop;

@@ -85,14 +85,7 @@ fn colon_in(image: &[u8], tree: Tree, r: PBind, stop: PBind, end: PText) -> PBin
 }
 
 // The text from record r up to a colon, before the record `to`, of component k: 10.
-fn value_before(
-    image: &[u8],
-    tree: Tree,
-    k: PVal,
-    r: PBind,
-    colon: PBind,
-    to: PBind,
-) -> StartResult
+fn value_before(image: &[u8], tree: Tree, k: PVal, r: PBind, colon: PBind, to: PBind) -> StartResult
     requires { ⌜ ColonAt (now image) tree (r .0) (colon .0) (to .0) ⌝ }
     ensures { λ q. ⌜ ((base s tail : ℕ) (mid : List Item) → Laid (now (image .entry)) tree base (to .0) tail (r .0) s mid
         → colon .0 ≡ colonPlace (now (image .entry)) tree (r .0) (to .0) (splitColon mid)
@@ -140,14 +133,7 @@ fn start_in(image: &[u8], tree: Tree, k: PVal, run: Run) -> StartResult
             last,
         );
     }
-    value_before(
-        image,
-        tree,
-        k,
-        r,
-        colon_in(image, tree, r, stop, end),
-        stop,
-    )
+    value_before(image, tree, k, r, colon_in(image, tree, r, stop, end), stop)
 }
 
 pub(crate) fn starting_value(image: &[u8], t: Tables) -> StartResult

@@ -94,14 +94,7 @@ impl Concatenation {
         while j < self.len {
             let at = 11 * ((k.0 + j) as usize);
             let r = a.running;
-            a = lent_once(
-                r,
-                self.i,
-                j,
-                j == 0,
-                j + 1 == self.len,
-                shape_at(words, at),
-            );
+            a = lent_once(r, self.i, j, j == 0, j + 1 == self.len, shape_at(words, at));
             let checked = a.checked;
             if is_refused(checked) {
                 return a;

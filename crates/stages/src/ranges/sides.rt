@@ -74,7 +74,7 @@ fn text_right(negative: bool, p: PText, s: PText, t: PText, l: OptionI128) -> Us
     ensures { λ q. ⌜ ((image : List ℕ) (tree : TreeIn) (base : ℕ) → Between image tree base (s .0) (t .0)
         → optionOf l ≡ numberIn (textIn image tree base (s .0) (p .0))
         → UsbReads image tree base q (textKept (textIn image tree base (s .0) (t .0)) (textIn image tree base (s .0) (p .0))
-          (if negative then textIn image tree base (p .0) (t .0) else textIn image tree base (p .0 + 1) (t .0)))) ⌝ }
+        (if negative then textIn image tree base (p .0) (t .0) else textIn image tree base (p .0 + 1) (t .0)))) ⌝ }
 {
     match l {
         OptionI128::Some(x) => UsbResult::Ok(Usb {

@@ -84,7 +84,6 @@ module _ {M : Type 1} (𝓤 : URA M) (H : Heap 𝓤) (A : Atoms 𝓤) (W : Given
   abbrev v : Val
   v = sliceVal (s .ptr) (length (s .now))
 
-
   -- the struct's type as a local of a body has it
   abbrev αᵉ : NamedLft
   αᵉ = record { mir = erased; lft = κ }

@@ -1,0 +1,2 @@
+-- Laws of the search for the sign of a bound.
+pub mod Cuts

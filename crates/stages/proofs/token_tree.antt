@@ -1,0 +1,4 @@
+-- How the items of a run stand in the record table.
+pub mod Chunks
+pub mod Places
+pub mod Walks
