@@ -81,6 +81,7 @@ module _ (image : List ℕ) (t : Tree) (base : ℕ) where
         at = h .at;
         some = h .some;
         bytes = h .bytes;
+        word = h .word;
         single = h .single;
         group = h .group;
       }

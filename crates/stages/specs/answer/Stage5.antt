@@ -12,10 +12,9 @@ use Rattle.definition.specs.Answer.{Answer, components, concatenationBytes, ans
 use Rattle.answer_facts.specs.fits.Fixed.{AllFixed}
 use Rattle.answer_facts.specs.fits.Statement.{literalsOf}
 use Rattle.stages.specs.token_tree.Table.{treeIn}
-use Rattle.stages.specs.token_tree.Parts.{PartFits}
 use Rattle.stages.specs.token_tree.Rows.{Sizes}
 use Rattle.stages.specs.component.Kept.{KeptFrom}
-use Rattle.stages.specs.component.Start.{startOf}
+use Rattle.stages.specs.component.Start.{startOf, TextFits}
 use Rattle.stages.specs.concatenation.Heads.{HeadsAre, AllChecked, Judged}
 use Rattle.stages.specs.concatenation.Overall.{overallOf}
 use Rattle.stages.specs.answer.merging.Put.{putAll, writtenTo, Room}
@@ -70,7 +69,7 @@ pub record Fitting (c area : ℕ) (a : Answer) : Type 0 where
 pub record Answers (image words heads : List ℕ) (c base : ℕ) (o : Overall) (s : Start) (area : ℕ) (ds : List Concatenation) : Type 0 where
   pub judged : Judged image words heads c ds
   pub fixed : AllFixed (joined (compsOf ds))
-  pub start : PartFits image (treeIn image) base (s .s)
+  pub start : TextFits image (treeIn image) base s
   pub small : base + length image < 4294967296
   pub table : 40 + 4 * c ≤ length image
   pub few : c ≤ 16

@@ -14,7 +14,7 @@ use Rattle.definition.specs.Component.{Prefix, prefixOf, startingValue, source}
 use Rattle.errors.specs.Refused.{refusedAs}
 use Rattle.stages.specs.token_tree.Table.{RecordFits, startIn, treeIn, tablesIn}
 use Rattle.stages.specs.token_tree.Laid.{placeOf}
-use Rattle.stages.specs.token_tree.Parts.{partOf, PartFits}
+use Rattle.stages.specs.token_tree.Parts.{noPart, partOf, PartFits}
 use Rattle.stages.specs.token_tree.Rows.{nodeOf}
 use Rattle.stages.specs.declared.token_tree.types.Tree.{Tree as Table}
 use Rattle.stages.specs.declared.token_tree.types.Tables.{Tables}
@@ -71,8 +71,13 @@ abbrev pub afterPlace : List ℕ → Table → ℕ → Option Prefix → ℕ
 afterPlace image t r none = 0
 afterPlace image t r (some p) = placeOf image t r (suc (length (p .before)))
 
+-- its text lies within the image; without one there is none
+pub record TextFits (image : List ℕ) (t : Table) (base : ℕ) (s : Start) : Type 0 where
+  pub part : PartFits image t base (s .s)
+  pub none : s .after .0 ≡ 0 → s .s ≡ noPart
+
 abbrev AfterHeld : List ℕ → Table → ℕ → ℕ → Option Prefix → StartResult → Type 0
-AfterHeld image t base r p (S.Ok s) = (s .after .0 ≡ afterPlace image t r p) × PartFits image t base (s .s)
+AfterHeld image t base r p (S.Ok s) = (s .after .0 ≡ afterPlace image t r p) × TextFits image t base s
 AfterHeld image t base r p (S.Refused q) = Unit
 
 -- of a component whose items stand from record r on
@@ -104,7 +109,7 @@ abbrev pub scannedBase : List ℕ → ℕ
 scannedBase image = startIn image (treeIn image) (scannedRecord image)
 
 abbrev StartHeld : List ℕ → List (List Node) → StartResult → Type 0
-StartHeld image t (S.Ok s) = AfterTree image (treeIn image) (s .after .0) 0 0 t × PartFits image (treeIn image) (scannedBase image) (s .s)
+StartHeld image t (S.Ok s) = AfterTree image (treeIn image) (s .after .0) 0 0 t × TextFits image (treeIn image) (scannedBase image) s
 StartHeld image t (S.Refused q) = Unit
 
 -- the definition's starting value, and the record behind it

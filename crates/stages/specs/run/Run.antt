@@ -15,10 +15,9 @@ use Rattle.answer_facts.specs.stages.Statement.{later}
 use Rattle.errors.specs.Refused.{outcomeOf}
 use Rattle.errors.specs.declared.Outcome.{Outcome}
 use Rattle.stages.specs.token_tree.Table.{treeIn, tablesIn}
-use Rattle.stages.specs.token_tree.Parts.{PartFits}
 use Rattle.stages.specs.token_tree.Grown.{Grown}
 use Rattle.stages.specs.component.Kept.{KeptFrom}
-use Rattle.stages.specs.component.Start.{startOf, scannedBase, AfterTree}
+use Rattle.stages.specs.component.Start.{startOf, TextFits, scannedBase, AfterTree}
 use Rattle.stages.specs.component.Read.{twoStages}
 use Rattle.stages.specs.concatenation.Heads.{HeadsAre}
 use Rattle.stages.specs.declared.token_tree.types.Tables.{Tables}
@@ -55,7 +54,7 @@ initOf image s = startOf image (treeIn image) (scannedBase image) s
 pub record StartFits (image : List ℕ) (t : Tables) (s : Start) : Type 0 where
   pub tables-are : t ≡ tablesIn image
   pub after : (g : Grown image) → AfterTree image (treeIn image) (s .after .0) 0 0 (g .tree)
-  pub text : PartFits image (treeIn image) (scannedBase image) (s .s)
+  pub text : TextFits image (treeIn image) (scannedBase image) s
   pub is : startingValue 0 (source (treeOf image)) ≡ ok (initOf image s)
 
 -- stages 1 to 5 with this starting value
@@ -69,7 +68,7 @@ StartedAs image mode s o before after = Came (behindStart image mode s) o before
 
 pub record ReadFits (image : List ℕ) (c : ℕ) (s : Start) (words : List ℕ) : Type 0 where
   pub count : c ≡ (counts image) .c
-  pub text : PartFits image (treeIn image) (scannedBase image) (s .s)
+  pub text : TextFits image (treeIn image) (scannedBase image) s
   pub cc : List (List (Placed Component))
   pub read : twoStages (treeOf image) ≡ ok cc
   pub kept : KeptFrom image words 0 (joined cc)

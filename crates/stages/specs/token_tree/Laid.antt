@@ -2,8 +2,8 @@
 -- `tail` of the text table; `base` is where the component's text starts there.
 use mathlib.Core.Path.{_≡_}
 use Prim.Native.Nat.{_≤_, _<_}
-use Rattle.definition.specs.Prelude.{ℕ, zero, suc, _+_, _*_, _-_, _^_, true, false, List, [], _∷_, _++_, length}
-use Rattle.definition.specs.Image.{bytesAt}
+use Rattle.definition.specs.Prelude.{ℕ, zero, suc, _+_, _*_, _-_, _^_, true, false, List, [], _∷_, _++_, length, getD}
+use Rattle.definition.specs.Image.{bytesAt, kinds, delimiter}
 use Rattle.definition.specs.Tree.{Forest, flat, textOf, recordBytes, soundForest}
 use Rattle.definition.specs.Text.{Item, isGroup}
 use Rattle.prepared.specs.Bytes.{Holds}
@@ -23,6 +23,7 @@ pub record Planted (image : List ℕ) (t : Tree) (stop tail r s : ℕ) (f : Fore
 -- what stands inside a group of `skip` records
 pub record Inner (image : List ℕ) (t : Tree) (r s skip : ℕ) (i : Item) : Type 0 where
   pub forest : Forest
+  pub first : getD (i .part .bytes) 0 0 ≡ (delimiter (i .kind)) .opening
   pub inside : i .inside ≡ flat forest
   pub inside-at : i .inside-at ≡ i .part .at + 1
   pub two : 2 ≤ skip
@@ -38,6 +39,7 @@ pub record Stands (image : List ℕ) (t : Tree) (base stop r s : ℕ) (i : Item)
   pub at : base + i .part .at ≡ s
   pub some : 1 ≤ length (i .part .bytes)
   pub bytes : bytesAt image (t .text + s) (length (i .part .bytes)) ≡ i .part .bytes
+  pub word : isGroup i ≡ false → i .kind ≡ kinds .chars
   pub single : isGroup i ≡ false → skipIn image t r ≡ 1
   pub group : isGroup i ≡ true → Inner image t r s (skipIn image t r) i
 

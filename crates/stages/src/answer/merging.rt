@@ -9,7 +9,7 @@ use super::blocks::put_plain;
 use crate::concatenation::Concatenation;
 ghost use mathlib.Core.Path.{_≡_};
 ghost use mathlib.Core.Bool.{false};
-ghost use mathlib.Core.List.{List, [], _∷_};
+ghost use mathlib.Core.List.{List, _∷_};
 ghost use Prim.Native.Nat.{ℕ, _+_, _*_, _/_, _%_, _^_, _≤_, _<_};
 ghost use lib.ListN.{length, getD};
 ghost use Rattle.definition.specs.Image.{Placed};
@@ -19,7 +19,7 @@ ghost use Rattle.answer_facts.specs.fits.Fixed.{Fixed, AllFixed};
 ghost use Rattle.stages.specs.component.Kept.{KeptFrom};
 ghost use Rattle.stages.specs.concatenation.Check.{Lies};
 ghost use Rattle.stages.specs.answer.merging.Put.{Room, PutIs};
-ghost use Rattle.stages.specs.answer.merging.State.{IsAt, LongerIs, CloseIs, OtherIs, StepIs, Writable, behindBy};
+ghost use Rattle.stages.specs.answer.merging.State.{IsAt, LongerIs, CloseIs, OtherIs, StepIs, Writable, Closable, behindBy};
 
 // Where the next component's block stands, where the literal block begins, and how many of its bytes are written.
 pub struct Writing {
@@ -72,7 +72,7 @@ fn lengthen(area: &mut [u8], image: &[u8], bits: u64, literal: u64, s: Merging) 
 
 // The open run becomes one literal.
 fn close(area: &mut [u8], s: Merging) -> Merging
-    requires { ⌜ Writable (now area) s [] ⌝ }
+    requires { ⌜ ((ms : List (Placed Component)) × Closable (now area) s ms) ⌝ }
     ensures { λ r. ⌜ CloseIs s r (now (area .entry)) (now (area .exit)) ⌝ }
 {
     if !s.running {
@@ -90,7 +90,7 @@ fn close(area: &mut [u8], s: Merging) -> Merging
 
 // Component k, a literal that is not static: its bits are a run of its own. No run is open.
 fn put_open_literal(area: &mut [u8], image: &[u8], words: &[u64], k: usize, s: Merging) -> Merging
-    requires { ⌜ ((d : Placed Component) × IsAt (now image) (now words) k d × Fixed d × Writable (now area) s (d ∷ [])
+    requires { ⌜ ((d : Placed Component) × (ms : List (Placed Component)) × IsAt (now image) (now words) k d × Fixed d × Closable (now area) s (d ∷ ms)
         × (isStaticLiteral (d .value) ≡ false) × (s .running ≡ false) × (getD (now words) (11 * k) 0 % 4 ≡ 1)) ⌝ }
     ensures { λ r. ⌜ (s .running ≡ false → (d : Placed Component) → IsAt (now (image .entry)) (now (words .entry)) k d → Fixed d
         → isStaticLiteral (d .value) ≡ false → getD (now (words .entry)) (11 * k) 0 % 4 ≡ 1 → OtherIs d s r (now (area .entry)) (now (area .exit))) ⌝ }
@@ -111,7 +111,7 @@ fn put_open_literal(area: &mut [u8], image: &[u8], words: &[u64], k: usize, s: M
 
 // Component k, that is no static literal, behind a run that is closed.
 fn put_other(area: &mut [u8], image: &[u8], words: &[u64], k: usize, s: Merging) -> Merging
-    requires { ⌜ ((d : Placed Component) × IsAt (now image) (now words) k d × Fixed d × Writable (now area) s (d ∷ [])
+    requires { ⌜ ((d : Placed Component) × (ms : List (Placed Component)) × IsAt (now image) (now words) k d × Fixed d × Closable (now area) s (d ∷ ms)
         × (isStaticLiteral (d .value) ≡ false)) ⌝ }
     ensures { λ r. ⌜ ((d : Placed Component) → IsAt (now (image .entry)) (now (words .entry)) k d → Fixed d
         → isStaticLiteral (d .value) ≡ false → OtherIs d s r (now (area .entry)) (now (area .exit))) ⌝ }
@@ -129,7 +129,7 @@ fn put_other(area: &mut [u8], image: &[u8], words: &[u64], k: usize, s: Merging)
 
 // Component k.
 fn put(area: &mut [u8], image: &[u8], words: &[u64], k: usize, s: Merging) -> Merging
-    requires { ⌜ ((d : Placed Component) × IsAt (now image) (now words) k d × Fixed d × Writable (now area) s (d ∷ [])) ⌝ }
+    requires { ⌜ ((d : Placed Component) × (cs : List (Placed Component)) × IsAt (now image) (now words) k d × Fixed d × Writable (now area) s (d ∷ cs)) ⌝ }
     ensures { λ r. ⌜ ((d : Placed Component) → IsAt (now (image .entry)) (now (words .entry)) k d → Fixed d
         → StepIs d s r (now (area .entry)) (now (area .exit))) ⌝ }
 {

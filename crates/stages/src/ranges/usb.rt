@@ -9,7 +9,8 @@ use numbers::I128;
 use numbers::OptionI128;
 ghost use mathlib.Core.Path.{_≡_};
 ghost use mathlib.Core.List.{List};
-ghost use Prim.Native.Nat.{ℕ};
+ghost use Prim.Native.Nat.{ℕ, _≤_};
+ghost use lib.ListN.{length};
 ghost use Rattle.definition.specs.Ranges.{staticVal};
 ghost use Rattle.definition.specs.Component.{isZero, simplifyUsb};
 ghost use Rattle.numbers.specs.Value.{valueOf, optionOf};
@@ -63,7 +64,7 @@ impl Usb {
 
     // The text, whose number is v, emptied: 20.
     fn moved(self, v: I128) -> UsbResult
-        ensures { λ q. ⌜ ((image : List ℕ) (t : TreeIn) (base : ℕ) → UsbReads image t base q (movedText (valueOf (self .x)) (valueOf v))) ⌝ }
+        ensures { λ q. ⌜ ((image : List ℕ) (t : TreeIn) (base : ℕ) → t .text ≤ length image → UsbReads image t base q (movedText (valueOf (self .x)) (valueOf v))) ⌝ }
     {
         match numbers::sums::checked_add(self.x, v) {
             OptionI128::Some(y) => UsbResult::Ok(Usb::val(y)),

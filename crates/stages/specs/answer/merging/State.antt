@@ -60,6 +60,13 @@ pub record Writable (area : List ℕ) (s : Merging) (ms : List (Placed Component
   pub holds : Holds base area s run
   pub room : Room base (s .w) (mergeFrom run ms)
 
+-- or an open run to be closed before others
+pub record Closable (area : List ℕ) (s : Merging) (ms : List (Placed Component)) : Type 0 where
+  pub base : List ℕ
+  pub run : Run
+  pub holds : Holds base area s run
+  pub room : Room base (s .w) (closed run ms)
+
 -- a component that is no static literal
 abbrev pub OtherIs : Placed Component → Merging → Merging → List ℕ → List ℕ → Type 0
 OtherIs d s r before after =

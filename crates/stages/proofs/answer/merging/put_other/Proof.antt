@@ -8,47 +8,47 @@ use Rattle.stages.proofs.answer.merging.behind.Reads as behind-reads
 use Rattle.stages.proofs.answer.merging.close.Reads as close-reads
 use Rattle.stages.proofs.answer.merging.put_open_literal.Reads as put-open-literal-reads
 
--- src/answer/merging.rt:125:13
+-- src/answer/merging.rt:119:13
 mul-w : tie.Need-mul-w
 mul-w c = ?
 
--- src/answer/merging.rt:126:17
+-- src/answer/merging.rt:120:17
 mul-flags : tie.Need-mul-flags
 mul-flags c = ?
 
--- src/answer/merging.rt:126:17
+-- src/answer/merging.rt:120:17
 shared-slice-read-flags : tie.Need-shared-slice-read-flags
 shared-slice-read-flags c = ?
 
--- src/answer/merging.rt:127:9
+-- src/answer/merging.rt:121:9
 close-requires : tie.Need-close-requires
-close-requires c κs = ?
+close-requires c κs = search needs
 
--- src/answer/merging.rt:129:9
+-- src/answer/merging.rt:123:9
 put-open-literal-requires : tie.Need-put-open-literal-requires
 put-open-literal-requires c κs = ?
 
--- src/answer/merging.rt:129:9
+-- src/answer/merging.rt:123:9
 same-length : tie.Need-same-length
 same-length c = search needs
 
--- src/answer/merging.rt:129:9
+-- src/answer/merging.rt:123:9
 returns : tie.Need-returns
 returns c = ?
 
--- src/answer/merging.rt:132:5
+-- src/answer/merging.rt:126:5
 put-plain-requires : tie.Need-put-plain-requires
 put-plain-requires c κs = ?
 
--- src/answer/merging.rt:133:5
+-- src/answer/merging.rt:127:5
 behind-requires : tie.Need-behind-requires
 behind-requires c κs = search needs
 
--- src/answer/merging.rt:119:1
+-- src/answer/merging.rt:113:1
 same-length-2 : tie.Need-same-length-2
 same-length-2 c = search needs
 
--- src/answer/merging.rt:119:1
+-- src/answer/merging.rt:113:1
 returns-2 : tie.Need-returns-2
 returns-2 c = ?
 

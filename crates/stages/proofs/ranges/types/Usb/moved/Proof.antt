@@ -6,27 +6,27 @@ use Rattle.stages.proofs.ranges.types.Usb.moved.Lts as lts
 use Rattle.numbers.proofs.sums.checked_add.Reads as checked-add-reads
 use Rattle.stages.proofs.ranges.types.Usb.val.Reads as val-reads
 
--- src/ranges/usb.rt:68:15
+-- src/ranges/usb.rt:69:15
 checked-add-requires : tie.Need-checked-add-requires
 checked-add-requires c κs = search needs
 
--- src/ranges/usb.rt:69:30
+-- src/ranges/usb.rt:70:30
 enum-known-y : tie.Need-enum-known-y
 enum-known-y c = search needs
 
--- src/ranges/usb.rt:69:50
+-- src/ranges/usb.rt:70:50
 val-requires : tie.Need-val-requires
 val-requires c κs = search needs
 
--- src/ranges/usb.rt:70:33
+-- src/ranges/usb.rt:71:33
 enum-told : tie.Need-enum-told
 enum-told c = search needs
 
--- src/ranges/usb.rt:65:5
+-- src/ranges/usb.rt:66:5
 returns : tie.Need-returns
 returns c = ?
 
--- src/ranges/usb.rt:65:5
+-- src/ranges/usb.rt:66:5
 returns-2 : tie.Need-returns-2
 returns-2 c = ?
 
