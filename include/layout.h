@@ -1,4 +1,4 @@
-/* The layout reader: two functions of the static library target/staticlib/liblayout_c.a, which `rt staticlib layout_c` proves and
+/* The layout reader: three functions of the static library target/staticlib/liblayout_c.a, which `rt staticlib layout_c` proves and
  * writes (for x86-64 Linux). They take any bytes, allocate nothing, keep nothing between calls, and write nothing but what is lent to
  * be written.
  *
@@ -29,11 +29,17 @@ extern "C" {
  * image and area are image_length and area_length bytes that do not overlap; where a length is 0 the pointer may be null. */
 uint64_t layout_run(const uint8_t *image, size_t image_length, uint32_t mode, uint8_t *area, size_t area_length);
 
+/* The answer area in bytes: its head, each concatenation, each component. */
+#define LAYOUT_HEAD_SIZE 32
+#define LAYOUT_CONCATENATION_SIZE 20
+#define LAYOUT_COMPONENT_SIZE 72
+
 /* The area that an image with so many concatenations, components and literal bytes asks for (a shorter one is number 8), and one that
- * is long enough for any image: LAYOUT_AREA(16, 256, 8192). */
-#define LAYOUT_AREA(concatenations, components, literal_bytes) \
-    ((size_t)32 + (size_t)20 * (concatenations) + (size_t)72 * (components) + (size_t)(literal_bytes))
-#define LAYOUT_ANY_AREA 26976
+ * is long enough for any image: 26,976 bytes. */
+#define LAYOUT_AREA(concatenations, components, literal_bytes)                                    \
+    ((size_t)LAYOUT_HEAD_SIZE + (size_t)LAYOUT_CONCATENATION_SIZE * (concatenations)              \
+     + (size_t)LAYOUT_COMPONENT_SIZE * (components) + (size_t)(literal_bytes))
+#define LAYOUT_ANY_AREA LAYOUT_AREA(16, 256, 8192)
 
 /* The text that the program `layout` prints, for an input of one mode byte and an image: its length. Where the text is longer than
  * out, the answer is 0, and out has its first part; LAYOUT_ANY_LISTING bytes are enough for any. The bytes after the text are as lent.
@@ -41,6 +47,9 @@ uint64_t layout_run(const uint8_t *image, size_t image_length, uint32_t mode, ui
 size_t layout_listing(const uint8_t *input, size_t input_length, uint8_t *out, size_t out_length);
 
 #define LAYOUT_ANY_LISTING 140577
+
+/* The image check alone: 0 for an image that passes it, else the number that refuses it, 2 to 7. */
+uint32_t layout_check(const uint8_t *image, size_t image_length);
 
 /* What an outcome of layout_run says. */
 static inline int layout_accepted(uint64_t outcome) { return outcome >> 32 == 0; }

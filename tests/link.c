@@ -102,7 +102,10 @@ int main(int argc, char **argv) {
     expect(layout_number(outcome) == 8, "no area at all is refused with number 8");
     outcome = layout_run(NULL, 0, 7, NULL, 0);
     expect(layout_number(outcome) == 1, "nothing at all in mode 7 is refused with number 1");
-    expect(LAYOUT_AREA(16, 256, 8192) == LAYOUT_ANY_AREA, "the greatest area");
+    expect(LAYOUT_ANY_AREA == 26976, "the greatest area");
+    expect(layout_check(whole.bytes + 1, whole.length - 1) == 0, "the image passes the check alone");
+    expect(layout_check(whole.bytes + 1, whole.length - 2) == 4, "an image that is a byte short has the wrong length");
+    expect(layout_check(NULL, 0) == 2, "no image at all does not pass the check");
 
     static const char empty[] = "refused 2 0 0\n";
     static uint8_t text[LAYOUT_ANY_LISTING + GUARD], cut_text[LAYOUT_ANY_LISTING + GUARD];

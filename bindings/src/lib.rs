@@ -28,6 +28,11 @@ extern "C" {
     ) -> usize;
 }
 
+/// The answer area in bytes: its head, each concatenation, each component.
+pub const HEAD_SIZE: usize = 32;
+pub const CONCATENATION_SIZE: usize = 20;
+pub const COMPONENT_SIZE: usize = 72;
+
 /// A length of area that is enough for any image.
 pub const ANY_AREA: usize = area_needed(16, 256, 8_192);
 
@@ -37,7 +42,10 @@ pub const ANY_LISTING: usize = 140_577;
 /// The length of area that an image with these counts asks for; a shorter one
 /// is refused with number 8.
 pub const fn area_needed(concatenations: usize, components: usize, literal_bytes: usize) -> usize {
-    32 + 20 * concatenations + 72 * components + literal_bytes
+    HEAD_SIZE
+        + CONCATENATION_SIZE * concatenations
+        + COMPONENT_SIZE * components
+        + literal_bytes
 }
 
 /// Why an image was refused: a number, and the concatenation and component

@@ -1,7 +1,9 @@
 //! The safe function over the static library: accepted, refused, guard bytes,
 //! the area as lent after a refusal, empty slices.
 
-use layout_reader::{area_needed, listing, run, Refusal, ANY_AREA, ANY_LISTING};
+use layout_reader::{
+    area_needed, listing, run, Refusal, ANY_AREA, ANY_LISTING, CONCATENATION_SIZE, HEAD_SIZE,
+};
 
 /// A mode byte and an image each.
 const WHOLE: &[u8] = include_bytes!("../../examples/whole.in");
@@ -35,7 +37,8 @@ fn the_cut_line_has_the_same_numbers() {
     let (mut area, mut other) = ([LENT; ANY_AREA], [LENT; ANY_AREA]);
     assert_eq!(run(&WHOLE[1..], 0, &mut area), run(&CUT[1..], 0, &mut other));
     // texts stand at other places, since the cut line has more text
-    assert_eq!(area[..72], other[..72]);
+    let blocks = HEAD_SIZE + 2 * CONCATENATION_SIZE;
+    assert_eq!(area[..blocks], other[..blocks]);
     assert_eq!(area[LENGTH - 2..LENGTH], other[LENGTH - 2..LENGTH]);
 }
 

@@ -9,7 +9,7 @@ use Rattle.definition.specs.Answer.{Answer, components}
 use Rattle.ranges.specs.Usb.{partOf}
 use Rattle.answer.specs.declared.Init.{Init}
 use Rattle.answer.specs.declared.Init.the-variants.{Given, Missing}
-use Rattle.answer.specs.declared.Start.{Start}
+use Rattle.answer.specs.declared.InitFields.{InitFields}
 
 pub record IsConcatenation (n k : ℕ) (d z : Bool) (w : Option ℕ) (c : Concatenation) : Type 0 where
   pub size : length (c .comps) ≡ n
@@ -32,6 +32,6 @@ abbrev pub initOf : List ℕ → ℕ → Init → Option (Placed Text.Part)
 initOf image text (Given base p) = some (record { base = base; value = partOf image text p })
 initOf image text Missing = none
 
-abbrev pub startText : Init → Start
+abbrev pub startText : Init → InitFields
 startText (Given base p) = record { given = true; base = base; text = p }
 startText Missing = record { given = false; base = 0; text = record { at = 0; len = 0 } }

@@ -17,19 +17,13 @@ use numbers::OptionUsize;
 use ranges::Part;
 use ranges::Usbr;
 ghost use mathlib.Core.Path.{_≡_};
-ghost use mathlib.Core.List.{List, _++_};
-ghost use Prim.Native.Nat.{ℕ, _+_};
-ghost use lib.ListN.{length};
+ghost use mathlib.Core.List.{_++_};
 ghost use lib.Seq.{sets};
 ghost use Rattle.definition.specs.Tree.{u32};
-ghost use Rattle.definition.specs.Text as Text;
-ghost use Rattle.definition.specs.Component.{Component};
-ghost use Rattle.definition.specs.Concatenation.{Concatenation};
-ghost use Rattle.definition.specs.Answer.{Answer, textBytes, componentBytes, concatenationBytes, headBytes};
 ghost use Rattle.numbers.specs.Value.{optionUsize};
-ghost use Rattle.ranges.specs.Usb.{usbrOf};
-ghost use Rattle.answer.specs.Heads.{IsConcatenation, IsHead, initOf, startText};
-ghost use Rattle.answer.specs.Kinds.{HasKind, fieldsOf};
+ghost use Rattle.answer.specs.Blocks.{textBlock, componentBlock, concatenationBlock, headBlock};
+ghost use Rattle.answer.specs.Heads.{startText};
+ghost use Rattle.answer.specs.Kinds.{fieldsOf};
 
 // What a component is: a literal of so many bits, a variable with its text, or a filler.
 pub enum Kind {
@@ -72,8 +66,8 @@ fn fields_of(kind: Kind, offset: u32) -> Fields
 }
 
 fn put_fields(area: &mut [u8], at: usize, base: u32, f: Fields)
-    ensures { λ _. ⌜ ((d : Text.Part) → d .at ≡ f .text .at → length (d .bytes) ≡ f .text .len
-        → now (area .exit) ≡ sets (now (area .entry)) at (u32 (f .kind) ++ textBytes base d ++ u32 (f .width) ++ u32 (f .offset))) ⌝ }
+    ensures { λ _. ⌜ now (area .exit)
+        ≡ sets (now (area .entry)) at (u32 (f .kind) ++ textBlock base (f .text) ++ u32 (f .width) ++ u32 (f .offset)) ⌝ }
 {
     if area.len() <= at {
         return;
@@ -84,10 +78,9 @@ fn put_fields(area: &mut [u8], at: usize, base: u32, f: Fields)
     put_u32(area, at + 16, f.offset);
 }
 
-// 72 bytes, of every component of this kind and this range.
+// 72 bytes: a component of this kind and this range, whose text starts at `base` and whose literal bits at `offset`.
 pub fn put_component(area: &mut [u8], at: usize, base: u32, offset: u32, kind: Kind, range: Usbr)
-    ensures { λ _. ⌜ ((image : List ℕ) (text : ℕ) (c : Component) → HasKind image text kind (c .c-type) → c .range ≡ usbrOf image text range
-        → now (area .exit) ≡ sets (now (area .entry)) at (componentBytes offset (record { base = base; value = c }))) ⌝ }
+    ensures { λ _. ⌜ now (area .exit) ≡ sets (now (area .entry)) at (componentBlock base offset kind range) ⌝ }
 {
     if area.len() <= at {
         return;
@@ -99,7 +92,7 @@ pub fn put_component(area: &mut [u8], at: usize, base: u32, offset: u32, kind: K
     put_usb(area, at + 48, base, end_or_zero(stop));
 }
 
-// 20 bytes, of every concatenation that has as many components, this alignment, these flags and this width.
+// 20 bytes: a concatenation of `size` components.
 pub fn put_concatenation(
     area: &mut [u8],
     at: usize,
@@ -109,8 +102,8 @@ pub fn put_concatenation(
     nonzero: bool,
     width: OptionUsize,
 )
-    ensures { λ _. ⌜ ((c : Concatenation) → IsConcatenation size align deterministic nonzero (optionUsize width) c
-        → now (area .exit) ≡ sets (now (area .entry)) at (concatenationBytes c)) ⌝ }
+    ensures { λ _. ⌜ now (area .exit)
+        ≡ sets (now (area .entry)) at (concatenationBlock size align deterministic nonzero (optionUsize width)) ⌝ }
 {
     if area.len() <= at {
         return;
@@ -127,22 +120,22 @@ pub enum Init {
     Missing,
 }
 
-struct Start {
+struct InitFields {
     given: bool,
     base: u32,
     text: Part,
 }
 
-fn start_of(init: Init) -> Start
+fn start_of(init: Init) -> InitFields
     ensures { λ r. ⌜ r ≡ startText init ⌝ }
 {
     match init {
-        Init::Given(base, text) => Start {
+        Init::Given(base, text) => InitFields {
             given: true,
             base,
             text,
         },
-        Init::Missing => Start {
+        Init::Missing => InitFields {
             given: false,
             base: 0,
             text: Part { at: 0, len: 0 },
@@ -150,7 +143,7 @@ fn start_of(init: Init) -> Start
     }
 }
 
-// 32 bytes, of every answer with these counts, this width, alignment and flags, and this starting value.
+// 32 bytes: an answer of `size` concatenations, with `merged` components in all.
 pub fn put_head(
     area: &mut [u8],
     at: usize,
@@ -162,9 +155,8 @@ pub fn put_head(
     width: OptionUsize,
     init: Init,
 )
-    ensures { λ _. ⌜ ((image : List ℕ) (text : ℕ) (a : Answer)
-        → IsHead size merged align deterministic nonzero (optionUsize width) (initOf image text init) a
-        → now (area .exit) ≡ sets (now (area .entry)) at (headBytes a)) ⌝ }
+    ensures { λ _. ⌜ now (area .exit)
+        ≡ sets (now (area .entry)) at (headBlock size merged align deterministic nonzero (optionUsize width) init) ⌝ }
 {
     if area.len() <= at {
         return;

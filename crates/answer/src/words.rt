@@ -9,14 +9,10 @@ use numbers::OptionUsize;
 use ranges::Part;
 use ranges::Usb;
 ghost use mathlib.Core.Path.{_≡_};
-ghost use mathlib.Core.List.{List};
-ghost use Prim.Native.Nat.{ℕ};
-ghost use lib.ListN.{length};
 ghost use lib.Seq.{sets};
-ghost use Rattle.definition.specs.Text as Text;
-ghost use Rattle.definition.specs.Answer.{widthBytes, textBytes, xBytes, usbBytes};
+ghost use Rattle.definition.specs.Answer.{widthBytes, xBytes};
 ghost use Rattle.numbers.specs.Value.{optionUsize, valueOf};
-ghost use Rattle.ranges.specs.Usb.{usbOf};
+ghost use Rattle.answer.specs.Blocks.{textBlock, usbBlock};
 
 pub(crate) fn put_width(area: &mut [u8], at: usize, w: OptionUsize)
     ensures { λ _. ⌜ now (area .exit) ≡ sets (now (area .entry)) at (widthBytes (optionUsize w)) ⌝ }
@@ -24,10 +20,9 @@ pub(crate) fn put_width(area: &mut [u8], at: usize, w: OptionUsize)
     put_u64(area, at, width_number(w));
 }
 
-// The text of every part with this offset and this number of bytes.
+// Where a part of a text starts, and its length.
 pub(crate) fn put_text(area: &mut [u8], at: usize, base: u32, p: Part)
-    ensures { λ _. ⌜ ((d : Text.Part) → d .at ≡ p .at → length (d .bytes) ≡ p .len
-        → now (area .exit) ≡ sets (now (area .entry)) at (textBytes base d)) ⌝ }
+    ensures { λ _. ⌜ now (area .exit) ≡ sets (now (area .entry)) at (textBlock base p) ⌝ }
 {
     if area.len() <= at {
         return;
@@ -48,8 +43,7 @@ fn put_x(area: &mut [u8], at: usize, x: I128)
 }
 
 pub(crate) fn put_usb(area: &mut [u8], at: usize, base: u32, u: Usb)
-    ensures { λ _. ⌜ ((image : List ℕ) (text : ℕ)
-        → now (area .exit) ≡ sets (now (area .entry)) at (usbBytes base (usbOf image text u))) ⌝ }
+    ensures { λ _. ⌜ now (area .exit) ≡ sets (now (area .entry)) at (usbBlock base u) ⌝ }
 {
     if area.len() <= at {
         return;

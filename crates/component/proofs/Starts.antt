@@ -3,7 +3,7 @@ use mathlib.Core.Path.{_≡_, refl, sym, ap, _∙_}
 use native.Mathlib.Nat.{add-zero}
 use native.Mathlib.Omega.{arith}
 use Rattle.definition.specs.Prelude.{ℕ, Bool, true, false, not, Option, none, some, List, [], _∷_}
-use Rattle.definition.specs.Basics.{Result, ok, refused, _>>=_, placed, if_then_else_, isEmpty}
+use Rattle.definition.specs.Basics.{Result, ok, refused, _>>=_, withPlaces, if_then_else_, isEmpty}
 use Rattle.definition.specs.Refusals.{need, empty-after-colon}
 use Rattle.definition.specs.Image.{recsFrom, Unparsed, Placed}
 use Rattle.definition.specs.Text as Text
@@ -62,7 +62,7 @@ abbrev startBy : ℕ → ℕ → Option Prefix → Result (Option (Placed Text.P
 startBy k base o =
     elim o [
       | none ↦ ok none
-      | some p ↦ placed 0 k (need (not (isEmpty (p .after))) empty-after-colon) >>= λ _. ok (some (placedAt base (Text.partOf (p .before))))
+      | some p ↦ withPlaces 0 k (need (not (isEmpty (p .after))) empty-after-colon) >>= λ _. ok (some (placedAt base (Text.partOf (p .before))))
     ]
 
 start-is : (k base : ℕ) (u : Unparsed) → startingValue k (placedAt base u ∷ []) ≡ startBy k base (prefixOf u)
@@ -84,7 +84,7 @@ module _
 
     module _ (p : Part) (after : Run) (q : c ≡ C.At p after) (b : Bool) (t : b ≡ isEmpty (itemsIn image (place .text) after)) where
       start-some : (r : Result (Option (Placed Text.Part)))
-          → r ≡ (placed 0 k (need (not b) empty-after-colon) >>= λ _. ok (some (placedAt base (Usb.partOf image (place .text) p))))
+          → r ≡ (withPlaces 0 k (need (not b) empty-after-colon) >>= λ _. ok (some (placedAt base (Usb.partOf image (place .text) p))))
           → r ≡ startingValue k (placedAt base (unparsedIn image place) ∷ [])
       start-some r g =
           let (x, n, y, z) = parts-some (prefixOf (unparsedIn image place)) _ _ (sym (prefix-is ∙ ap (colonIn image (place .text)) q)) in

@@ -5,7 +5,6 @@ pub use values::Bits;
 pub use values::Component;
 pub use values::ComponentResult;
 pub use values::ComponentType;
-pub(crate) use values::least;
 pub(crate) use values::ordered;
 
 mod places;

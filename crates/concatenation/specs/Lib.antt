@@ -2,6 +2,8 @@
 pub mod Align
 pub mod Overall
 pub mod Running
+pub mod Summaries
+pub mod SummaryLaw
 pub mod Witness
 pub mod alignment
 pub mod running_check

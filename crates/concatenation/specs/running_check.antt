@@ -1,2 +1,3 @@
 -- What the values of this crate mean.
 pub mod Running
+pub mod ShapeLaw

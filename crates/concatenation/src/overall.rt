@@ -1,21 +1,19 @@
 // Stage 4: what the concatenations say together, over a summary of each.
 use crate::alignment::FillerAlign;
-use crate::alignment::both;
-use crate::alignment::either;
 use crate::alignment::join_align;
 use errors::Checked;
 use errors::Refusal;
+use errors::flags::both;
+use errors::flags::either;
 use numbers::OptionUsize;
 ghost use mathlib.Core.Path.{_≡_};
-ghost use mathlib.Core.List.{List};
-ghost use Rattle.definition.specs.Concatenation.{Concatenation};
-ghost use Rattle.definition.specs.Overall.{joinWidth, checkSource, overall};
 ghost use Rattle.errors.specs.Refused.{resultOf};
 ghost use Rattle.numbers.specs.Value.{optionUsize};
-ghost use Rattle.concatenation.specs.Overall.{overallOf, answerOf, HasSummary, StartsAs, joined as joinedOf, andThen, turn, placeOf, oppositeAs};
+ghost use Rattle.concatenation.specs.Overall.{placeOf, summaryOf, overallOf, answerOf};
+ghost use Rattle.concatenation.specs.Summaries.{andThen, joinedAs, joinWidthAs, checkSourceAs, turnAs, startAs, oppositeTo};
 
 // The place of a component.
-pub enum Place {
+pub enum OptionPlace {
     At(u32),
     None,
 }
@@ -26,8 +24,8 @@ pub struct Summary {
     pub width: OptionUsize,
     pub deterministic: bool,
     pub nonzero: bool,
-    pub filler: Place,
-    pub unbounded: Place,
+    pub filler: OptionPlace,
+    pub unbounded: OptionPlace,
 }
 
 // The answer's head; `known` is the first concatenation of known width.
@@ -46,7 +44,7 @@ pub enum OverallResult {
 
 // What concatenation s adds, where the width is known from concatenation `known`, or not at all.
 fn joined(s: Summary, known: u32, width: OptionUsize, o: Overall) -> Overall
-    ensures { λ q. ⌜ ((c : Concatenation) → HasSummary c s → overallOf q ≡ joinedOf c known (optionUsize width) (overallOf o)) ⌝ }
+    ensures { λ q. ⌜ overallOf q ≡ joinedAs (summaryOf s) known (optionUsize width) (overallOf o) ⌝ }
 {
     let so_far = o.align;
     let this = s.align;
@@ -64,7 +62,7 @@ fn joined(s: Summary, known: u32, width: OptionUsize, o: Overall) -> Overall
 
 // 41.
 fn join_width(i: u32, s: Summary, o: Overall) -> OverallResult
-    ensures { λ q. ⌜ ((c : Concatenation) → HasSummary c s → answerOf q ≡ joinWidth i c (overallOf o)) ⌝ }
+    ensures { λ q. ⌜ answerOf q ≡ joinWidthAs i (summaryOf s) (overallOf o) ⌝ }
 {
     let so_far = o.width;
     let width = s.width;
@@ -86,10 +84,10 @@ fn join_width(i: u32, s: Summary, o: Overall) -> OverallResult
 
 // 40.
 fn check_source(bare: bool, i: u32, s: Summary) -> Checked
-    ensures { λ q. ⌜ ((c : Concatenation) → HasSummary c s → resultOf q ≡ checkSource bare i c) ⌝ }
+    ensures { λ q. ⌜ resultOf q ≡ checkSourceAs bare i (summaryOf s) ⌝ }
 {
     let filler = s.filler;
-    let Place::At(k) = filler else {
+    let OptionPlace::At(k) = filler else {
         return Checked::Passed;
     };
     if both(bare, i == 0) {
@@ -113,7 +111,7 @@ pub(crate) fn after(a: Checked, r: OverallResult) -> OverallResult
 }
 
 pub(crate) fn join(bare: bool, i: u32, s: Summary, o: Overall) -> OverallResult
-    ensures { λ q. ⌜ ((c : Concatenation) → HasSummary c s → answerOf q ≡ turn bare i c (overallOf o)) ⌝ }
+    ensures { λ q. ⌜ answerOf q ≡ turnAs bare i (summaryOf s) (overallOf o) ⌝ }
 {
     match join_width(i, s, o) {
         OverallResult::Ok(p) => after(check_source(bare, i, s), OverallResult::Ok(p)),
@@ -123,7 +121,7 @@ pub(crate) fn join(bare: bool, i: u32, s: Summary, o: Overall) -> OverallResult
 
 // What the loop starts with: concatenation 0, if there is one.
 pub(crate) fn start(n: usize, s: Summary) -> Overall
-    ensures { λ q. ⌜ ((l : List Concatenation) → StartsAs l n s → overallOf q ≡ overall l) ⌝ }
+    ensures { λ q. ⌜ overallOf q ≡ startAs n (summaryOf s) ⌝ }
 {
     let align = s.align;
     let width = s.width;
@@ -146,15 +144,15 @@ pub(crate) fn start(n: usize, s: Summary) -> Overall
 }
 
 // 45 for concatenation i and the first one after it that is opposite to it, if there is one.
-pub(crate) fn opposite(i: u32, later: Place) -> Checked
-    ensures { λ q. ⌜ resultOf q ≡ oppositeAs i (placeOf later) ⌝ }
+pub(crate) fn opposite(i: u32, later: OptionPlace) -> Checked
+    ensures { λ q. ⌜ resultOf q ≡ oppositeTo i (placeOf later) ⌝ }
 {
     match later {
-        Place::At(j) => Checked::Refused(Refusal {
+        OptionPlace::At(j) => Checked::Refused(Refusal {
             number: 45,
             concatenation: i,
             component: j,
         }),
-        Place::None => Checked::Passed,
+        OptionPlace::None => Checked::Passed,
     }
 }

@@ -1,11 +1,10 @@
 // Stage 4 over an array of summaries, of which the first n count (all 16 where n is larger).
 use crate::alignment::FillerAlign;
-use crate::alignment::both;
 use crate::alignment::is_align;
 use crate::alignment::is_opposite;
+use crate::overall::OptionPlace;
 use crate::overall::Overall;
 use crate::overall::OverallResult;
-use crate::overall::Place;
 use crate::overall::Summary;
 use crate::overall::after;
 use crate::overall::join;
@@ -13,18 +12,20 @@ use crate::overall::opposite;
 use crate::overall::start;
 use errors::Checked;
 use errors::Refusal;
+use errors::flags::both;
 use numbers::OptionUsize;
 ghost use mathlib.Core.Path.{_≡_};
-ghost use mathlib.Core.List.{List, _∷_};
-ghost use Prim.Native.Nat.{_+_, _≤_, _<_};
+ghost use mathlib.Core.List.{List, map};
+ghost use Prim.Native.Nat.{_≤_, _<_};
 ghost use lib.ListN.{length, take, drop};
 ghost use Rattle.definition.specs.Basics.{refused};
-ghost use Rattle.definition.specs.Concatenation.{Concatenation};
-ghost use Rattle.definition.specs.Overall.{overallFrom, overall, middleFrom, oppositeFrom, placeFrom, stage4 as stage4Of};
+ghost use Rattle.definition.specs.Overall.{placeFrom};
 ghost use Rattle.errors.specs.Refused.{resultOf};
 ghost use Rattle.numbers.specs.Value.{optionUsize};
 ghost use Rattle.concatenation.specs.alignment.Align.{alignOf};
-ghost use Rattle.concatenation.specs.Overall.{placeOf, overallOf, answerOf, HasSummary, Summarised, middleAt, isOpposite, oppositeAt, commonOf, onlyOf, middleOf, oppositeOf, checksOf};
+ghost use Rattle.concatenation.specs.Overall.{placeOf, summaryOf, overallOf, answerOf};
+ghost use Rattle.concatenation.specs.Summaries.{overallFromAs, overallAs, checksAs, stage4As};
+ghost use Rattle.concatenation.specs.Summaries.{commonAs, onlyAs, middleAt, middleFromAs, middleAs, isOpposite, oppositeAt, oppositeFromAs, oppositeAs};
 
 fn refused_at(number: u32, i: u32, k: u32) -> Checked
     ensures { λ q. ⌜ resultOf q ≡ refused number i k ⌝ }
@@ -38,7 +39,7 @@ fn refused_at(number: u32, i: u32, k: u32) -> Checked
 
 fn overall_of(bare: bool, cs: [Summary; 16], n: usize) -> OverallResult
     requires { ⌜ n ≤ 16 ⌝ }
-    ensures { λ q. ⌜ ((l : List Concatenation) → Summarised l (take n cs) → answerOf q ≡ overallFrom bare 0 l (overall l)) ⌝ }
+    ensures { λ q. ⌜ answerOf q ≡ overallFromAs bare 0 (map summaryOf (take n cs)) (overallAs (map summaryOf (take n cs))) ⌝ }
 {
     let mut o = start(n, cs[0]);
     let mut i: usize = 0;
@@ -59,12 +60,12 @@ fn overall_of(bare: bool, cs: [Summary; 16], n: usize) -> OverallResult
 }
 
 fn middle_at(i: u32, s: Summary) -> Checked
-    ensures { λ q. ⌜ ((c : Concatenation) → HasSummary c s → resultOf q ≡ middleAt i c) ⌝ }
+    ensures { λ q. ⌜ resultOf q ≡ middleAt i (summaryOf s) ⌝ }
 {
     let align = s.align;
     let unbounded = s.unbounded;
     if is_align(align, FillerAlign::Mid) {
-        let Place::At(k) = unbounded else {
+        let OptionPlace::At(k) = unbounded else {
             return Checked::Passed;
         };
         return refused_at(44, i, k);
@@ -74,7 +75,7 @@ fn middle_at(i: u32, s: Summary) -> Checked
 
 fn middle_of(cs: [Summary; 16], n: usize) -> Checked
     requires { ⌜ n ≤ 16 ⌝ }
-    ensures { λ q. ⌜ ((l : List Concatenation) → Summarised l (take n cs) → resultOf q ≡ middleFrom 0 l) ⌝ }
+    ensures { λ q. ⌜ resultOf q ≡ middleFromAs 0 (map summaryOf (take n cs)) ⌝ }
 {
     let mut i: usize = 0;
     while i < n {
@@ -92,26 +93,26 @@ fn middle_of(cs: [Summary; 16], n: usize) -> Checked
 }
 
 // The first concatenation from `from` on that is opposite to this alignment.
-fn find_opposite(align: FillerAlign, cs: [Summary; 16], n: usize, from: usize) -> Place
+fn find_opposite(align: FillerAlign, cs: [Summary; 16], n: usize, from: usize) -> OptionPlace
     requires { ⌜ (n ≤ 16) × (from ≤ n) ⌝ }
-    ensures { λ q. ⌜ ((l : List Concatenation) (c : Concatenation) → Summarised l (take n cs) → alignOf align ≡ c .align → placeOf q ≡ placeFrom (isOpposite c) from (drop from l)) ⌝ }
+    ensures { λ q. ⌜ placeOf q ≡ placeFrom (isOpposite (alignOf align)) from (drop from (map summaryOf (take n cs))) ⌝ }
 {
     let mut j = from;
     while j < n {
         let s = cs[j];
         let other = s.align;
         if is_opposite(align, other) {
-            return Place::At(j as u32);
+            return OptionPlace::At(j as u32);
         }
         j += 1;
     }
-    Place::None
+    OptionPlace::None
 }
 
 // 45 for concatenation i and the first one after it that is opposite to it.
 fn opposite_at(cs: [Summary; 16], n: usize, i: usize) -> Checked
     requires { ⌜ (n ≤ 16) × (i < n) ⌝ }
-    ensures { λ q. ⌜ ((l : List Concatenation) (c : Concatenation) → Summarised l (take n cs) → drop i l ≡ c ∷ drop (i + 1) l → resultOf q ≡ oppositeAt i c (drop (i + 1) l)) ⌝ }
+    ensures { λ q. ⌜ resultOf q ≡ oppositeAt i (drop i (map summaryOf (take n cs))) ⌝ }
 {
     let s = cs[i];
     let align = s.align;
@@ -121,7 +122,7 @@ fn opposite_at(cs: [Summary; 16], n: usize, i: usize) -> Checked
 
 fn opposite_of(cs: [Summary; 16], n: usize) -> Checked
     requires { ⌜ n ≤ 16 ⌝ }
-    ensures { λ q. ⌜ ((l : List Concatenation) → Summarised l (take n cs) → resultOf q ≡ oppositeFrom 0 l) ⌝ }
+    ensures { λ q. ⌜ resultOf q ≡ oppositeFromAs 0 (map summaryOf (take n cs)) ⌝ }
 {
     let mut i: usize = 0;
     while i < n {
@@ -139,7 +140,7 @@ fn opposite_of(cs: [Summary; 16], n: usize) -> Checked
 
 // 42: mode 2 wants a common width.
 fn check_common(mode: u32, width: OptionUsize) -> Checked
-    ensures { λ q. ⌜ resultOf q ≡ commonOf mode (optionUsize width) ⌝ }
+    ensures { λ q. ⌜ resultOf q ≡ commonAs mode (optionUsize width) ⌝ }
 {
     let OptionUsize::None = width else {
         return Checked::Passed;
@@ -152,7 +153,7 @@ fn check_common(mode: u32, width: OptionUsize) -> Checked
 
 // 43: one concatenation alone is deterministic.
 fn check_only(n: usize, deterministic: bool) -> Checked
-    ensures { λ q. ⌜ resultOf q ≡ onlyOf n deterministic ⌝ }
+    ensures { λ q. ⌜ resultOf q ≡ onlyAs n deterministic ⌝ }
 {
     if deterministic {
         return Checked::Passed;
@@ -166,7 +167,7 @@ fn check_only(n: usize, deterministic: bool) -> Checked
 // 44.
 fn check_middle(deterministic: bool, cs: [Summary; 16], n: usize) -> Checked
     requires { ⌜ n ≤ 16 ⌝ }
-    ensures { λ q. ⌜ ((l : List Concatenation) → Summarised l (take n cs) → resultOf q ≡ middleOf deterministic l) ⌝ }
+    ensures { λ q. ⌜ resultOf q ≡ middleAs deterministic (map summaryOf (take n cs)) ⌝ }
 {
     if deterministic {
         return Checked::Passed;
@@ -177,7 +178,7 @@ fn check_middle(deterministic: bool, cs: [Summary; 16], n: usize) -> Checked
 // 45.
 fn check_opposite(deterministic: bool, align: FillerAlign, cs: [Summary; 16], n: usize) -> Checked
     requires { ⌜ n ≤ 16 ⌝ }
-    ensures { λ q. ⌜ ((l : List Concatenation) → Summarised l (take n cs) → resultOf q ≡ oppositeOf deterministic (alignOf align) l) ⌝ }
+    ensures { λ q. ⌜ resultOf q ≡ oppositeAs deterministic (alignOf align) (map summaryOf (take n cs)) ⌝ }
 {
     if deterministic {
         return Checked::Passed;
@@ -191,7 +192,7 @@ fn check_opposite(deterministic: bool, align: FillerAlign, cs: [Summary; 16], n:
 // What stage 4 does after its loop: 42 to 45.
 fn checks(mode: u32, cs: [Summary; 16], n: usize, o: Overall) -> OverallResult
     requires { ⌜ n ≤ 16 ⌝ }
-    ensures { λ q. ⌜ ((l : List Concatenation) → Summarised l (take n cs) → answerOf q ≡ checksOf mode l (overallOf o)) ⌝ }
+    ensures { λ q. ⌜ answerOf q ≡ checksAs mode (map summaryOf (take n cs)) (overallOf o) ⌝ }
 {
     let width = o.width;
     let align = o.align;
@@ -213,7 +214,7 @@ fn at_most_16(n: usize) -> usize
 
 // Stage 4, under a mode, of a tree with or without a starting value: 41, 40, 42, 43, 44, 45.
 pub fn stage4(mode: u32, given: bool, cs: [Summary; 16], n: usize) -> OverallResult
-    ensures { λ q. ⌜ ((l : List Concatenation) → Summarised l (take n cs) → answerOf q ≡ stage4Of mode given l) ⌝ }
+    ensures { λ q. ⌜ answerOf q ≡ stage4As mode given (map summaryOf (take n cs)) ⌝ }
 {
     let m = at_most_16(n);
     match overall_of(both(1 <= mode, !given), cs, m) {

@@ -1,4 +1,4 @@
--- Two more closed examples that meet every premise of the cutting claim, with the claim computed on each.
+-- More closed examples that meet every premise of the cutting claim, with the claim computed on each.
 use mathlib.Core.Path.{_≡_, refl}
 use Rattle.definition.specs.Prelude.{[], _∷_}
 use Rattle.definition.specs.Basics.{ascii}
@@ -6,7 +6,7 @@ use Rattle.definition.specs.Image.{kinds}
 use Rattle.definition.specs.Tree.{end, word, group}
 use Rattle.definition.specs.Readings.{tokens, parenthesised}
 use Rattle.cutting.specs.Statement.{Given, Premises, _⊕_}
-use Rattle.cutting.specs.Witnesses.{found, claimed, meets, example, byte, plain, sink, opened}
+use Rattle.cutting.specs.Witnesses.{found, claimed, meets, exampleIn, example, byte, plain, sink, opened}
 
 -- the worked example with its 8 bits as one literal, cut into three: `[..3]`, `[3..=4]` and `[5..]`
 unfoldable pub three : Given
@@ -21,6 +21,19 @@ between =
     (plain (tokens ("." ∷ "." ∷ [])) ∷ []) ((plain (word (ascii "b") (group (kinds .bracket) (tokens ("." ∷ "." ∷ "64" ∷ [])) end)) ∷ []) ∷ []) 1 7 5 (6 ∷ [])
     ((tokens ("1" ∷ "." ∷ "." ∷ []) ⊕ parenthesised ("2" ∷ "+" ∷ "3" ∷ [])) ∷ tokens ("5" ∷ []) ∷ tokens ("6" ∷ "." ∷ "." ∷ "7" ∷ []) ∷ [])
 
+-- mode 1, `zero:165u8, ..`: a filler in the source, with a starting value
+unfoldable pub returned : Given
+returned =
+    exampleIn 1 [] (plain (tokens ("." ∷ "." ∷ [])) ∷ []) (byte (tokens ("zero" ∷ ":" ∷ "165u8" ∷ []))) []
+    ((plain (word (ascii "b") (group (kinds .bracket) (tokens ("." ∷ "." ∷ "64" ∷ [])) end)) ∷ []) ∷ []) 0 8 4 []
+    (tokens ("." ∷ "." ∷ "4" ∷ []) ∷ tokens ("4" ∷ "." ∷ "." ∷ []) ∷ [])
+
+-- mode 2: the worked example's width is known
+unfoldable pub static : Given
+static =
+    exampleIn 2 [] [] (byte (tokens ("165u8" ∷ []))) [] (sink ∷ []) 0 8 4 []
+    (tokens ("." ∷ "." ∷ "4" ∷ []) ∷ tokens ("4" ∷ "." ∷ "." ∷ []) ∷ [])
+
 pub three-right : found three ≡ claimed three
 unfolding opened three
 three-right = refl
@@ -29,6 +42,14 @@ pub between-right : found between ≡ claimed between
 unfolding opened between
 between-right = refl
 
--- the premises of the claim can be met
-pub met : Premises three × Premises between
-met = (meets three three-right, meets between between-right)
+pub returned-right : found returned ≡ claimed returned
+unfolding opened returned
+returned-right = refl
+
+pub static-right : found static ≡ claimed static
+unfolding opened static
+static-right = refl
+
+-- the premises of the claim can be met, under every mode
+pub met : Premises three × Premises between × Premises returned × Premises static
+met = (meets three three-right, meets between between-right, meets returned returned-right, meets static static-right)

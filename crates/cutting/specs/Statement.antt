@@ -6,7 +6,7 @@ use mathlib.Core.Path.{_≡_}
 use Prim.Native.Nat.{_≤_, _<_}
 use Rattle.definition.specs.Prelude.{ℕ, suc, _+_, _-_, _/_, _%_, _^_, Bool, true, false, _&&_, not, Option, none, some, List, [], _∷_, _++_, map, length, getD, take, drop, ltb, eqb, ℤ, pos, negsuc, natAbs}
 use Rattle.definition.specs.Basics.{Result, ok, refused, _>>=_, if_then_else_, isEmpty, sameBytes, sum, joined}
-use Rattle.definition.specs.Numbers.{char}
+use Rattle.definition.specs.Characters.{char}
 use Rattle.definition.specs.Limits.{areaNeeded}
 use Rattle.definition.specs.Image.{Unparsed, Placed, kinds, treeOf}
 use Rattle.definition.specs.Tree.{Forest, end, word, group, Node, Tree, recsOf, flat, literalsOf, imageOf, fits}

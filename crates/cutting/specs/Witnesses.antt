@@ -1,5 +1,5 @@
--- Closed examples that meet every premise of the cutting claim, with the claim computed on each: no premise is empty. Two more, which
--- take longer to compute, stand in cut_witnesses.
+-- Closed examples that meet every premise of the cutting claim, with the claim computed on each: no premise is empty. Others,
+-- also under modes 1 and 2, stand in Further.
 use mathlib.Core.Path.{_≡_, refl, sym, ap, subst}
 use lib.ListN.{replicate}
 use lib.Dec.{T, leb→le}
@@ -96,13 +96,13 @@ meets g h =
       long-enough = leb→le (room g) (length (g .new-area)) (subst T (sym (ap (λ f. f .room) h)) tt);
     }
 
--- a literal in its place, its bounds, places and brackets, under mode 0, with areas that hold other bytes
-abbrev pub example : Tree → List Node → Node → List Node → Tree → ℕ → ℕ → ℕ → List ℕ → List Forest → Given
-example cb below node above ca a b place places brackets =
+-- a literal in its place, its bounds, places and brackets, under a mode, with areas that hold other bytes
+abbrev pub exampleIn : ℕ → Tree → List Node → Node → List Node → Tree → ℕ → ℕ → ℕ → List ℕ → List Forest → Given
+exampleIn mode cb below node above ca a b place places brackets =
     record {
-      mode = 0;
+      mode = mode;
       area = replicate 500 7;
-      answer = answerOf (imageOf (cb ++ (below ++ (node ∷ []) ++ above) ∷ ca)) 0 500;
+      answer = answerOf (imageOf (cb ++ (below ++ (node ∷ []) ++ above) ∷ ca)) mode 500;
       concatenations-below = cb;
       below = below;
       node = node;
@@ -115,6 +115,9 @@ example cb below node above ca a b place places brackets =
       brackets = brackets;
       new-area = replicate 900 9;
     }
+
+abbrev pub example : Tree → List Node → Node → List Node → Tree → ℕ → ℕ → ℕ → List ℕ → List Forest → Given
+example = exampleIn 0
 
 -- 165, as document 01's worked literal: bits 10100101
 abbrev pub byte : Forest → Node

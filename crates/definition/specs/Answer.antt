@@ -98,7 +98,7 @@ pub record Field : Type 0 where
   pub start : Bound
   pub «end» : Option Bound
 
-pub record Group : Type 0 where
+pub record Concat : Type 0 where
   pub size : ℕ
   pub align : ℕ
   pub flags : ℕ
@@ -110,7 +110,7 @@ pub record Read : Type 0 where
   pub flags : ℕ
   pub align : ℕ
   pub init : List ℕ
-  pub groups : List Group
+  pub concats : List Concat
   pub fields : List Field
 
 -- a width of two halves, and the text that a start and a length name
@@ -126,8 +126,8 @@ untwos n = if ltb n half128 then pos n else negsuc (2 ^ 128 - suc n)
 abbrev pub boundAt : List ℕ → List ℕ → ℕ → Bound
 boundAt image s at = record { text = textAt image s at; x = untwos (sum (tab (λ i. u32At s (at + 8 + 4 * i) * 2 ^ (32 * i)) 0 4)) }
 
-abbrev pub groupAt : List ℕ → ℕ → Group
-groupAt s i =
+abbrev pub concatAt : List ℕ → ℕ → Concat
+concatAt s i =
     let at = sizes .head + sizes .concatenation * i in
     record { size = u32At s at; align = u32At s (at + 4); flags = u32At s (at + 8); width = widthAt s (at + 12) }
 
@@ -153,6 +153,6 @@ readAnswer image s =
       flags = u32At s 16;
       align = u32At s 20;
       init = textAt image s 24;
-      groups = tab (groupAt s) 0 (u32At s 0);
+      concats = tab (concatAt s) 0 (u32At s 0);
       fields = tab (fieldAt image s) 0 (u32At s 4);
     }

@@ -21,9 +21,9 @@ ok a >>= f = f a
 refused n i k >>= f = refused n i k
 
 -- a refusal met below is given its places
-abbrev pub placed : {A : Type 0} → ℕ → ℕ → Result A → Result A
-placed i k (ok a) = ok a
-placed i k (refused n i₀ k₀) = refused n i k
+abbrev pub withPlaces : {A : Type 0} → ℕ → ℕ → Result A → Result A
+withPlaces i k (ok a) = ok a
+withPlaces i k (refused n i₀ k₀) = refused n i k
 
 abbrev pub isEmpty : {A : Type 0} → List A → Bool
 isEmpty [] = true

@@ -2,7 +2,7 @@
 use Rattle.definition.specs.Prelude.{ℕ, zero, suc, _+_, _-_, _/_, _%_, _^_, Bool, true, false, _&&_, List, [], _∷_, map, length, getD, take, drop, leb, ltb, eqb}
 use Rattle.definition.specs.Basics.{Result, ok, _>>=_, if_then_else_, within, sum, all, tab}
 use Rattle.definition.specs.Limits.{limits}
-use Rattle.definition.specs.Refusals.{need, short-image, bad-count, bad-offset, bad-entry, bad-record, too-deep}
+use Rattle.definition.specs.Refusals.{need, refuse, short-image, bad-count, bad-offset, bad-entry, bad-record, too-deep}
 use Rattle.definition.specs.Image.{u32At, bytesFor, counts, tables, componentCount, recordCount, literalWidth, Entry, startAt, entryAt, kinds, opens, delimiter}
 
 -- 3: "C concatenations (1 to 16), N components (1 to 256), R records (1 to 2,048), T text bytes (1 to 16,384), B literal bytes (0 to 8,192)"
@@ -71,9 +71,10 @@ abbrev pub closeRight : ℕ → Entry → Entry → Bool
 closeRight t e c = textRight t c && delimiterRight ((delimiter (e .kind)) .closing) c && eqb (c .skip) 1
 
 -- 6 and 7, record by record: what stands in one component or group, `depth` groups deep. "A group is checked by checking what
--- stands inside it." The fuel is the number of records.
+-- stands inside it." The fuel is the number of records, which is always enough; a record that is met without fuel is refused.
 unfoldable pub checkIn : ℕ → ℕ → List Entry → ℕ → Result Unit
-checkIn t zero es depth = ok tt
+checkIn t zero [] depth = ok tt
+checkIn t zero (e ∷ rest) depth = refuse bad-record
 checkIn t (suc fuel) [] depth = ok tt
 checkIn t (suc fuel) (e ∷ rest) depth =
     elim (opens (e .kind)) [

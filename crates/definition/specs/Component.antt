@@ -1,7 +1,8 @@
 -- Stages 1 and 2 of a component, free of its place, and over the whole tree (src/component.rs, and simplify of src/ranges.rs).
 use Rattle.definition.specs.Prelude.{ℕ, zero, suc, Bool, true, false, _&&_, _||_, not, Option, none, some, List, [], _∷_, length, getD, take, drop, eqb, ℤ, pos, natAbs, _+ℤ_, _-ℤ_, ltZ, leZ, nonNeg}
-use Rattle.definition.specs.Basics.{Result, ok, _>>=_, placed, if_then_else_, within, isEmpty}
-use Rattle.definition.specs.Numbers.{tryParse, char}
+use Rattle.definition.specs.Basics.{Result, ok, _>>=_, withPlaces, if_then_else_, within, isEmpty}
+use Rattle.definition.specs.Characters.{char}
+use Rattle.definition.specs.Numbers.{tryParse}
 use Rattle.definition.specs.Refusals.{need, empty-after-colon, nothing-before-range, no-literal, overflow, negative-bound, reversed, zero-width, start-above-width, end-above-width, range-above-width, end-zero, open-start}
 use Rattle.definition.specs.Image.{Unparsed, Placed, kinds}
 use Rattle.definition.specs.Text.{Part, noText, Item, items, isGroup, isToken, partOf}
@@ -87,7 +88,7 @@ stage1Component scanned u = parseComponent (middle scanned u) ((splitOf u) .rang
 unfoldable pub eachIn : {A B : Type 0} → (Bool → A → Result B) → ℕ → ℕ → List A → Result (List B)
 eachIn f i k [] = ok []
 eachIn f i k (a ∷ rest) = do
-  b ← placed i k (f (eqb i 0 && isEmpty rest) a)
+  b ← withPlaces i k (f (eqb i 0 && isEmpty rest) a)
   bs ← eachIn f i (suc k) rest
   ok (b ∷ bs)
 
@@ -109,7 +110,7 @@ startingValue k (u ∷ []) =
     elim (prefixOf (u .value)) [
       | none ↦ ok none
       | some p ↦ do
-        _ ← placed 0 k (need (not (isEmpty (p .after))) empty-after-colon)
+        _ ← withPlaces 0 k (need (not (isEmpty (p .after))) empty-after-colon)
         ok (some (record { base = u .base; value = partOf (p .before) }))
     ]
 startingValue k (u ∷ v ∷ rest) = startingValue (suc k) (v ∷ rest)

@@ -1,6 +1,6 @@
--- Stage 3, the check of each concatenation, and stage 5, merging (src/concatenation.rs).
+-- Stage 3, the check of each concatenation, and stage 5, merging (src/concatenation.rs: Concatenation::check and ::simplify).
 use Rattle.definition.specs.Prelude.{ℕ, zero, suc, _+_, _^_, Bool, true, false, _&&_, _||_, not, Option, none, some, List, [], _∷_, _++_, length, ltb, eqb, pos, natAbs}
-use Rattle.definition.specs.Basics.{Result, ok, _>>=_, placed, if_then_else_, isEmpty}
+use Rattle.definition.specs.Basics.{Result, ok, _>>=_, withPlaces, if_then_else_, isEmpty}
 use Rattle.definition.specs.Refusals.{need, literal-in-sink, lone-filler-sink, second-filler, zero-total-width, sum-overflow}
 use Rattle.definition.specs.Image.{Placed}
 use Rattle.definition.specs.Ranges.{val, staticRange, staticWidth, staticVal}
@@ -46,10 +46,12 @@ pub record Running : Type 0 where
   pub deterministic : Bool
   pub nonzero : Bool
 
-abbrev pub running : Running
-running = record { width = some 0; align = align-none; deterministic = true; nonzero = false }
+-- before the first component: width 0 and deterministic until one says otherwise (Concatenation::check)
+abbrev pub unchecked : Running
+unchecked = record { width = some 0; align = align-none; deterministic = true; nonzero = false }
 
--- "34 the sum of widths, while all so far are known, passes 2^64-1"
+-- "34 the sum of widths, while all so far are known, passes 2^64-1". A known width is not zero, so that Z (guaranteed_nonzero_width) is
+-- set by it, whatever stands before (Concatenation::check).
 abbrev pub addWidth : Component → Running → Result Running
 addWidth c r =
     elim (staticWidth (c .range)) [
@@ -62,11 +64,12 @@ addWidth c r =
       ]
     ]
 
--- the alignment that an unbounded filler gives, by whether it is the first and the last component
+-- the alignment that an unbounded filler gives, by whether it is the first and the last component (Concatenation::check, filler_alignment)
 abbrev pub alignOf : Bool → Bool → FillerAlign
 alignOf first last = if first then (if last then align-single else align-lsb) else if last then align-msb else align-mid
 
--- "30 literal in a sink; 31 sink of one unbounded filler; 32 second unbounded filler"
+-- "30 literal in a sink; 31 sink of one unbounded filler; 32 second unbounded filler". An unbounded filler takes D (deterministic_width),
+-- a variable with its full range sets Z (Concatenation::check, the match on c_type).
 abbrev pub checkType : Bool → Bool → Bool → Component → Running → Result Running
 checkType sink first last c r =
     elim (c .c-type) [
@@ -85,8 +88,8 @@ checkType sink first last c r =
 unfoldable pub checkFrom : ℕ → ℕ → Bool → List (Placed Component) → Running → Result Running
 checkFrom i k first [] r = ok r
 checkFrom i k first (c ∷ rest) r = do
-  r₁ ← placed i 0 (addWidth (c .value) r)
-  r₂ ← placed i k (checkType (not (eqb i 0)) first (isEmpty rest) (c .value) r₁)
+  r₁ ← withPlaces i 0 (addWidth (c .value) r)
+  r₂ ← withPlaces i k (checkType (not (eqb i 0)) first (isEmpty rest) (c .value) r₁)
   checkFrom i (suc k) false rest r₂
 
 -- a concatenation as stage 3 leaves it
@@ -100,8 +103,8 @@ pub record Concatenation : Type 0 where
 -- Concatenation::check; "Then 33 zero total width"
 unfoldable pub check : ℕ → List (Placed Component) → Result Concatenation
 check i cs = do
-  r ← checkFrom i 0 true cs running
-  _ ← placed i 0 (need (elim (r .width) [ none ↦ true | some w ↦ ltb 0 w ]) zero-total-width)
+  r ← checkFrom i 0 true cs unchecked
+  _ ← withPlaces i 0 (need (elim (r .width) [ none ↦ true | some w ↦ ltb 0 w ]) zero-total-width)
   ok (record { comps = cs; align = r .align; width = r .width; deterministic = r .deterministic; nonzero = r .nonzero })
 
 unfoldable pub stage3 : ℕ → List (List (Placed Component)) → Result (List Concatenation)
@@ -116,14 +119,14 @@ stage3 i (c ∷ cs) = do
 abbrev pub bitsOf : Component → List ℕ
 bitsOf c = elim (c .c-type) [ literal b ↦ b | variable p ↦ [] | filler ↦ [] ]
 
-abbrev pub fixedLiteral : List ℕ → Component
-fixedLiteral bits = record { c-type = literal bits; range = record { start = val (pos 0); «end» = some (val (pos (length bits))) } }
+abbrev pub wholeLiteral : List ℕ → Component
+wholeLiteral bits = record { c-type = literal bits; range = record { start = val (pos 0); «end» = some (val (pos (length bits))) } }
 
 abbrev pub mergeOnto : Placed Component → List (Placed Component) → List (Placed Component)
 mergeOnto c [] = c ∷ []
 mergeOnto c (d ∷ rest) =
     if isStaticLiteral (c .value) && isStaticLiteral (d .value)
-    then record { base = c .base; value = fixedLiteral (bitsOf (c .value) ++ bitsOf (d .value)) } ∷ rest
+    then record { base = c .base; value = wholeLiteral (bitsOf (c .value) ++ bitsOf (d .value)) } ∷ rest
     else c ∷ d ∷ rest
 
 unfoldable pub merge : List (Placed Component) → List (Placed Component)

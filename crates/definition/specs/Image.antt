@@ -1,6 +1,7 @@
 -- Document 01, "The prepared image": header and tables, read totally. A byte that is missing counts as 0.
 use Rattle.definition.specs.Prelude.{ℕ, zero, suc, _+_, _*_, _-_, _/_, _%_, _^_, Bool, List, [], _∷_, getD, take, drop, eqb}
 use Rattle.definition.specs.Basics.{if_then_else_, within, tab}
+use Rattle.definition.specs.Characters.{char}
 
 -- "All numbers are little-endian u32."
 abbrev pub u32At : List ℕ → ℕ → ℕ
@@ -83,9 +84,10 @@ opens kind = within (kinds .space) (kinds .brace) kind
 -- "An opener or closer has one byte, its delimiter (a space for kind 1)."
 abbrev pub delimiter : ℕ → record { opening : ℕ; closing : ℕ }
 delimiter kind =
-    if eqb kind (kinds .space) then record { opening = 32; closing = 32 }
-    else if eqb kind (kinds .parenthesis) then record { opening = 40; closing = 41 }
-    else if eqb kind (kinds .bracket) then record { opening = 91; closing = 93 } else record { opening = 123; closing = 125 }
+    if eqb kind (kinds .space) then record { opening = char .space; closing = char .space }
+    else if eqb kind (kinds .parenthesis) then record { opening = char .open-parenthesis; closing = char .close-parenthesis }
+    else if eqb kind (kinds .bracket) then record { opening = char .open-bracket; closing = char .close-bracket }
+    else record { opening = char .open-brace; closing = char .close-brace }
 
 -- A record as the stages see it, free of its place: its kind, its text's bytes and its skip.
 pub record Rec : Type 0 where

@@ -1,7 +1,9 @@
--- The definition of a run, from the bottom up: Prelude, Basics, Limits, Refusals, Numbers; the image (Image, Check, Tree); the stages (Text,
--- Ranges, Component, Concatenation, Overall); Answer, Run, Listing. Examples, Readings, Worked hold it to document 01's examples.
+-- The definition of a run, from the bottom up: Prelude, Basics, Characters, Limits, Refusals, Numbers; the image (Image, Check, Tree); the stages (Text,
+-- Ranges, Component, Concatenation, Overall); Answer, Run, Listing. Examples, Readings, Worked, Areas hold it to document 01's examples.
 pub mod Answer
+pub mod Areas
 pub mod Basics
+pub mod Characters
 pub mod Check
 pub mod Component
 pub mod Compute

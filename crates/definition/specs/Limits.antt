@@ -13,6 +13,10 @@ sizes = record { head = 32; concatenation = 20; component = 72 }
 abbrev pub areaNeeded : ℕ → ℕ → ℕ → ℕ
 areaNeeded c n b = sizes .head + sizes .concatenation * c + sizes .component * n + b
 
--- "input above 51,306 bytes is judged on its first 51,306, which no image can fill": a mode byte and an image
+-- the largest image: its header, and the five tables at their limits
+abbrev pub maxImage : ℕ
+maxImage = 40 + 4 * limits .concatenations + 8 * limits .components + 12 * limits .records + limits .text + limits .literal-bytes
+
+-- "input above 51,306 bytes is judged on its first 51,306, which no image can fill": a mode byte, and a byte more than any image has
 abbrev pub maxInput : ℕ
-maxInput = 51306
+maxInput = maxImage + 2

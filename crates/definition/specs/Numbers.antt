@@ -1,6 +1,7 @@
 -- Document 01, "Numbers and bounds": 128-bit integers as ℤ with a test, and i128_try_parse (src/ranges.rs).
 use Rattle.definition.specs.Prelude.{ℕ, _+_, _*_, _-_, _^_, Bool, true, _&&_, Option, none, some, List, [], _∷_, length, getD, drop, ltb, eqb, ℤ, pos, negsuc, negℤ}
 use Rattle.definition.specs.Basics.{if_then_else_, within, isEmpty}
+use Rattle.definition.specs.Characters.{char}
 
 -- 2^127, kept shut in proofs
 unfoldable pub half128 : ℕ
@@ -15,15 +16,12 @@ fits128 (negsuc n) = ltb n half128
 abbrev pub narrow : ℤ → Option ℤ
 narrow z = if fits128 z then some z else none
 
--- characters with a meaning of their own
-abbrev pub char : record { plus : ℕ; minus : ℕ; dot : ℕ; colon : ℕ; equals : ℕ; zero : ℕ; nine : ℕ }
-char = record { plus = 43; minus = 45; dot = 46; colon = 58; equals = 61; zero = 48; nine = 57 }
-
 -- "Digit worth": 0 to 9, a to f and A to F, and no other byte
 unfoldable pub digitWorth : ℕ → Option ℕ
 digitWorth b =
     if within (char .zero) (char .nine) b then some (b - char .zero)
-    else if within 97 102 b then some (b - 87) else if within 65 70 b then some (b - 55) else none
+    else if within (char .lower-a) (char .lower-f) b then some (10 + (b - char .lower-a))
+    else if within (char .upper-a) (char .upper-f) b then some (10 + (b - char .upper-a)) else none
 
 -- the worth, where it is a digit of that radix
 abbrev pub digitIn : ℕ → ℕ → Option ℕ
@@ -51,7 +49,7 @@ inner radix (b ∷ rest) =
 
 -- the radix that x, o and b stand for
 abbrev pub radixOf : ℕ → Option ℕ
-radixOf b = if eqb b 120 then some 16 else if eqb b 111 then some 8 else if eqb b 98 then some 2 else none
+radixOf b = if eqb b (char .x) then some 16 else if eqb b (char .o) then some 8 else if eqb b (char .b) then some 2 else none
 
 -- "if more than two characters remain and the first is `0`, the second must be `x`, `o` or `b` and the rest is read in
 -- that radix; otherwise decimal"

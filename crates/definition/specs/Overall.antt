@@ -1,6 +1,6 @@
--- Stage 4, what the concatenations say together (stage4 of src/concatenation.rs).
+-- Stage 4, what the concatenations say together (src/concatenation.rs: stage4).
 use Rattle.definition.specs.Prelude.{ℕ, suc, Bool, true, false, _&&_, _||_, not, Option, none, some, List, [], _∷_, length, leb, eqb}
-use Rattle.definition.specs.Basics.{Result, ok, _>>=_, placed, if_then_else_}
+use Rattle.definition.specs.Basics.{Result, ok, _>>=_, withPlaces, if_then_else_}
 use Rattle.definition.specs.Refusals.{need, refuse, filler-without-start, unequal-widths, no-common-width, only-source, middle-filler, opposite-fillers}
 use Rattle.definition.specs.Image.{Placed}
 use Rattle.definition.specs.Component.{Component, literal, variable, filler}
@@ -23,22 +23,32 @@ abbrev pub isFiller : Component → Bool
 isFiller c = elim (c .c-type) [ literal b ↦ false | variable p ↦ false | filler ↦ true ]
 
 -- none where one has no filler (a later filler does not undo it); a filler standing alone takes the other's; two that differ are multiple
+-- (stage4, the match on overall_alignment)
 abbrev pub joinAlign : FillerAlign → FillerAlign → FillerAlign
 joinAlign overall this =
     if isAlign this align-none || isAlign overall align-none then align-none
     else if isAlign overall align-single then this
     else if isAlign this align-single || isAlign this overall then overall else align-multiple
 
+-- one concatenation more, where the width is known from concatenation `at`, or not at all: D and Z are those of any (stage4, its loop)
+abbrev pub joinedAt : Concatenation → Overall → ℕ → Option ℕ → Overall
+joinedAt c o at w =
+    record {
+      align = joinAlign (o .align) (c .align);
+      width = w;
+      known = at;
+      deterministic = o .deterministic || c .deterministic;
+      nonzero = o .nonzero || c .nonzero;
+    }
+
 -- "41 width unequal to an earlier known one, places the first known and this concatenation"
 abbrev pub joinWidth : ℕ → Concatenation → Overall → Result Overall
 joinWidth i c o =
-    let known : ℕ → Option ℕ → Overall =
-    λ at w. record { align = joinAlign (o .align) (c .align); width = w; known = at; deterministic = o .deterministic || c .deterministic; nonzero = o .nonzero || c .nonzero } in
     elim (c .width) [
-      | none ↦ ok (known (o .known) (o .width))
+      | none ↦ ok (joinedAt c o (o .known) (o .width))
       | some w ↦ elim (o .width) [
-        | none ↦ ok (known i (some w))
-        | some v ↦ (placed (o .known) i (need (eqb w v) unequal-widths) >>= λ _. ok (known (o .known) (some v)))
+        | none ↦ ok (joinedAt c o i (some w))
+        | some v ↦ (withPlaces (o .known) i (need (eqb w v) unequal-widths) >>= λ _. ok (joinedAt c o (o .known) (some v)))
       ]
     ]
 
@@ -47,7 +57,7 @@ abbrev pub checkSource : Bool → ℕ → Concatenation → Result Unit
 checkSource bare i c =
     elim (placeFrom (λ (p : Placed Component). isFiller (p .value)) 0 (c .comps)) [
       | none ↦ ok tt
-      | some k ↦ placed 0 k (need (not (bare && eqb i 0)) filler-without-start)
+      | some k ↦ withPlaces 0 k (need (not (bare && eqb i 0)) filler-without-start)
     ]
 
 unfoldable pub overallFrom : Bool → ℕ → List Concatenation → Overall → Result Overall
@@ -57,21 +67,22 @@ overallFrom bare i (c ∷ cs) o = do
   _ ← checkSource bare i c
   overallFrom bare (suc i) cs o′
 
--- the loop starts with what concatenation 0 says, and goes through concatenation 0 too
-abbrev pub overall : List Concatenation → Overall
-overall [] = record { align = align-none; width = none; known = 0; deterministic = false; nonzero = false }
-overall (c ∷ cs) = record { align = c .align; width = c .width; known = 0; deterministic = c .deterministic; nonzero = false }
+-- the loop starts with what concatenation 0 says, but for Z, and goes through concatenation 0 too (stage4, before its loop)
+abbrev pub overallStart : List Concatenation → Overall
+overallStart [] = record { align = align-none; width = none; known = 0; deterministic = false; nonzero = false }
+overallStart (c ∷ cs) = record { align = c .align; width = c .width; known = 0; deterministic = c .deterministic; nonzero = false }
 
--- "44 not deterministic, filler in the middle": the first such concatenation's unbounded filler
+-- "44 not deterministic, filler in the middle": the first such concatenation, and the unbounded filler in it, by its index before
+-- merging (stage4, the loop over comps)
 unfoldable pub middleFrom : ℕ → List Concatenation → Result Unit
 middleFrom i [] = ok tt
 middleFrom i (c ∷ cs) =
     let later = middleFrom (suc i) cs in
     if isAlign (c .align) align-mid
-    then elim (placeFrom (λ (p : Placed Component). isUnboundedFiller (p .value)) 0 (c .comps)) [ none ↦ later | some k ↦ placed i k (refuse middle-filler) ]
+    then elim (placeFrom (λ (p : Placed Component). isUnboundedFiller (p .value)) 0 (c .comps)) [ none ↦ later | some k ↦ withPlaces i k (refuse middle-filler) ]
     else later
 
--- neither none nor single
+-- neither none nor single (stage4, its last loop)
 abbrev pub isSided : FillerAlign → Bool
 isSided a = not (isAlign a align-none || isAlign a align-single)
 
@@ -81,12 +92,12 @@ oppositeFrom i [] = ok tt
 oppositeFrom i (c ∷ cs) =
     let later = oppositeFrom (suc i) cs in
     let opposite = placeFrom (λ (d : Concatenation). isSided (c .align) && isSided (d .align) && not (isAlign (c .align) (d .align))) (suc i) cs in
-    elim opposite [ none ↦ later | some j ↦ placed i j (refuse opposite-fillers) ]
+    elim opposite [ none ↦ later | some j ↦ withPlaces i j (refuse opposite-fillers) ]
 
 -- stage 4, under a mode, of a tree with or without a starting value
 unfoldable pub stage4 : ℕ → Bool → List Concatenation → Result Overall
 stage4 mode given cs = do
-  o ← overallFrom (leb 1 mode && not given) 0 cs (overall cs)
+  o ← overallFrom (leb 1 mode && not given) 0 cs (overallStart cs)
   _ ← need (not (eqb mode 2) || elim (o .width) [ none ↦ false | some w ↦ true ]) no-common-width
   _ ← need (o .deterministic || not (eqb (length cs) 1)) only-source
   _ ← if o .deterministic then ok tt else middleFrom 0 cs

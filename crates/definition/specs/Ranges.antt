@@ -1,7 +1,8 @@
 -- Document 01, "Numbers and bounds" (src/ranges.rs): a bound, the scan for `..` and `..=`, and a range.
 use Rattle.definition.specs.Prelude.{ℕ, suc, _+_, _-_, Bool, true, false, _&&_, not, Option, none, some, List, [], _∷_, take, drop, eqb, ℤ, pos, _+ℤ_, _-ℤ_}
 use Rattle.definition.specs.Basics.{Result, ok, _>>=_, if_then_else_, isEmpty, sameBytes}
-use Rattle.definition.specs.Numbers.{narrow, tryParse, char}
+use Rattle.definition.specs.Characters.{char}
+use Rattle.definition.specs.Numbers.{narrow, tryParse}
 use Rattle.definition.specs.Refusals.{Reason, need, refuse, empty-range, second-dots, three-dots, not-one-token, bound-overflow}
 use Rattle.definition.specs.Image.{kinds}
 use Rattle.definition.specs.Text.{Part, noText, Item, items, isGroup, isToken, partOf}
@@ -136,8 +137,8 @@ unfoldable pub scanFrom : ℕ → List Item → Scan → Result Scan
 scanFrom n [] st = if eqb (st .dots) 2 then find st (n - 2) n false else ok st
 scanFrom n (i ∷ rest) st = scanStep n i st >>= scanFrom (suc n) rest
 
-abbrev pub scan : List Item → Result Scan
-scan is = scanFrom 0 is (record { dots = 0; found = none; inclusive = false })
+abbrev pub scanDots : List Item → Result Scan
+scanDots is = scanFrom 0 is (record { dots = 0; found = none; inclusive = false })
 
 -- "An empty start is 0"
 abbrev pub parseStart : List Item → Result Usb
@@ -158,7 +159,7 @@ parseEnd inclusive is =
 unfoldable pub parseRange : List Item → Result (Option Usbr)
 parseRange is = do
   _ ← need (not (isEmpty is)) empty-range
-  st ← scan is
+  st ← scanDots is
   elim (st .found) [
     | none ↦ ok none
     | some f ↦ do

@@ -17,22 +17,22 @@ pub record Said : Type 0 where
 pub data Reading : Type 0 where
   no-number : Reading
   number : ℤ → Reading
-  bound : Said → Reading
-  range : Said → Option Said → Reading
+  reads-bound : Said → Reading
+  reads-range : Said → Option Said → Reading
   is-refused : ℕ → Reading
 
 -- what is read: a number; a bound or a range, from its records; a literal of 8 bits with a bracket
-pub data Source : Type 0 where
-  as-number : String → Source
-  as-bound : Forest → Source
-  as-range : Forest → Source
-  on-literal : Forest → Source
+pub data Sample : Type 0 where
+  as-number : String → Sample
+  as-bound : Forest → Sample
+  as-range : Forest → Sample
+  on-literal : Forest → Sample
 
-abbrev pub said : Usb → Said
-said u = record { text = u .s .bytes; x = u .x }
+abbrev pub saidBound : Usb → Said
+saidBound u = record { text = u .s .bytes; x = u .x }
 
 abbrev pub saidRange : Usbr → Reading
-saidRange r = range (said (r .start)) (elim (r .«end») [ none ↦ none | some e ↦ some (said e) ])
+saidRange r = reads-range (saidBound (r .start)) (elim (r .«end») [ none ↦ none | some e ↦ some (saidBound e) ])
 
 abbrev pub readingOf : {A : Type 0} → (A → Reading) → Result A → Reading
 readingOf f (ok a) = f a
@@ -43,16 +43,16 @@ simplified none = refused 0 0 0
 simplified (some r) = simplifyRange r
 
 -- both stages of the literal `0u8` with a bracket
-abbrev pub onLiteral : Forest → Result Component
-onLiteral f =
+abbrev pub literalWith : Forest → Result Component
+literalWith f =
     stage1Component false (record { recs = flat (word (ascii "0u8") (group (kinds .bracket) f end)); bits = tab (λ i. 0) 0 8 }) >>= simplify
 
-unfoldable pub read : Source → Reading
+unfoldable pub readingFor : Sample → Reading
 unfolding tryParse half128 digitWorth digitsFrom inner unsignedParse sameBytes sum all joined tab ascii flat textOf chunks itemsOf bytesOf parseUsb parseRange cutLast cutPair readBound scanFrom simplify simplifyUsb simplifyRange simplifyLiteral splitRange splitColon parseComponent
-read (as-number s) = elim (tryParse (ascii s)) [ none ↦ no-number | some z ↦ number z ]
-read (as-bound f) = readingOf (λ u. bound (said u)) (parseUsb (items 0 (flat f)))
-read (as-range f) = readingOf saidRange (parseRange (items 0 (flat f)) >>= simplified)
-read (on-literal f) = readingOf (λ c. saidRange (c .range)) (onLiteral f)
+readingFor (as-number s) = elim (tryParse (ascii s)) [ none ↦ no-number | some z ↦ number z ]
+readingFor (as-bound f) = readingOf (λ u. reads-bound (saidBound u)) (parseUsb (items 0 (flat f)))
+readingFor (as-range f) = readingOf saidRange (parseRange (items 0 (flat f)) >>= simplified)
+readingFor (on-literal f) = readingOf (λ c. saidRange (c .range)) (literalWith f)
 
 -- records of one text each
 unfoldable pub tokens : List String → Forest
@@ -65,7 +65,7 @@ parenthesised ss = group (kinds .parenthesis) (tokens ss) end
 abbrev pub sum-of : String → ℤ → Said
 sum-of s x = record { text = ascii s; x = x }
 
-unfoldable pub table : List (Source × Reading)
+unfoldable pub table : List (Sample × Reading)
 table =
     (as-number "07", number (pos 7))
     ∷ (as-number "007", no-number)
@@ -73,15 +73,15 @@ table =
     ∷ (as-number "0x-5", number (negsuc 4))
     ∷ (as-number "0x", no-number)
     ∷ (as-number "-170141183460469231731687303715884105728", no-number)
-    ∷ (as-bound (parenthesised []), bound (sum-of "" (pos 0)))
-    ∷ (as-bound (parenthesised ("a" ∷ "-" ∷ [])), bound (sum-of "a" (pos 0)))
-    ∷ (as-bound (parenthesised ("10" ∷ "-" ∷ "n" ∷ [])), bound (sum-of "-n" (pos 10)))
-    ∷ (as-range (tokens ("5" ∷ "." ∷ "." ∷ "=" ∷ [])), range (sum-of "" (pos 5)) none)
+    ∷ (as-bound (parenthesised []), reads-bound (sum-of "" (pos 0)))
+    ∷ (as-bound (parenthesised ("a" ∷ "-" ∷ [])), reads-bound (sum-of "a" (pos 0)))
+    ∷ (as-bound (parenthesised ("10" ∷ "-" ∷ "n" ∷ [])), reads-bound (sum-of "-n" (pos 10)))
+    ∷ (as-range (tokens ("5" ∷ "." ∷ "." ∷ "=" ∷ [])), reads-range (sum-of "" (pos 5)) none)
     ∷ (as-range (tokens ("1" ∷ "." ∷ "." ∷ "2" ∷ "." ∷ "." ∷ "3" ∷ [])), is-refused 13)
     ∷ (on-literal (tokens ("a" ∷ "." ∷ "." ∷ "0" ∷ [])), is-refused 27)
     ∷ []
 
 -- the twelve readings
-pub readings : map (λ (e : Source × Reading). read (e .0)) table ≡ map (λ (e : Source × Reading). e .1) table
-unfolding read table tokens
+pub readings : map (λ (e : Sample × Reading). readingFor (e .0)) table ≡ map (λ (e : Sample × Reading). e .1) table
+unfolding readingFor table tokens
 readings = refl

@@ -33,3 +33,7 @@ run image mode area = do
 abbrev pub areaAfter : List ℕ → Result (List ℕ) → List ℕ
 areaAfter area (ok bytes) = bytes ++ drop (length bytes) area
 areaAfter area (refused n i k) = area
+
+-- what a run on a lent area comes to, the answer's length or a refusal, and the area afterwards
+abbrev pub ranOn : List ℕ → ℕ → List ℕ → Result ℕ × List ℕ
+ranOn image mode area = let r = run image mode (length area) in ((r >>= λ bytes. ok (length bytes)), areaAfter area r)

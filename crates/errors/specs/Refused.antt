@@ -18,3 +18,8 @@ resultOf (Refused r) = refusedAs r
 abbrev pub outcomeOf : Outcome → Result ℕ
 outcomeOf (O.Accepted n) = ok n
 outcomeOf (O.Refused q) = refusedAs q
+
+-- an answer as one number: 0 where nothing is refused, else document 01's number of the refusal
+abbrev pub numberIn : {A : Type 0} → Result A → ℕ
+numberIn (ok a) = 0
+numberIn (refused number concatenation component) = number

@@ -1,7 +1,9 @@
 // Refusals (src/errors.rs): numbers and places only, as document 01 gives them.
+pub mod flags;
+
 ghost use mathlib.Core.Path.{_≡_};
-ghost use Rattle.definition.specs.Basics.{refused, placed};
-ghost use Rattle.errors.specs.Refused.{refusedAs};
+ghost use Rattle.definition.specs.Basics.{refused, withPlaces};
+ghost use Rattle.errors.specs.Refused.{refusedAs, resultOf, numberIn};
 
 // A number of document 01 and two places: concatenation and component, 0 where there is none.
 pub struct Refusal {
@@ -35,11 +37,21 @@ pub fn refuse(number: u32) -> Refusal
 
 // The same refusal at other places.
 pub fn placed_at(r: Refusal, concatenation: u32, component: u32) -> Refusal
-    ensures { λ q. ⌜ refusedAs {A = Unit} q ≡ placed concatenation component (refusedAs r) ⌝ }
+    ensures { λ q. ⌜ refusedAs {A = Unit} q ≡ withPlaces concatenation component (refusedAs r) ⌝ }
 {
     Refusal {
         number: r.number,
         concatenation,
         component,
+    }
+}
+
+// A check's answer as one number: 0, or the refusal's.
+pub fn number_of(c: Checked) -> u32
+    ensures { λ n. ⌜ n ≡ numberIn (resultOf c) ⌝ }
+{
+    match c {
+        Checked::Passed => 0,
+        Checked::Refused(r) => r.number,
     }
 }

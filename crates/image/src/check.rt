@@ -4,10 +4,11 @@ mod entries;
 mod records;
 
 use crate::record_rules::between;
-use crate::record_rules::both;
 use crate::token_tree::Counts;
 use crate::token_tree::Tables;
+use crate::words::four_at;
 use errors::Checked;
+use errors::flags::both;
 ghost use mathlib.Core.Path.{_≡_};
 ghost use Prim.Native.Nat.{_+_, _≤_};
 ghost use lib.Dec.{eqb};
@@ -17,14 +18,6 @@ ghost use Rattle.definition.specs.Check.{checkImage};
 ghost use Rattle.errors.specs.Refused.{resultOf};
 ghost use Rattle.image.specs.token_tree.Tables.{countsOf, tablesOf};
 ghost use Rattle.image.specs.check.Parts.{countsIn, offsetsIn};
-
-// Four bytes that are all there.
-fn four_at(s: &[u8], at: usize) -> u32
-    requires { ⌜ at + 4 ≤ length (now s) ⌝ }
-    ensures { λ r. ⌜ r ≡ u32At (now (s .entry)) at ⌝ }
-{
-    crate::token_tree::join4(s[at], s[at + 1], s[at + 2], s[at + 3])
-}
 
 // The header's counts. Called from one place, so that it is inlined and they stay in registers.
 fn header(image: &[u8]) -> Counts
@@ -43,9 +36,15 @@ fn header(image: &[u8]) -> Counts
 fn counts_right(h: Counts) -> bool
     ensures { λ r. ⌜ r ≡ countsIn (countsOf h) ⌝ }
 {
-    let trees = both(between(1, 16, h.c), between(1, 256, h.n));
-    let texts = both(both(trees, between(1, 2048, h.r)), between(1, 16384, h.t));
-    both(texts, h.b <= 8192)
+    let trees = both(
+        between(1, limits::CONCATENATIONS, h.c),
+        between(1, limits::COMPONENTS, h.n),
+    );
+    let texts = both(
+        both(trees, between(1, limits::RECORDS, h.r)),
+        between(1, limits::TEXT, h.t),
+    );
+    both(texts, h.b <= limits::LITERAL_BYTES)
 }
 
 fn number_is(image: &[u8], at: usize, n: usize) -> bool

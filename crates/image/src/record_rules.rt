@@ -1,6 +1,6 @@
 // The rules of document 01's image check that look at one record's or one entry's numbers: what was read is handed in.
+use errors::flags::both;
 ghost use mathlib.Core.Path.{_≡_};
-ghost use mathlib.Core.Bool.{_&&_};
 ghost use Rattle.definition.specs.Basics.{within};
 ghost use Rattle.definition.specs.Image.{delimiter};
 ghost use Rattle.definition.specs.Check.{textRight, delimiterRight, wordRight, closeRight};
@@ -17,12 +17,6 @@ pub struct Numbers {
 pub struct Delimiter {
     pub opening: u8,
     pub closing: u8,
-}
-
-pub(crate) fn both(a: bool, b: bool) -> bool
-    ensures { λ r. ⌜ r ≡ (a && b) ⌝ }
-{
-    if a { b } else { false }
 }
 
 pub(crate) fn between(lo: u32, hi: u32, n: u32) -> bool

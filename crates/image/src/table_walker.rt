@@ -3,7 +3,7 @@ use crate::token_tree::PBind;
 use crate::token_tree::PText;
 use crate::token_tree::u32_at;
 use crate::words::byte_at;
-use crate::words::join4;
+use crate::words::four_at;
 use crate::words::stop_of;
 ghost use mathlib.Core.Path.{_≡_};
 ghost use Prim.Native.Nat.{_+_, _≤_};
@@ -19,14 +19,6 @@ pub struct RecordEntry {
     pub stop: PText,
     pub skip: u32,
     pub byte: u8,
-}
-
-// Four bytes that are all there.
-fn four_at(s: &[u8], at: usize) -> u32
-    requires { ⌜ at + 4 ≤ length (now s) ⌝ }
-    ensures { λ r. ⌜ r ≡ u32At (now (s .entry)) at ⌝ }
-{
-    join4(s[at], s[at + 1], s[at + 2], s[at + 3])
 }
 
 // A place no further than the end, from which the same bytes are read: no sum after it can wrap.

@@ -1,6 +1,7 @@
 // The prepared image and its tables (src/token_tree.rs, whose arena the image replaces). Nothing is asked of a caller: a byte that
 // is missing counts as 0.
 pub use crate::words::byte_at;
+use crate::words::four_at;
 pub use crate::words::join4;
 ghost use mathlib.Core.Path.{_≡_};
 ghost use Prim.Native.Nat.{_+_, _*_, _^_, _<_, _≤_};
@@ -42,14 +43,6 @@ fn byte_on(s: &[u8], at: usize, n: usize) -> u8
         return 0;
     }
     if n < s.len() - at { s[at + n] } else { 0 }
-}
-
-// Four bytes that are all there.
-fn four_at(s: &[u8], at: usize) -> u32
-    requires { ⌜ at + 4 ≤ length (now s) ⌝ }
-    ensures { λ r. ⌜ r ≡ u32At (now (s .entry)) at ⌝ }
-{
-    join4(s[at], s[at + 1], s[at + 2], s[at + 3])
 }
 
 // Four bytes of which some may be missing.

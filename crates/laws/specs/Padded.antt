@@ -1,4 +1,4 @@
--- Laws of bytes read with zeros past the end (def_image, padded).
+-- Laws of bytes read with zeros past the end (definition, padded).
 use mathlib.Core.Path.{_≡_, refl, ap}
 use Prim.Native.Nat.{_<_}
 use native.Mathlib.Omega.{arith}

@@ -2,7 +2,7 @@
 use mathlib.Core.Path.{_≡_, refl}
 use native.Mathlib.Omega.{arith}
 use Rattle.definition.specs.Prelude.{ℕ, Bool, true, false}
-use Rattle.definition.specs.Basics.{Result, ok, refused, _>>=_, placed}
+use Rattle.definition.specs.Basics.{Result, ok, refused, _>>=_, withPlaces}
 use Rattle.definition.specs.Refusals.{Reason, need}
 
 pub bind-ok : {A B : Type 0} (m : Result A) (f : A → Result B) {b : B} → (m >>= f) ≡ ok b → (a : A) × (m ≡ ok a) × (f a ≡ ok b)
@@ -18,7 +18,7 @@ pub need-then : {B : Type 0} (t : Bool) (r : Reason) (m : Result B) {b : B} → 
 need-then true r m h = (refl, h)
 need-then false r m h = let z : _≡_ {A = ℕ} 0 1 = cc in absurd (omega arith)
 
-pub placed-ok : {A : Type 0} (i k : ℕ) (m : Result A) {a : A} → placed i k m ≡ ok a → m ≡ ok a
+pub placed-ok : {A : Type 0} (i k : ℕ) (m : Result A) {a : A} → withPlaces i k m ≡ ok a → m ≡ ok a
 placed-ok i k (ok b) h = h
 placed-ok i k (refused n i₀ k₀) h = let z : _≡_ {A = ℕ} 0 1 = cc in absurd (omega arith)
 

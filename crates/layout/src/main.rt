@@ -1,5 +1,5 @@
 // The program of document 01: reads standard input, one mode byte and an image, and prints the listing. What it prints for an input is
-// proved of `layout_run::answer`; here it is only read and written.
+// proved of `output::answer`; here it is only read and written.
 //
 // Where a read or a write fails, the reason goes to standard error. After a failed read nothing is printed. (Rattle has no exit status,
 // so the status is 0 even then.)
@@ -8,6 +8,8 @@ use libc::STDOUT_FILENO;
 use listing::Written;
 ghost use mathlib.Core.Path.{_≡_};
 ghost use lib.ListN.{length};
+ghost use Rattle.definition.specs.Limits.{maxInput};
+ghost use Rattle.listing_length.specs.run.Listing.{longestListing};
 
 // How many bytes were read, or that a read failed.
 enum Input {
@@ -16,17 +18,17 @@ enum Input {
 }
 
 // No more than these bytes of an input are looked at.
-fn input_buffer() -> [u8; 51306]
-    ensures { λ r. ⌜ 51306 ≡ length r ⌝ }
+fn input_buffer() -> [u8; limits::MAX_INPUT]
+    ensures { λ r. ⌜ maxInput ≡ length r ⌝ }
 {
-    [0; 51306]
+    [0; limits::MAX_INPUT]
 }
 
 // No listing is longer.
-fn listing_buffer() -> [u8; 140600]
-    ensures { λ r. ⌜ 140600 ≡ length r ⌝ }
+fn listing_buffer() -> [u8; limits::MAX_LISTING]
+    ensures { λ r. ⌜ longestListing ≡ length r ⌝ }
 {
-    [0; 140600]
+    [0; limits::MAX_LISTING]
 }
 
 // Reads until buf is full, the input ends or a read fails.
@@ -62,7 +64,7 @@ fn answer(buf: &[u8], n: usize) {
         return;
     }
     let mut out = listing_buffer();
-    match layout_run::answer(&buf[..n], &mut out) {
+    match output::answer(&buf[..n], &mut out) {
         Written::Whole(m) => print_listing(&out, m),
         Written::Cut => {}
     }

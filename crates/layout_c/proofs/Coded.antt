@@ -9,7 +9,7 @@ use Rattle.errors.specs.Refused.{outcomeOf}
 use Rattle.listing.specs.Outcomes.{filled, writtenAs}
 use Rattle.listing.specs.declared.Written.{Written}
 use Rattle.listing.specs.declared.Written.the-variants.{Whole, Cut}
-use Rattle.layout_run.specs.Ran.{ranOn}
+use Rattle.definition.specs.Run.{ranOn}
 use Rattle.layout_c.specs.outcome.Code.{codeOf}
 use Rattle.layout_c.specs.Code.{codedOn, listedIn}
 use Rattle.layout_c.specs.Split.{codeOn, code-small}

@@ -3,7 +3,7 @@ use Rattle.definition.specs.Prelude.{ℕ, List, length, leb}
 use Rattle.definition.specs.Basics.{if_then_else_}
 use Rattle.definition.specs.Listing.{output}
 use Rattle.listing.specs.Outcomes.{filled}
-use Rattle.layout_run.specs.Ran.{ranOn}
+use Rattle.definition.specs.Run.{ranOn}
 use Rattle.layout_c.specs.outcome.Code.{codeOf}
 
 -- what a run on a lent area comes to, as one number, and the area afterwards

@@ -1,5 +1,4 @@
 -- What a caller in C is told.
 pub mod Code
-pub mod Number
 pub mod Split
 pub mod outcome

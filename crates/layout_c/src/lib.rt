@@ -1,12 +1,11 @@
 // The run for C and Rust (include/layout.h, bindings/).
 mod outcome;
 
-use errors::Checked;
 use listing::Written;
 ghost use mathlib.Core.Path.{_≡_};
 ghost use Rattle.definition.specs.Check.{checkImage};
 ghost use Rattle.layout_c.specs.Code.{codedOn, listedIn};
-ghost use Rattle.layout_c.specs.Number.{numberIn};
+ghost use Rattle.errors.specs.Refused.{numberIn};
 
 // The whole run: the answer's length, or, from 2^32 on, a refusal. The area at exit is the definition's.
 #[no_mangle]
@@ -22,7 +21,7 @@ pub extern "C" fn layout_run(image: &[u8], mode: u32, area: &mut [u8]) -> u64
 pub extern "C" fn layout_listing(input: &[u8], out: &mut [u8]) -> usize
     ensures { λ n. ⌜ (n, now (out .exit)) ≡ listedIn (now (input .entry)) (now (out .entry)) ⌝ }
 {
-    match layout_run::answer(input, out) {
+    match output::answer(input, out) {
         Written::Whole(n) => n,
         Written::Cut => 0,
     }
@@ -33,8 +32,5 @@ pub extern "C" fn layout_listing(input: &[u8], out: &mut [u8]) -> usize
 pub extern "C" fn layout_check(image: &[u8]) -> u32
     ensures { λ r. ⌜ r ≡ numberIn (checkImage (now (image .entry))) ⌝ }
 {
-    match image::check::check_image(image) {
-        Checked::Passed => 0,
-        Checked::Refused(refusal) => refusal.number,
-    }
+    errors::number_of(image::check::check_image(image))
 }

@@ -1,5 +1,4 @@
 -- The laws that the functions' proofs cite.
 pub mod Entered
-pub mod Listing
 pub mod Outcomes
 pub mod Results

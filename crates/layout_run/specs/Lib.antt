@@ -1,8 +1,6 @@
 -- The whole run: what it answers, and what the lent area holds afterwards.
 pub mod Judged
 pub mod Order
-pub mod Printed
-pub mod Ran
 pub mod admission
 pub mod cursor
 pub mod merging

@@ -7,14 +7,14 @@ ghost use Rattle.definition.specs.Image.{counts};
 ghost use Rattle.errors.specs.Refused.{resultOf};
 ghost use Rattle.layout_run.specs.admission.Asked.{admittedOf};
 
-// Whether an area of this length has room for the answer of any image with these counts: 32 + 20·C + 72·N + B.
+// Whether an area of this length has room for the answer of any image with these counts.
 fn enough(image: &[u8], area: usize) -> bool
     ensures { λ r. ⌜ r ≡ leb (areaNeeded ((counts (now (image .entry))) .c) ((counts (now (image .entry))) .n) ((counts (now (image .entry))) .b)) area ⌝ }
 {
     let c = image::token_tree::u32_at(image, 0) as usize;
     let n = image::token_tree::u32_at(image, 4) as usize;
     let b = image::token_tree::u32_at(image, 16) as usize;
-    32 + 20 * c + 72 * n + b <= area
+    limits::HEAD_SIZE + limits::CONCATENATION_SIZE * c + limits::COMPONENT_SIZE * n + b <= area
 }
 
 // 1, the image check, 8.

@@ -2,10 +2,7 @@
 // nothing can refuse any more.
 mod admission;
 mod cursor;
-mod empty_input;
-mod input_limit;
 mod merging;
-mod output;
 mod parts;
 mod stage3;
 mod stage5;
@@ -21,14 +18,13 @@ use answer::Init;
 use concatenation::overall::OverallResult;
 use errors::Checked;
 use errors::Outcome;
-pub use output::answer;
 use stages::in_turn;
 ghost use mathlib.Core.Path.{_≡_};
 ghost use lib.ListN.{length};
 ghost use Rattle.definition.specs.Image.{counts};
 ghost use Rattle.errors.specs.Refused.{outcomeOf};
 ghost use Rattle.layout_run.specs.Order.{Admitted};
-ghost use Rattle.layout_run.specs.Ran.{ranOn};
+ghost use Rattle.definition.specs.Run.{ranOn};
 ghost use Rattle.layout_run.specs.Judged.{givenOf, JudgedIs, StartedIs, StagesIs};
 
 fn is_given(init: Init) -> bool

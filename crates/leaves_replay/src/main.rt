@@ -2,16 +2,17 @@
 // differential/ (its README.md, "The files of `leaves`"): texts with the number that the unchanged i128_try_parse reads in them, and
 // images with the number that document 01's check gives them. Each entry is read, asked of our own code and compared; an entry that
 // is cut off or too long counts as different.
+use errors::flags::both;
 use libc::STDOUT_FILENO;
 use numbers::OptionI128;
 ghost use mathlib.Core.Path.{_≡_};
-ghost use mathlib.Core.Bool.{true, _&&_};
+ghost use mathlib.Core.Bool.{true};
 ghost use Prim.Native.Nat.{_≤_};
 ghost use lib.Dec.{eqb};
 ghost use lib.ListN.{getD};
 ghost use Rattle.definition.specs.Numbers.{tryParse};
 ghost use Rattle.definition.specs.Check.{checkImage};
-ghost use Rattle.layout_c.specs.Number.{numberIn};
+ghost use Rattle.errors.specs.Refused.{numberIn};
 ghost use Rattle.leaves_replay.specs.Told.{u64At, told, agrees};
 
 // What is at the front of an entry.
@@ -22,7 +23,7 @@ enum Head {
 }
 
 // What an entry came to.
-enum Outcome {
+enum Compared {
     Equal,
     Different,
     End,
@@ -71,12 +72,6 @@ fn u64_at(s: &[u8], at: usize) -> u64
         + 0x1_0000_0000 * (image::token_tree::u32_at(s, at + 4) as u64)
 }
 
-fn both(a: bool, b: bool) -> bool
-    ensures { λ r. ⌜ r ≡ (a && b) ⌝ }
-{
-    if a { b } else { false }
-}
-
 fn agree(o: OptionI128, found: u8, high: u64, low: u64) -> bool
     ensures { λ r. ⌜ r ≡ agrees o found high low ⌝ }
 {
@@ -102,38 +97,39 @@ fn same_number(text: &[u8], answer: &[u8]) -> bool
 fn same_image(image: &[u8], answer: &[u8]) -> bool
     ensures { λ r. ⌜ r ≡ eqb (numberIn (checkImage (now (image .entry)))) (getD (now (answer .entry)) 0 0) ⌝ }
 {
-    layout_c::layout_check(image) == (image::token_tree::byte_at(answer, 0) as u32)
+    errors::number_of(image::check::check_image(image))
+        == (image::token_tree::byte_at(answer, 0) as u32)
 }
 
 // Reads the answer to a text, and compares.
-fn number_outcome(fd: i32, text: &[u8]) -> Outcome {
+fn number_outcome(fd: i32, text: &[u8]) -> Compared {
     let mut answer = [0u8; 17];
     if !filled(fd, &mut answer) {
-        return Outcome::Different;
+        return Compared::Different;
     }
     if same_number(text, &answer) {
-        Outcome::Equal
+        Compared::Equal
     } else {
-        Outcome::Different
+        Compared::Different
     }
 }
 
-fn image_outcome(fd: i32, image: &[u8]) -> Outcome {
+fn image_outcome(fd: i32, image: &[u8]) -> Compared {
     let mut answer = [0u8; 1];
     if !filled(fd, &mut answer) {
-        return Outcome::Different;
+        return Compared::Different;
     }
     if same_image(image, &answer) {
-        Outcome::Equal
+        Compared::Equal
     } else {
-        Outcome::Different
+        Compared::Different
     }
 }
 
 // The rest of an entry whose text or image is as long as part.
-fn outcome_of(fd: i32, images: bool, part: &mut [u8]) -> Outcome {
+fn outcome_of(fd: i32, images: bool, part: &mut [u8]) -> Compared {
     if !filled(fd, part) {
-        return Outcome::Different;
+        return Compared::Different;
     }
     if images {
         image_outcome(fd, part)
@@ -142,14 +138,14 @@ fn outcome_of(fd: i32, images: bool, part: &mut [u8]) -> Outcome {
     }
 }
 
-fn rest(fd: i32, images: bool, buf: &mut [u8], n: usize) -> Outcome {
+fn rest(fd: i32, images: bool, buf: &mut [u8], n: usize) -> Compared {
     if buf.len() < n {
-        return Outcome::Different;
+        return Compared::Different;
     }
     outcome_of(fd, images, &mut buf[..n])
 }
 
-fn entry(fd: i32, images: bool, buf: &mut [u8]) -> Outcome {
+fn entry(fd: i32, images: bool, buf: &mut [u8]) -> Compared {
     let head = if images {
         image_head(fd)
     } else {
@@ -157,8 +153,8 @@ fn entry(fd: i32, images: bool, buf: &mut [u8]) -> Outcome {
     };
     match head {
         Head::Length(n) => rest(fd, images, buf, n),
-        Head::Cut => Outcome::Different,
-        Head::End => Outcome::End,
+        Head::Cut => Compared::Different,
+        Head::End => Compared::End,
     }
 }
 
@@ -169,9 +165,9 @@ fn replay(fd: i32, images: bool, buf: &mut [u8]) -> Tally {
     let mut turns: u64 = 1_000_000;
     while 0 < turns {
         match entry(fd, images, buf) {
-            Outcome::Equal => equal += 1,
-            Outcome::Different => different += 1,
-            Outcome::End => return Tally { equal, different },
+            Compared::Equal => equal += 1,
+            Compared::Different => different += 1,
+            Compared::End => return Tally { equal, different },
         }
         turns -= 1;
     }
@@ -198,7 +194,7 @@ fn replay_file(path: &[u8], images: bool, buf: &mut [u8]) {
 }
 
 fn main() {
-    let mut buf = [0u8; 51306];
+    let mut buf = [0u8; limits::MAX_INPUT];
     replay_file(b"numbers", false, &mut buf);
     replay_file(b"images", true, &mut buf);
 }

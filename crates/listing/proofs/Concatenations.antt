@@ -12,8 +12,8 @@ use Rattle.laws.specs.Tests.{by-test}
 use Rattle.definition.specs.Prelude.{ℕ, zero, suc, _+_, _*_, _-_, List, [], _∷_, _++_, map, length, take, drop, leb}
 use Rattle.definition.specs.Basics.{if_then_else_, tab, joined, ascii}
 use Rattle.definition.specs.Image.{u32At}
-use Rattle.definition.specs.Answer.{widthAt, groupAt, fieldAt}
-use Rattle.definition.specs.Listing.{line, decimal, summaryWords, fieldLine, groupLines}
+use Rattle.definition.specs.Answer.{widthAt, concatAt, fieldAt}
+use Rattle.definition.specs.Listing.{line, decimal, summaryWords, fieldLine, concatLines}
 use Rattle.listing.specs.digits.Put.{Put, _⨾_, read-as, Toward, toward, toward-end}
 use Rattle.listing.specs.group.Line.{groupLine}
 use Rattle.listing.specs.Outcomes.{stopOf}
@@ -79,27 +79,27 @@ unfolding joined
 fields-end image s from k to h x = toward-end (ap (λ fs. joined (map fieldLine fs)) (tab-none (fieldAt image s) k to h)) x
 
 abbrev pub groupsFrom : List ℕ → List ℕ → ℕ → ℕ → ℕ → ℕ → List ℕ
-groupsFrom image s groups fields i k = groupLines i (tab (groupAt s) i (groups - i)) (tab (fieldAt image s) k (fields - k))
+groupsFrom image s groups fields i k = concatLines i (tab (concatAt s) i (groups - i)) (tab (fieldAt image s) k (fields - k))
 
 module _ (image s : List ℕ) (groups fields i k : ℕ) where
   group-next : (to : ℕ) → i < groups → k ≤ fields → to ≡ stopOf k (u32At s (32 + 20 * i)) fields
-      → groupsFrom image s groups fields i k ≡ (groupLine i (groupAt s i) ++ fieldLines image s k to) ++ groupsFrom image s groups fields (i + 1) to
-  unfolding groupLines
+      → groupsFrom image s groups fields i k ≡ (groupLine i (concatAt s i) ++ fieldLines image s k to) ++ groupsFrom image s groups fields (i + 1) to
+  unfolding concatLines
   group-next to h b e =
       let (p, q) = tab-stop (fieldAt image s) k (u32At s (32 + 20 * i)) fields b in
-      ap (λ gs. groupLines i gs (tab (fieldAt image s) k (fields - k))) (tab-first (groupAt s) i groups h)
+      ap (λ gs. concatLines i gs (tab (fieldAt image s) k (fields - k))) (tab-first (concatAt s) i groups h)
       ∙ rw (p, q, ← e, ← add-one i, append-assoc)
 
   pub groups-next : {l m n o whole : List ℕ} {at q r t : ℕ} (to u : ℕ) → i < groups → k ≤ fields → u ≡ u32At s (32 + 20 * i) → to ≡ stopOf k u fields
-      → Toward l at whole (groupsFrom image s groups fields i k) m q → Put m q (groupLine i (groupAt s i)) n r → Put n r (fieldLines image s k to) o t
+      → Toward l at whole (groupsFrom image s groups fields i k) m q → Put m q (groupLine i (concatAt s i)) n r → Put n r (fieldLines image s k to) o t
       → Toward l at whole (groupsFrom image s groups fields (i + 1) to) o t
   groups-next to u h b f e x y z = toward _ _ (group-next to h b (rw f at e)) x (y ⨾ z)
 
   pub groups-end : {l m : List ℕ} {at r : ℕ} → groups ≡ u32At s 0 → fields ≡ u32At s 4 → groups ≤ i
       → Toward l at (groupsFrom image s groups fields 0 0) (groupsFrom image s groups fields i k) m r
-      → Put l at (groupLines 0 (tab (groupAt s) 0 (u32At s 0)) (tab (fieldAt image s) 0 (u32At s 4))) m r
-  unfolding groupLines
+      → Put l at (concatLines 0 (tab (concatAt s) 0 (u32At s 0)) (tab (fieldAt image s) 0 (u32At s 4))) m r
+  unfolding concatLines
   groups-end e f h x =
       let a : groups - 0 ≡ u32At s 0 = omega arith in
       let b : fields - 0 ≡ u32At s 4 = omega arith in
-      rw (← a, ← b) (toward-end (ap (λ gs. groupLines i gs (tab (fieldAt image s) k (fields - k))) (tab-none (groupAt s) i groups h)) x)
+      rw (← a, ← b) (toward-end (ap (λ gs. concatLines i gs (tab (fieldAt image s) k (fields - k))) (tab-none (concatAt s) i groups h)) x)

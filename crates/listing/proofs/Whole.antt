@@ -6,8 +6,8 @@ use lib.Seq.{take-all}
 use Rattle.definition.specs.Prelude.{ℕ, _+_, _*_, _/_, _%_, List, [], _∷_, _++_, length, take, drop}
 use Rattle.definition.specs.Basics.{Result, ok, refused, tab, ascii}
 use Rattle.definition.specs.Image.{u32At}
-use Rattle.definition.specs.Answer.{widthAt, textAt, groupAt, fieldAt, readAnswer}
-use Rattle.definition.specs.Listing.{line, decimal, shown, isSet, flagWord, summaryWords, groupLines, answerLines, listing}
+use Rattle.definition.specs.Answer.{widthAt, textAt, concatAt, fieldAt, readAnswer}
+use Rattle.definition.specs.Listing.{line, decimal, shown, isSet, flagWord, summaryWords, concatLines, answerLines, listing}
 use Rattle.errors.specs.Refused.{refusedAs}
 use Rattle.errors.specs.declared.Refusal.{Refusal}
 use Rattle.listing.specs.digits.Put.{Put, _⨾_, read-as, put-front, put-whole, put-cut}
@@ -20,7 +20,7 @@ use Rattle.listing.specs.declared.Written.the-variants.{Whole, Cut}
 -- ---- an answer
 
 pub put-answer-of : {l m n : List ℕ} {at q r : ℕ} (image s : List ℕ) → Put l at (headLine image s) m q
-    → Put m q (groupLines 0 (tab (groupAt s) 0 (u32At s 0)) (tab (fieldAt image s) 0 (u32At s 4))) n r → Put l at (answerLines (readAnswer image s)) n r
+    → Put m q (concatLines 0 (tab (concatAt s) 0 (u32At s 0)) (tab (fieldAt image s) 0 (u32At s 4))) n r → Put l at (answerLines (readAnswer image s)) n r
 put-answer-of image s x y = read-as (sym (answer-parts image s)) (x ⨾ y)
 
 -- ---- the listing

@@ -5,8 +5,8 @@ use Rattle.definition.specs.Prelude.{ℕ, Bool, true, false, List, [], _∷_, _
 use Rattle.definition.specs.Basics.{if_then_else_, joined, tab, ascii}
 use Rattle.definition.specs.Image.{u32At, bytesAt, bytesFor}
 use Rattle.listing.specs.words.Spaced.{spaced, line-parts}
-use Rattle.definition.specs.Answer.{Field, Bound, widthAt, textAt, boundAt, groupAt, fieldAt, readAnswer}
-use Rattle.definition.specs.Listing.{line, decimal, hex, shown, boundWord, endWord, summaryWords, flagWord, isSet, fieldLine, groupLines, answerLines}
+use Rattle.definition.specs.Answer.{Field, Bound, widthAt, textAt, boundAt, concatAt, fieldAt, readAnswer}
+use Rattle.definition.specs.Listing.{line, decimal, hex, shown, boundWord, endWord, summaryWords, flagWord, isSet, fieldLine, concatLines, answerLines}
 
 -- the end of the component at a place
 abbrev pub endAt : List ℕ → List ℕ → ℕ → Option Bound
@@ -50,6 +50,6 @@ headLine image s =
 
 -- an answer's lines are line 1 and those of the concatenations
 pub answer-parts : (image s : List ℕ) →
-    answerLines (readAnswer image s) ≡ headLine image s ++ groupLines 0 (tab (groupAt s) 0 (u32At s 0)) (tab (fieldAt image s) 0 (u32At s 4))
+    answerLines (readAnswer image s) ≡ headLine image s ++ concatLines 0 (tab (concatAt s) 0 (u32At s 0)) (tab (fieldAt image s) 0 (u32At s 4))
 unfolding readAnswer
-answer-parts image s = rw (length-tab (groupAt s) 0 (u32At s 0))
+answer-parts image s = rw (length-tab (concatAt s) 0 (u32At s 0))

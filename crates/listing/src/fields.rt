@@ -117,11 +117,11 @@ fn put_content(
 pub(crate) fn put_field(out: &mut [u8], at: usize, image: &[u8], s: &[u8], k: u32) -> usize
     ensures { λ r. ⌜ Put (now (out .entry)) at (fieldLine (fieldAt (now (image .entry)) (now (s .entry)) k)) (now (out .exit)) r ⌝ }
 {
-    let first = 32 + 20 * (u32_at(s, 0) as usize);
-    let literals = first + 72 * (u32_at(s, 4) as usize);
-    let place = first + 72 * (k as usize);
+    let first = limits::HEAD_SIZE + limits::CONCATENATION_SIZE * (u32_at(s, 0) as usize);
+    let literals = first + limits::COMPONENT_SIZE * (u32_at(s, 4) as usize);
+    let place = first + limits::COMPONENT_SIZE * (k as usize);
     let after = put_kind(out, at, u32_at(s, place));
     let after = put_bounds(out, after, image, s, place);
     let after = put_content(out, after, image, s, place, literals);
-    put_byte(out, after, 10)
+    put_byte(out, after, b'\n')
 }

@@ -5,7 +5,7 @@ use crate::words::put_summary;
 use image::token_tree::u32_at;
 ghost use mathlib.Core.Path.{_≡_};
 ghost use Prim.Native.Nat.{_+_, _^_, _<_};
-ghost use Rattle.definition.specs.Answer.{widthAt, groupAt};
+ghost use Rattle.definition.specs.Answer.{widthAt, concatAt};
 ghost use Rattle.listing.specs.digits.Put.{Put};
 ghost use Rattle.listing.specs.group.Line.{groupLine};
 
@@ -19,9 +19,9 @@ fn width_at(s: &[u8], at: usize) -> u64
 
 // The line of concatenation i.
 pub(crate) fn put_group(out: &mut [u8], at: usize, s: &[u8], i: u32) -> usize
-    ensures { λ r. ⌜ Put (now (out .entry)) at (groupLine i (groupAt (now (s .entry)) i)) (now (out .exit)) r ⌝ }
+    ensures { λ r. ⌜ Put (now (out .entry)) at (groupLine i (concatAt (now (s .entry)) i)) (now (out .exit)) r ⌝ }
 {
-    let place = 32 + 20 * (i as usize);
+    let place = limits::HEAD_SIZE + limits::CONCATENATION_SIZE * (i as usize);
     let size = u32_at(s, place);
     let align = u32_at(s, place + 4);
     let flags = u32_at(s, place + 8);

@@ -7,8 +7,8 @@ ghost use mathlib.Core.List.{map};
 ghost use Prim.Native.Nat.{_-_, _≤_};
 ghost use Rattle.definition.specs.Basics.{tab, joined};
 ghost use Rattle.definition.specs.Image.{u32At};
-ghost use Rattle.definition.specs.Answer.{groupAt, fieldAt};
-ghost use Rattle.definition.specs.Listing.{fieldLine, groupLines};
+ghost use Rattle.definition.specs.Answer.{concatAt, fieldAt};
+ghost use Rattle.definition.specs.Listing.{fieldLine, concatLines};
 ghost use Rattle.listing.specs.digits.Put.{Put};
 ghost use Rattle.listing.specs.Outcomes.{stopOf};
 
@@ -34,7 +34,7 @@ fn put_fields(out: &mut [u8], at: usize, image: &[u8], s: &[u8], from: u32, to: 
 }
 
 pub(crate) fn put_groups(out: &mut [u8], at: usize, image: &[u8], s: &[u8]) -> usize
-    ensures { λ r. ⌜ Put (now (out .entry)) at (groupLines 0 (tab (groupAt (now (s .entry))) 0 (u32At (now (s .entry)) 0)) (tab (fieldAt (now (image .entry)) (now (s .entry))) 0 (u32At (now (s .entry)) 4))) (now (out .exit)) r ⌝ }
+    ensures { λ r. ⌜ Put (now (out .entry)) at (concatLines 0 (tab (concatAt (now (s .entry))) 0 (u32At (now (s .entry)) 0)) (tab (fieldAt (now (image .entry)) (now (s .entry))) 0 (u32At (now (s .entry)) 4))) (now (out .exit)) r ⌝ }
 {
     let groups = u32_at(s, 0);
     let fields = u32_at(s, 4);
@@ -42,7 +42,14 @@ pub(crate) fn put_groups(out: &mut [u8], at: usize, image: &[u8], s: &[u8]) -> u
     let mut i: u32 = 0;
     let mut k: u32 = 0;
     while i < groups {
-        let to = stop_of(k, u32_at(s, 32 + 20 * (i as usize)), fields);
+        let to = stop_of(
+            k,
+            u32_at(
+                s,
+                limits::HEAD_SIZE + limits::CONCATENATION_SIZE * (i as usize),
+            ),
+            fields,
+        );
         place = put_group(out, place, s, i);
         place = put_fields(out, place, image, s, k, to);
         k = to;

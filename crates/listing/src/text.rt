@@ -15,7 +15,7 @@ fn hex_digit(d: u8) -> u8
     requires { ⌜ d < 16 ⌝ }
     ensures { λ r. ⌜ r ≡ hexDigit d ⌝ }
 {
-    if d < 10 { 48 + d } else { 87 + d }
+    if d < 10 { b'0' + d } else { b'a' + (d - 10) }
 }
 
 fn put_hex(out: &mut [u8], at: usize, b: u8) -> usize
@@ -32,7 +32,7 @@ fn is_plain(b: u8) -> bool
     if b < 33 {
         return false;
     }
-    if 126 < b { false } else { b != 92 }
+    if 126 < b { false } else { b != b'\\' }
 }
 
 // A byte of a text: as it is, or as a backslash and two digits.

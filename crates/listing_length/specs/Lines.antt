@@ -9,8 +9,8 @@ use lib.ListN.{length-append}
 use Rattle.definition.specs.Prelude.{ℕ, zero, suc, _+_, _*_, Bool, true, false, List, [], _∷_, _++_, map, reverse, length, take, drop, eqb}
 use Rattle.definition.specs.Basics.{ok, refused, if_then_else_, joined, sum, tab, ascii}
 use Rattle.definition.specs.Image.{padded}
-use Rattle.definition.specs.Answer.{Bound, Field, Group, Read, readAnswer}
-use Rattle.definition.specs.Listing.{decimal, hex, shown, boundWord, endWord, widthWord, alignWord, flagWord, isSet, summaryWords, line, fieldLine, groupLines, answerLines, listing}
+use Rattle.definition.specs.Answer.{Bound, Field, Concat, Read, readAnswer}
+use Rattle.definition.specs.Listing.{decimal, hex, shown, boundWord, endWord, widthWord, alignWord, flagWord, isSet, summaryWords, line, fieldLine, concatLines, answerLines, listing}
 use Rattle.listing_length.specs.Words.{decimal-most, shown-most, hex-most, bound-most, endText, end-most, width-most, flag-most, align-most, reverse-length}
 
 -- each word has a space or the newline after it
@@ -48,7 +48,7 @@ field-most f = go (eqb (f .kind) 1) (eqb (f .kind) 2)
 
 -- ---- the concatenations
 
-group-most : (i : ℕ) (g : Group) → length (line (ascii "c" ∷ decimal i ∷ decimal (g .size) ∷ summaryWords (g .width) (g .align) (g .flags))) ≤ 137
+group-most : (i : ℕ) (g : Concat) → length (line (ascii "c" ∷ decimal i ∷ decimal (g .size) ∷ summaryWords (g .width) (g .align) (g .flags))) ≤ 137
 unfolding sum ascii
 group-most i g =
     let e = line-length (ascii "c") (decimal i ∷ decimal (g .size) ∷ summaryWords (g .width) (g .align) (g .flags)) in
@@ -86,13 +86,13 @@ take-drop-length (suc n) (a ∷ l) = let h = take-drop-length n l in omega arith
 three : (x y z : List ℕ) (a b c : ℕ) → length x ≤ a → length y ≤ b → length z ≤ c → length (x ++ y ++ z) ≤ a + (b + c)
 three x y z a b c p q r = omega (arith, length-append (x ++ y) z, length-append x y)
 
-groups-most : (i : ℕ) (gs : List Group) (fs : List Field) →
-    length (groupLines i gs fs) ≤ 137 * length gs + (92 * length fs + 3 * sum (map textOf fs) + 2 * sum (map (λ f. length (f .literal)) fs))
-unfolding groupLines
+groups-most : (i : ℕ) (gs : List Concat) (fs : List Field) →
+    length (concatLines i gs fs) ≤ 137 * length gs + (92 * length fs + 3 * sum (map textOf fs) + 2 * sum (map (λ f. length (f .literal)) fs))
+unfolding concatLines
 groups-most i [] fs = omega arith
 groups-most i (g ∷ gs) fs =
     le-trans
-    (three (line (ascii "c" ∷ decimal i ∷ decimal (g .size) ∷ summaryWords (g .width) (g .align) (g .flags))) (joined (map fieldLine (take (g .size) fs))) (groupLines (suc i) gs (drop (g .size) fs)) _ _ _
+    (three (line (ascii "c" ∷ decimal i ∷ decimal (g .size) ∷ summaryWords (g .width) (g .align) (g .flags))) (joined (map fieldLine (take (g .size) fs))) (concatLines (suc i) gs (drop (g .size) fs)) _ _ _
     (group-most i g) (fields-most (take (g .size) fs)) (groups-most (suc i) gs (drop (g .size) fs)))
     (omega (arith, mul-suc 137 (length gs), take-drop-length (g .size) fs, sum-parts textOf (g .size) fs, sum-parts (λ f. length (f .literal)) (g .size) fs))
 
@@ -104,18 +104,18 @@ texts r = length (r .init) + sum (map textOf (r .fields))
 abbrev pub literals : Read → ℕ
 literals r = sum (map (λ f. length (f .literal)) (r .fields))
 
-pub answer-most : (r : Read) → length (answerLines r) ≤ 145 + 137 * length (r .groups) + 92 * length (r .fields) + 3 * texts r + 2 * literals r
+pub answer-most : (r : Read) → length (answerLines r) ≤ 145 + 137 * length (r .concats) + 92 * length (r .fields) + 3 * texts r + 2 * literals r
 unfolding sum ascii
 answer-most r =
     let init = flagWord (isSet (r .flags) 4) (61 ∷ shown (r .init)) in
-    let words = decimal (length (r .groups)) ∷ decimal (r .size) ∷ (summaryWords (r .width) (r .align) (r .flags) ++ (init ∷ [])) in
+    let words = decimal (length (r .concats)) ∷ decimal (r .size) ∷ (summaryWords (r .width) (r .align) (r .flags) ++ (init ∷ [])) in
     let e = line-length (ascii "layout") words in
     omega (
       arith,
       e,
-      length-append (line (ascii "layout" ∷ words)) (groupLines 0 (r .groups) (r .fields)),
-      groups-most 0 (r .groups) (r .fields),
-      decimal-most (length (r .groups)),
+      length-append (line (ascii "layout" ∷ words)) (concatLines 0 (r .concats) (r .fields)),
+      groups-most 0 (r .concats) (r .fields),
+      decimal-most (length (r .concats)),
       decimal-most (r .size),
       width-most (r .width),
       align-most (r .align),
@@ -126,7 +126,7 @@ answer-most r =
     )
 
 -- A listing of at most 16 concatenations and 256 components: its length from its bytes of text and of literals.
-pub accepted-most : (image bytes : List ℕ) (t b : ℕ) → (let r = readAnswer image bytes in (length (r .groups) ≤ 16) × (length (r .fields) ≤ 256) × (texts r ≤ t) × (literals r ≤ b))
+pub accepted-most : (image bytes : List ℕ) (t b : ℕ) → (let r = readAnswer image bytes in (length (r .concats) ≤ 16) × (length (r .fields) ≤ 256) × (texts r ≤ t) × (literals r ≤ b))
     → length (listing image (ok bytes)) ≤ 25889 + 3 * t + 2 * b
 unfolding listing
 accepted-most image bytes t b h = let r = readAnswer image bytes in omega (arith, h .0, h .1, h .2, h .3, answer-most r)

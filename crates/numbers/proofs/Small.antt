@@ -8,7 +8,7 @@ use lib.Dec.{ltb, eqb, eqb·suc-zero}
 use lib.IntN.{pos, natAbs}
 use borrow.Author.Tests.{lt-ltb, le-ltb, ne-eqb}
 use Rattle.numbers.specs.declared.I128.{I128}
-use Rattle.numbers.specs.Value.{bits, valueOf, toUsize, toNonZeroUsize}
+use Rattle.numbers.specs.Value.{bits, valueOf, toUsize}
 use Rattle.numbers.proofs.Halves.{by-test}
 
 pub small : (w : I128) → w .high ≡ 0 → valueOf w ≡ pos (w .low)
@@ -22,15 +22,6 @@ pub large-usize : (w : I128) → (w .high ≡ 0 → ⊥) → toUsize (valueOf w)
 unfolding valueOf
 large-usize w h =
     by-test (ltb (w .high) (2 ^ 63)) (λ e. rw (e, le-ltb (bits w) (2 ^ 64) (omega arith))) (λ e. rw e)
-
-pub zero-nonzero : (w : I128) → w .high ≡ 0 → w .low ≡ 0 → toNonZeroUsize (valueOf w) ≡ none
-zero-nonzero w h l = rw (small w h, l)
-
-pub small-nonzero : (w : I128) → w .low < 2 ^ 64 → w .high ≡ 0 → (w .low ≡ 0 → ⊥) → toNonZeroUsize (valueOf w) ≡ some (w .low)
-small-nonzero w l h k = rw (small-usize w l h, toNonZeroUsize, ne-eqb (w .low) 0 k)
-
-pub large-nonzero : (w : I128) → (w .high ≡ 0 → ⊥) → toNonZeroUsize (valueOf w) ≡ none
-large-nonzero w h = rw (large-usize w h, toNonZeroUsize)
 
 pub small-zero : (w : I128) → w .high ≡ 0 → eqb (w .low) 0 ≡ eqb (natAbs (valueOf w)) 0
 small-zero w h = rw (small w h)

@@ -29,7 +29,7 @@ abbrev pub optionOf : OptionI128 → Option ℤ
 optionOf (I.Some w) = some (valueOf w)
 optionOf I.None = none
 
--- Option<usize>, and the numbers that usize::try_from and NonZeroUsize::new take
+-- Option<usize>, and the numbers that usize::try_from takes
 abbrev pub optionUsize : OptionUsize → Option ℕ
 optionUsize (U.Some n) = some n
 optionUsize U.None = none
@@ -37,6 +37,3 @@ optionUsize U.None = none
 abbrev pub toUsize : ℤ → Option ℕ
 toUsize (pos n) = if ltb n (2 ^ 64) then some n else none
 toUsize (negsuc n) = none
-
-abbrev pub toNonZeroUsize : ℤ → Option ℕ
-toNonZeroUsize z = elim (toUsize z) [ none ↦ none | some n ↦ if eqb n 0 then none else some n ]

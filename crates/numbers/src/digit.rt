@@ -1,9 +1,9 @@
 // What a byte is worth as a digit.
 ghost use mathlib.Core.Path.{_≡_};
-ghost use Rattle.numbers.specs.digit.Worth.{worthByte};
+ghost use Rattle.numbers.specs.digit.Worth.{worthByte, Worths};
 
 // For each byte its worth as a digit, 0 to 15, and 255 where it is none.
-pub const WORTH: [u8; 256] = [
+pub(crate) const WORTH: [u8; 256] = [
     255,
     255,
     255,
@@ -262,9 +262,11 @@ pub const WORTH: [u8; 256] = [
     255,
 ];
 
-pub fn digit_worth(b: u8) -> u8
+// A byte's worth as a digit, by the table of them, which is lent: a constant array is built anew where it is named.
+pub(crate) fn digit_worth(worths: &[u8; 256], b: u8) -> u8
+    requires { ⌜ Worths (now worths) ⌝ }
     ensures { λ r. ⌜ r ≡ worthByte b ⌝ }
 {
     let i = b as usize;
-    WORTH[i]
+    worths[i]
 }

@@ -1,15 +1,16 @@
-// Signed numbers of 128 bits, as the Rust's i128, and the conversions of src/misc.rs.
+// Signed numbers of 128 bits, as the Rust's i128, the conversions of src/misc.rs, and the least of two numbers.
 pub mod digit;
 pub mod parse;
 pub mod sums;
 
 ghost use mathlib.Core.Path.{_≡_};
 ghost use mathlib.Core.Bool.{not};
+ghost use Prim.Native.Nat.{min};
 ghost use lib.Dec.{eqb, ltb};
 ghost use lib.IntN.{pos, natAbs};
 ghost use lib.Signed.{ltZ, nonNeg};
 ghost use Rattle.numbers.specs.Steps.{orderOf};
-ghost use Rattle.numbers.specs.Value.{bits, valueOf, optionUsize, toUsize, toNonZeroUsize};
+ghost use Rattle.numbers.specs.Value.{bits, valueOf, optionUsize, toUsize};
 
 // Two halves, in two's complement.
 pub struct I128 {
@@ -27,6 +28,12 @@ pub enum OptionI128 {
 pub enum OptionUsize {
     Some(usize),
     None,
+}
+
+pub fn least(a: usize, b: usize) -> usize
+    ensures { λ r. ⌜ r ≡ min a b ⌝ }
+{
+    if a < b { a } else { b }
 }
 
 // The order where these are the halves that count most, and `rest` is the order of what is below them.
@@ -73,20 +80,6 @@ pub fn i128_to_usize(x: I128) -> OptionUsize
 {
     if x.high == 0 {
         OptionUsize::Some(x.low as usize)
-    } else {
-        OptionUsize::None
-    }
-}
-
-pub fn i128_to_nonzerousize(x: I128) -> OptionUsize
-    ensures { λ r. ⌜ optionUsize r ≡ toNonZeroUsize (valueOf x) ⌝ }
-{
-    if x.high == 0 {
-        if x.low == 0 {
-            OptionUsize::None
-        } else {
-            OptionUsize::Some(x.low as usize)
-        }
     } else {
         OptionUsize::None
     }

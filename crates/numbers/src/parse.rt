@@ -4,6 +4,7 @@ pub(crate) mod short;
 
 use crate::I128;
 use crate::OptionI128;
+use crate::digit::digit_worth;
 use crate::parse::halves::OptionU128;
 use crate::parse::halves::U128;
 use crate::parse::halves::positive;
@@ -12,7 +13,7 @@ ghost use Prim.Native.Nat.{_+_, _*_, _^_, _≤_, _<_};
 ghost use lib.IntN.{pos};
 ghost use Rattle.definition.specs.Numbers.{digits, signedAs, inner, radixOf, unsignedParse, tryParse};
 ghost use Rattle.numbers.specs.Value.{optionOf};
-ghost use Rattle.numbers.specs.digit.Worth.{worthByte, Worths};
+ghost use Rattle.numbers.specs.digit.Worth.{Worths};
 ghost use Rattle.numbers.specs.parse.Halves.{number, numberOf};
 ghost use Rattle.numbers.specs.parse.Parts.{capped, cappedOption, negated, radixOption};
 
@@ -46,15 +47,6 @@ fn step(v: U128, radix: u64, d: u64) -> OptionU128
     }
 }
 
-// A byte's worth, by a table of them.
-fn worth_by(worths: &[u8; 256], b: u8) -> u8
-    requires { ⌜ Worths (now worths) ⌝ }
-    ensures { λ r. ⌜ r ≡ worthByte b ⌝ }
-{
-    let i = b as usize;
-    worths[i]
-}
-
 // The digits' value, where there is one and it fits 128 bits, by the table of worths that is lent.
 fn magnitude_by(worths: &[u8; 256], radix: u64, text: &[u8]) -> OptionU128
     requires { ⌜ (1 ≤ radix) × (radix ≤ 16) × Worths (now worths) ⌝ }
@@ -66,7 +58,7 @@ fn magnitude_by(worths: &[u8; 256], radix: u64, text: &[u8]) -> OptionU128
     let mut v = U128 { high: 0, low: 0 };
     let mut i = 0;
     while i < text.len() {
-        let d = worth_by(worths, text[i]) as u64;
+        let d = digit_worth(worths, text[i]) as u64;
         if radix <= d {
             return OptionU128::None;
         }

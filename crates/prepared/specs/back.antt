@@ -2,6 +2,7 @@
 pub mod Cuts
 pub mod Every
 pub mod Groups
+pub mod Largest
 pub mod Literals
 pub mod Nodes
 pub mod Tables

@@ -1,6 +1,5 @@
 // Tests of a number that may be unknown, and the refusals that they give, one after the other.
 ghost use mathlib.Core.Path.{_≡_};
-ghost use mathlib.Core.Bool.{_&&_, _||_};
 ghost use lib.IntN.{pos};
 ghost use lib.Signed.{ltZ, leZ, nonNeg};
 ghost use Rattle.numbers.specs.Value.{optionOf};
@@ -8,18 +7,6 @@ ghost use Rattle.errors.specs.Refused.{resultOf};
 ghost use Rattle.ranges.specs.Checks.{needed, andThen, passes};
 use errors::Checked;
 use numbers::OptionI128;
-
-pub(crate) fn both(a: bool, b: bool) -> bool
-    ensures { λ r. ⌜ r ≡ (a && b) ⌝ }
-{
-    a && b
-}
-
-pub(crate) fn either(a: bool, b: bool) -> bool
-    ensures { λ r. ⌜ r ≡ (a || b) ⌝ }
-{
-    a || b
-}
 
 // Passed, or the refusal of that number.
 pub(crate) fn needs(ok: bool, number: u32) -> Checked

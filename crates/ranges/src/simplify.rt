@@ -21,14 +21,14 @@ use crate::bound::is_number;
 use crate::bound::simplify_usb;
 use crate::bound::static_val;
 use crate::checks::above_zero;
-use crate::checks::both;
-use crate::checks::either;
 use crate::checks::first;
 use crate::checks::needs;
 use crate::checks::not_negative;
 use crate::width::static_width;
 use errors::Checked;
 use errors::Refusal;
+use errors::flags::both;
+use errors::flags::either;
 use numbers::OptionI128;
 
 // Result<Option<Usb>, _>

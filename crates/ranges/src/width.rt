@@ -8,11 +8,11 @@ ghost use mathlib.Core.Path.{_≡_};
 ghost use Rattle.definition.specs.Ranges.{staticWidth};
 ghost use Rattle.numbers.specs.Value.{optionOf};
 ghost use Rattle.ranges.specs.Usb.{usbOf, usbrOf};
-ghost use Rattle.ranges.specs.width.Width.{widthOf};
+ghost use Rattle.ranges.specs.width.Width.{widthBetween};
 
 // The width from a to b, where they have the same text and it fits.
 pub(crate) fn width(image: &[u8], text: usize, a: Usb, b: Usb) -> OptionI128
-    ensures { λ r. ⌜ optionOf r ≡ widthOf (usbOf (now (image .entry)) text a) (usbOf (now (image .entry)) text b) ⌝ }
+    ensures { λ r. ⌜ optionOf r ≡ widthBetween (usbOf (now (image .entry)) text a) (usbOf (now (image .entry)) text b) ⌝ }
 {
     if same_text(image, text, a.s, b.s) {
         return numbers::sums::checked_sub(b.x, a.x);

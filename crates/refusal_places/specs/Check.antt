@@ -7,11 +7,12 @@ use Rattle.definition.specs.Refusals.{short-image, bad-count, bad-offset, bad-e
 use Rattle.definition.specs.Image.{Entry, counts, recordCount, startAt, entryAt, opens}
 use Rattle.definition.specs.Check.{countsRight, offsetsRight, entriesRight, wordRight, insideOf, closerOf, afterOf, openRight, closeRight, checkIn, checkComponents, checkImage}
 use Rattle.laws.specs.Tests.{tested}
-use Rattle.refusal_places.specs.Ends.{Ends, Fine, fine, known, need-ends, bind-ends, next-ends, test-ends}
+use Rattle.refusal_places.specs.Ends.{Ends, Fine, fine, refuse-fine, known, need-ends, bind-ends, next-ends, test-ends}
 
 checkIn-fine : (t fuel : ℕ) (es : List Entry) (depth : ℕ) → Fine (checkIn t fuel es depth)
 unfolding checkIn
-checkIn-fine t zero es depth = fine tt
+checkIn-fine t zero [] depth = fine tt
+checkIn-fine t zero (e ∷ rest) depth = refuse-fine Unit bad-record
 checkIn-fine t (suc fuel) [] depth = fine tt
 checkIn-fine t (suc fuel) (e ∷ rest) depth =
     test-ends (opens (e .kind))

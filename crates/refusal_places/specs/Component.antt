@@ -2,7 +2,8 @@
 use Prim.Native.Nat.{ℕ, suc, _+_, _-_}
 use Rattle.definition.specs.Prelude.{Bool, true, false, _&&_, _||_, not, Option, none, some, List, [], _∷_, length, take, drop, eqb, ℤ, pos, _+ℤ_, _-ℤ_, ltZ, leZ, nonNeg}
 use Rattle.definition.specs.Basics.{ok, _>>=_, if_then_else_, isEmpty}
-use Rattle.definition.specs.Numbers.{narrow, tryParse, char}
+use Rattle.definition.specs.Characters.{char}
+use Rattle.definition.specs.Numbers.{narrow, tryParse}
 use Rattle.definition.specs.Refusals.{Reason, need, empty-range, second-dots, three-dots, not-one-token, bound-overflow, nothing-before-range, no-literal, overflow, negative-bound, reversed, zero-width, start-above-width, end-above-width, range-above-width, end-zero, open-start}
 use Rattle.definition.specs.Image.{Unparsed, kinds}
 use Rattle.definition.specs.Text.{Part, noText, Item, items, isGroup, isToken, partOf}

@@ -8,7 +8,7 @@ use Rattle.definition.specs.Refusals.{literal-in-sink, lone-filler-sink, second
 use Rattle.definition.specs.Image.{Placed}
 use Rattle.definition.specs.Ranges.{Usbr, staticWidth}
 use Rattle.definition.specs.Component.{Component, ComponentType, literal, variable, filler, hasEnd}
-use Rattle.definition.specs.Concatenation.{Concatenation, Running, running, isAlign, align-none, addWidth, checkType, checkFrom, check, stage3}
+use Rattle.definition.specs.Concatenation.{Concatenation, Running, unchecked, isAlign, align-none, addWidth, checkType, checkFrom, check, stage3}
 use Rattle.refusal_places.specs.Ends.{Ends, answers, Fine, fine, need-ends, placed-ends, bind-ends, next-ends, test-ends, option-ends}
 use Rattle.refusal_places.specs.Tree.{Short, Within}
 
@@ -41,7 +41,7 @@ check-ends : (i : ℕ) (l : List (Placed Component)) → i < limits .concatenati
     → Ends (λ c. length (c .comps) ≤ limits .components) (check i l)
 unfolding check
 check-ends i l p q =
-    next-ends (checkFrom-fine i 0 true l running p (omega arith)) λ r.
+    next-ends (checkFrom-fine i 0 true l unchecked p (omega arith)) λ r.
     next-ends (placed-ends i 0 p (omega arith) (need-ends (elim (r .width) [ none ↦ true | some w ↦ ltb 0 w ]) zero-total-width)) λ _. answers q
 
 -- concatenations, by their components

@@ -3,7 +3,7 @@ use mathlib.Core.Path.{_≡_, refl}
 use Prim.Native.Nat.{_≤_, _<_}
 use native.Mathlib.Omega.{arith}
 use Rattle.definition.specs.Prelude.{ℕ, Bool, true, false, Option, none, some}
-use Rattle.definition.specs.Basics.{Result, ok, refused, _>>=_, placed, if_then_else_}
+use Rattle.definition.specs.Basics.{Result, ok, refused, _>>=_, withPlaces, if_then_else_}
 use Rattle.definition.specs.Limits.{limits}
 use Rattle.definition.specs.Refusals.{Reason, mode-above-2, short-image, bad-count, bad-offset, bad-entry, bad-record, too-deep, short-area, empty-after-colon, nothing-before-range, empty-range, second-dots, three-dots, not-one-token, bound-overflow, no-literal, overflow, negative-bound, reversed, zero-width, start-above-width, end-above-width, range-above-width, end-zero, open-start, literal-in-sink, lone-filler-sink, second-filler, zero-total-width, sum-overflow, filler-without-start, unequal-widths, no-common-width, only-source, middle-filler, opposite-fillers, numberOf, refuse, need}
 
@@ -64,7 +64,7 @@ module _ {A : Type 0} (P : A → Type 0) where
   refuse-ends r = let (a, b) = in-table r in refuses {i = 0} {k = 0} (a, b, omega arith, omega arith)
 
 module _ {A : Type 0} {P : A → Type 0} where
-  pub placed-ends : (i k : ℕ) {m : Result A} → i < limits .concatenations → k < limits .components → Ends P m → Ends P (placed i k m)
+  pub placed-ends : (i k : ℕ) {m : Result A} → i < limits .concatenations → k < limits .components → Ends P m → Ends P (withPlaces i k m)
   placed-ends i k p q (answers h) = answers h
   placed-ends i k p q (refuses (a, b, c, d)) = refuses (a, b, p, q)
 

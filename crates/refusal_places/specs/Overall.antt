@@ -9,7 +9,7 @@ use Rattle.definition.specs.Refusals.{filler-without-start, unequal-widths, no-
 use Rattle.definition.specs.Image.{Placed}
 use Rattle.definition.specs.Component.{Component}
 use Rattle.definition.specs.Concatenation.{Concatenation, align-mid, align-multiple, isAlign, isUnboundedFiller}
-use Rattle.definition.specs.Overall.{Overall, placeFrom, isFiller, joinWidth, checkSource, overallFrom, overall, middleFrom, isSided, oppositeFrom, stage4}
+use Rattle.definition.specs.Overall.{Overall, placeFrom, isFiller, joinWidth, checkSource, overallFrom, overallStart, middleFrom, isSided, oppositeFrom, stage4}
 use Rattle.refusal_places.specs.Ends.{Ends, answers, Fine, fine, less, refuse-fine, need-ends, placed-ends, bind-ends, next-ends, if-ends, option-ends}
 use Rattle.refusal_places.specs.Tree.{Short, Within}
 use Rattle.refusal_places.specs.Concatenation.{componentsOf}
@@ -61,7 +61,7 @@ overallFrom-fine bare i (c ∷ cs) o w q =
     next-ends (checkSource-fine bare i c a) λ _.
     overallFrom-fine bare (suc i) cs o′ (record { few = omega arith; short = b }) q′
 
-overall-known : (cs : List Concatenation) → (overall cs) .known < limits .concatenations
+overall-known : (cs : List Concatenation) → (overallStart cs) .known < limits .concatenations
 overall-known [] = omega arith
 overall-known (c ∷ cs) = omega arith
 
@@ -98,7 +98,7 @@ unfolding stage4
 stage4-fine mode given cs w =
     let few : 0 + length (componentsOf cs) ≤ limits .concatenations = w .few in
     let number = same-number cs in
-    next-ends (overallFrom-fine (leb 1 mode && not given) 0 cs (overall cs) w (overall-known cs)) λ o.
+    next-ends (overallFrom-fine (leb 1 mode && not given) 0 cs (overallStart cs) w (overall-known cs)) λ o.
     next-ends (need-ends (not (eqb mode 2) || elim (o .width) [ none ↦ false | some w ↦ true ]) no-common-width) λ _.
     next-ends (need-ends (o .deterministic || not (eqb (length cs) 1)) only-source) λ _.
     next-ends (if-ends (o .deterministic) (fine tt) (middle-fine 0 cs w)) λ _.

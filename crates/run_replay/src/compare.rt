@@ -6,6 +6,7 @@ ghost use mathlib.Core.Path.{_≡_};
 ghost use mathlib.Core.Bool.{true};
 ghost use lib.ListN.{length, take};
 ghost use Rattle.listing.specs.Outcomes.{listingOf};
+ghost use Rattle.listing_length.specs.run.Listing.{longestListing};
 
 // The pattern's byte at a place.
 fn pattern(i: usize) -> u8 {
@@ -43,10 +44,10 @@ fn same_front(out: &[u8], n: usize, told: &[u8]) -> bool
 }
 
 // No listing has more bytes than these.
-fn listing_buffer() -> [u8; 140600]
-    ensures { λ r. ⌜ 140600 ≡ length r ⌝ }
+fn listing_buffer() -> [u8; limits::MAX_LISTING]
+    ensures { λ r. ⌜ longestListing ≡ length r ⌝ }
 {
-    [0; 140600]
+    [0; limits::MAX_LISTING]
 }
 
 // Whether the listing of the outcome is the one told.

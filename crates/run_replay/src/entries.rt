@@ -2,8 +2,10 @@
 // second input's; the listing's. The inputs and the listing follow.
 ghost use mathlib.Core.Path.{_≡_};
 ghost use mathlib.Core.Bool.{true};
-ghost use Prim.Native.Nat.{_+_, _≤_};
+ghost use Prim.Native.Nat.{_+_, _*_, _≤_};
 ghost use lib.ListN.{length};
+ghost use Rattle.definition.specs.Limits.{maxInput};
+ghost use Rattle.listing_length.specs.run.Listing.{longestListing};
 
 pub(crate) enum Entry {
     Read(u32, u32, u32),
@@ -12,11 +14,13 @@ pub(crate) enum Entry {
     End,
 }
 
-// No two inputs and a listing have more bytes than these: 2 * 51306 + 140600.
-pub(crate) fn entry_buffer() -> [u8; 243212]
-    ensures { λ r. ⌜ 243212 ≡ length r ⌝ }
+// No two inputs and a listing have more bytes than these.
+const ENTRY: usize = 2 * limits::MAX_INPUT + limits::MAX_LISTING;
+
+pub(crate) fn entry_buffer() -> [u8; ENTRY]
+    ensures { λ r. ⌜ 2 * maxInput + longestListing ≡ length r ⌝ }
 {
-    [0; 243212]
+    [0; ENTRY]
 }
 
 // Whether n bytes from a place on lie in so many.

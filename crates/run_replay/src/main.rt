@@ -18,9 +18,6 @@ const DIFFERENT: usize = 46;
 
 const CUT_PAIR: usize = 47;
 
-// An area that is long enough for any image: 32 + 20 * 16 + 72 * 256 + 8192 bytes.
-const ANY_AREA: usize = 26976;
-
 const END: usize = 48;
 
 // Some bytes more than any image asks for: they are never lent.
@@ -62,10 +59,19 @@ fn judge_part(buf: &[u8], from: usize, n: usize, lent: usize, at: usize, m: usiz
 // enough for any image.
 fn cut_pair(buf: &[u8], n: u32, k: u32, m: u32) -> usize {
     let told = (n as usize) + (k as usize);
-    if judge_part(buf, 0, n as usize, ANY_AREA, told, m as usize) != 0 {
+    if judge_part(buf, 0, n as usize, limits::ANY_AREA, told, m as usize) != 0 {
         return DIFFERENT;
     }
-    if judge_part(buf, n as usize, k as usize, ANY_AREA, told, m as usize) != 0 {
+    if judge_part(
+        buf,
+        n as usize,
+        k as usize,
+        limits::ANY_AREA,
+        told,
+        m as usize,
+    )
+        != 0
+    {
         return DIFFERENT;
     }
     CUT_PAIR

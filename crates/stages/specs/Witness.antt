@@ -7,7 +7,7 @@ use Rattle.definition.specs.Image.{Placed}
 use Rattle.definition.specs.Text as Text
 use Rattle.definition.specs.Ranges.{val, text}
 use Rattle.definition.specs.Component.{Component, literal, variable, filler}
-use Rattle.definition.specs.Concatenation.{Concatenation, fixedLiteral, align-lsb, align-none, merge}
+use Rattle.definition.specs.Concatenation.{Concatenation, wholeLiteral, align-lsb, align-none, merge}
 use Rattle.definition.specs.Answer.{componentBytes, concatenationBytes, usbBytes}
 use Rattle.stages.specs.component.Kept.{flagsOf, textWord}
 use Rattle.stages.specs.concatenation.Check.{shapeBy}
@@ -19,7 +19,7 @@ use Rattle.stages.specs.declared.concatenation.alignment.align.FillerAli
 
 -- a literal of two bits, `ab[-1..n]` at text place 7, and `..`
 abbrev bits : Component
-bits = fixedLiteral (1 ∷ 0 ∷ [])
+bits = wholeLiteral (1 ∷ 0 ∷ [])
 
 abbrev name : Component
 name =

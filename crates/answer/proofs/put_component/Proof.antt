@@ -4,19 +4,18 @@ use mathlib.Core.Path.{refl, ap, _∙_}
 use lib.Seq.{sets}
 use borrow.Author.Needs.{needs}
 use Rattle.definition.specs.Tree.{u32}
-use Rattle.definition.specs.Answer.{usbBytes, componentBytes}
-use Rattle.ranges.specs.Usb.{partOf, usbOf}
+use Rattle.numbers.specs.Value.{valueOf}
+use Rattle.answer.specs.Blocks.{usbBlock, componentBlock}
 use Rattle.answer.specs.words.Writing.{sets-out, four-blocks}
-use Rattle.answer.specs.words.Sizes.{length-usb}
-use Rattle.answer.proofs.words.Blocks.{length-bytes}
-use Rattle.answer.proofs.Components.{fieldBytes, length-fields, component-of}
+use Rattle.answer.specs.words.Sizes.{length-x}
+use Rattle.answer.proofs.Components.{fieldsBlock, component-of}
 use Rattle.answer.proofs.put_component.Statement.{statement}
 use Rattle.answer.proofs.put_component.Tie as tie
 
 returns : tie.Need-returns
 returns c =
     let a = c .before .before .args in
-    λ image text d _ _. sets-out _ _ (componentBytes (a .offset) (record { base = a .base; value = d })) (c .if1 .taken)
+    sets-out _ _ (componentBlock (a .base) (a .offset) (a .kind) (a .range)) (c .if1 .taken)
 
 returns-2 : tie.Need-returns-2
 returns-2 c =
@@ -28,14 +27,10 @@ returns-2 c =
     let f = p1 .before .fields-of in
     let h = p2 .before .has-end in
     let u = p4 .before .end-or-zero in
-    λ image text d p q.
-    four-blocks (a .area .now) (a .at) 20 24 48 (fieldBytes image text (a .base) (f .result)) (u32 (h .result))
-    (usbBytes (a .base) (usbOf image text (a .range .start))) (usbBytes (a .base) (usbOf image text (u .result)))
-    (p1 .put-fields .ensures (partOf image text (f .result .text)) refl (length-bytes image text (f .result .text)))
-    (length-fields image text (a .base) (f .result)) (p2 .put-u32 .ensures) refl (p3 .put-usb .ensures image text)
-    (rw (length-usb (a .base) (usbOf image text (a .range .start)))) (p4 .put-usb2 .ensures image text)
-    ∙ ap (sets (a .area .now) (a .at))
-    (component-of image text (a .base) (a .kind) (a .range) (a .offset) d (f .result) (h .result) (u .result) p q (f .ensures) (h .ensures) (u .ensures))
+    four-blocks (a .area .now) (a .at) 20 24 48 (fieldsBlock (a .base) (f .result)) (u32 (h .result)) (usbBlock (a .base) (a .range .start))
+    (usbBlock (a .base) (u .result)) (p1 .put-fields .ensures) refl (p2 .put-u32 .ensures) refl (p3 .put-usb .ensures)
+    (rw (length-x (valueOf (a .range .start .x)))) (p4 .put-usb2 .ensures)
+    ∙ ap (sets (a .area .now) (a .at)) (component-of (a .base) (a .offset) (a .kind) (a .range) (f .ensures) (h .ensures) (u .ensures))
 
 pub put-component-spec : {M : Type 1} → statement M
 put-component-spec =

@@ -4,15 +4,18 @@ use mathlib.Core.Path.{refl, ap, _∙_}
 use lib.Seq.{sets}
 use borrow.Author.Needs.{needs}
 use Rattle.definition.specs.Tree.{u32}
-use Rattle.definition.specs.Answer.{widthBytes, concatenationBytes}
+use Rattle.definition.specs.Answer.{widthBytes}
 use Rattle.numbers.specs.Value.{optionUsize}
+use Rattle.answer.specs.Blocks.{concatenationBlock}
 use Rattle.answer.specs.words.Writing.{sets-out, four-blocks}
 use Rattle.answer.proofs.Heads.{concatenation-of}
 use Rattle.answer.proofs.put_concatenation.Statement.{statement}
 use Rattle.answer.proofs.put_concatenation.Tie as tie
 
 returns : tie.Need-returns
-returns c = λ d _. sets-out _ _ (concatenationBytes d) (c .if1 .taken)
+returns c =
+    let a = c .before .before .args in
+    sets-out _ _ (concatenationBlock (a .size) (a .align) (a .deterministic) (a .nonzero) (optionUsize (a .width))) (c .if1 .taken)
 
 returns-2 : tie.Need-returns-2
 returns-2 c =
@@ -23,10 +26,9 @@ returns-2 c =
     let a = p1 .before .before .before .before .args in
     let f = p3 .before .flags in
     let w = optionUsize (a .width) in
-    λ d h.
     four-blocks (a .area .now) (a .at) 4 8 12 (u32 (a .size)) (u32 (a .align)) (u32 (f .result)) (widthBytes w) (p1 .put-u32 .ensures) refl
     (p2 .put-u322 .ensures) refl (p3 .put-u323 .ensures) refl (p4 .put-width .ensures)
-    ∙ ap (sets (a .area .now) (a .at)) (concatenation-of (a .size) (a .align) (a .deterministic) (a .nonzero) w d (f .result) h (f .ensures))
+    ∙ ap (sets (a .area .now) (a .at)) (concatenation-of (a .size) (a .align) (a .deterministic) (a .nonzero) w (f .ensures))
 
 pub put-concatenation-spec : {M : Type 1} → statement M
 put-concatenation-spec =

@@ -4,9 +4,8 @@ use mathlib.Core.Path.{refl}
 use mathlib.Core.List.{_++_}
 use borrow.Author.Needs.{needs}
 use Rattle.definition.specs.Tree.{u32}
-use Rattle.definition.specs.Answer.{textBytes}
+use Rattle.answer.specs.Blocks.{textBlock}
 use Rattle.answer.specs.words.Writing.{sets-out, four-blocks}
-use Rattle.answer.specs.words.Sizes.{length-text}
 use Rattle.answer.proofs.put_fields.Statement.{statement}
 use Rattle.answer.proofs.put_fields.Tie as tie
 
@@ -14,7 +13,7 @@ returns : tie.Need-returns
 returns c =
     let a = c .before .before .args in
     let f = a .f in
-    λ d _ _. sets-out _ _ (u32 (f .kind) ++ textBytes (a .base) d ++ u32 (f .width) ++ u32 (f .offset)) (c .if1 .taken)
+    sets-out _ _ (u32 (f .kind) ++ textBlock (a .base) (f .text) ++ u32 (f .width) ++ u32 (f .offset)) (c .if1 .taken)
 
 returns-2 : tie.Need-returns-2
 returns-2 c =
@@ -24,8 +23,8 @@ returns-2 c =
     let p1 = p2 .before .before .before .before in
     let a = p1 .before .before .before .before .args in
     let f = a .f in
-    λ d p q. four-blocks (a .area .now) (a .at) 4 12 16 (u32 (f .kind)) (textBytes (a .base) d) (u32 (f .width)) (u32 (f .offset))
-    (p1 .put-u32 .ensures) refl (p2 .put-text .ensures d p q) (rw (length-text (a .base) d)) (p3 .put-u322 .ensures) refl (p4 .put-u323 .ensures)
+    four-blocks (a .area .now) (a .at) 4 12 16 (u32 (f .kind)) (textBlock (a .base) (f .text)) (u32 (f .width)) (u32 (f .offset))
+    (p1 .put-u32 .ensures) refl (p2 .put-text .ensures) refl (p3 .put-u322 .ensures) refl (p4 .put-u323 .ensures)
 
 pub put-fields-spec : {M : Type 1} → statement M
 put-fields-spec =

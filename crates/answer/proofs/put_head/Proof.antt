@@ -4,17 +4,18 @@ use mathlib.Core.Path.{refl, ap, _∙_}
 use lib.Seq.{sets}
 use borrow.Author.Needs.{needs}
 use Rattle.definition.specs.Tree.{u32}
-use Rattle.definition.specs.Answer.{widthBytes, textBytes, headBytes}
+use Rattle.definition.specs.Answer.{widthBytes}
 use Rattle.numbers.specs.Value.{optionUsize}
-use Rattle.ranges.specs.Usb.{partOf}
+use Rattle.answer.specs.Blocks.{textBlock, headBlock}
 use Rattle.answer.specs.words.Writing.{sets-out, six-blocks}
-use Rattle.answer.proofs.words.Blocks.{length-bytes}
 use Rattle.answer.proofs.Heads.{head-of}
 use Rattle.answer.proofs.put_head.Statement.{statement}
 use Rattle.answer.proofs.put_head.Tie as tie
 
 returns : tie.Need-returns
-returns c = λ image text d _. sets-out _ _ (headBytes d) (c .if1 .taken)
+returns c =
+    let a = c .before .before .args in
+    sets-out _ _ (headBlock (a .size) (a .merged) (a .align) (a .deterministic) (a .nonzero) (optionUsize (a .width)) (a .init)) (c .if1 .taken)
 
 returns-2 : tie.Need-returns-2
 returns-2 c =
@@ -28,14 +29,11 @@ returns-2 c =
     let s = p1 .before .before .start-of in
     let f = p4 .before .flags in
     let w = optionUsize (a .width) in
-    λ image text d h.
-    let t = s .result .text in
     six-blocks (a .area .now) (a .at) 4 8 16 20 24 (u32 (a .size)) (u32 (a .merged)) (widthBytes w) (u32 (f .result)) (u32 (a .align))
-    (textBytes (s .result .base) (partOf image text t)) (p1 .put-u32 .ensures) refl (p2 .put-u322 .ensures) refl (p3 .put-width .ensures)
-    refl (p4 .put-u323 .ensures) refl (p5 .put-u324 .ensures) refl
-    (p6 .put-text .ensures (partOf image text t) refl (length-bytes image text t))
+    (textBlock (s .result .base) (s .result .text)) (p1 .put-u32 .ensures) refl (p2 .put-u322 .ensures) refl (p3 .put-width .ensures)
+    refl (p4 .put-u323 .ensures) refl (p5 .put-u324 .ensures) refl (p6 .put-text .ensures)
     ∙ ap (sets (a .area .now) (a .at))
-    (head-of image text (a .size) (a .merged) (a .align) (a .deterministic) (a .nonzero) w d (a .init) (f .result) (s .result) h (s .ensures) (f .ensures))
+    (head-of (a .size) (a .merged) (a .align) (a .deterministic) (a .nonzero) w (a .init) (s .ensures) (f .ensures))
 
 pub put-head-spec : {M : Type 1} → statement M
 put-head-spec =

@@ -14,7 +14,7 @@ use Rattle.definition.specs.Tree.{u32}
 use Rattle.definition.specs.Answer.{twos, xBytes}
 use Rattle.numbers.specs.Value.{bits, valueOf}
 use Rattle.numbers.specs.declared.I128.{I128}
-use Rattle.answer.proofs.words.Blocks.{u32-mod}
+use Rattle.answer.specs.Laws.{u32-mod}
 
 -- turned over in two halves of a base, and back
 turned : (B h l : ℕ) → h < B → l < B → B * B - suc ((B - 1 - h) * B + (B - 1 - l)) ≡ h * B + l

@@ -12,7 +12,7 @@ use Rattle.definition.specs.Text.{Part}
 use Rattle.definition.specs.Ranges.{Usb}
 use Rattle.definition.specs.Component.{Component, ComponentType, literal, variable, filler}
 use Rattle.definition.specs.Concatenation.{Concatenation}
-use Rattle.definition.specs.Answer.{Answer, twos, textBytes, xBytes, usbBytes, typeBytes, componentBytes, concatenationBytes, headBytes}
+use Rattle.definition.specs.Answer.{Answer, twos, textBytes, xBytes, typeBytes, componentBytes, concatenationBytes, headBytes}
 use Rattle.laws.specs.Lists.{length-tab}
 
 pub length-text : (base : ℕ) (d : Part) → length (textBytes base d) ≡ 8
@@ -24,12 +24,6 @@ length-text base d = go (d .bytes)
 
 pub length-x : (z : ℤ) → length (xBytes z) ≡ 16
 length-x z = length-tab (λ i. twos z / 256 ^ i % 256) 0 16
-
-pub length-usb : (base : ℕ) (u : Usb) → length (usbBytes base u) ≡ 24
-length-usb base u =
-    let a = length-text base (u .s) in
-    let b = length-x (u .x) in
-    simp length-append (omega arith)
 
 pub length-concatenation : (c : Concatenation) → length (concatenationBytes c) ≡ sizes .concatenation
 length-concatenation c = refl

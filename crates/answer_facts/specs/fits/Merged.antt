@@ -8,7 +8,7 @@ use Rattle.definition.specs.Prelude.{ℕ, _+_, Bool, true, false, _&&_, none, s
 use Rattle.definition.specs.Basics.{if_then_else_, sum, joined}
 use Rattle.definition.specs.Image.{Unparsed, Placed}
 use Rattle.definition.specs.Component.{Component}
-use Rattle.definition.specs.Concatenation.{Concatenation, isStaticLiteral, bitsOf, fixedLiteral, mergeOnto, merge, merged}
+use Rattle.definition.specs.Concatenation.{Concatenation, isStaticLiteral, bitsOf, wholeLiteral, mergeOnto, merge, merged}
 use Rattle.definition.specs.Overall.{stage4}
 use Rattle.definition.specs.Answer.{components}
 use Rattle.definition.specs.Run.{stages}
@@ -24,7 +24,7 @@ module _ (g : ℕ → ℕ) (grows : (m n : ℕ) → m ≤ n → g m ≤ g n) (jo
   onto-light c (d ∷ l) = go (isStaticLiteral (c .value) && isStaticLiteral (d .value))
     where
       both : Placed Component
-      both = record { base = c .base; value = fixedLiteral (bitsOf (c .value) ++ bitsOf (d .value)) }
+      both = record { base = c .base; value = wholeLiteral (bitsOf (c .value) ++ bitsOf (d .value)) }
 
       go : (b : Bool) → total (weight g) (if b then both ∷ l else c ∷ d ∷ l) ≤ weight g c + total (weight g) (d ∷ l)
       go true =
@@ -62,6 +62,6 @@ module _ (g : ℕ → ℕ) (grows : (m n : ℕ) → m ≤ n → g m ≤ g n) (jo
       go : (cc : List (List (Placed Component))) (ds : List Concatenation) → map (λ d. d .comps) ds ≡ cc → Staged g grows NormalAt t cc
           → (length (map merged ds) ≡ length t) × (total (weight g) (joined (map (λ d. d .comps) (map merged ds))) ≤ total (weightBefore g) (joined t))
       go cc ds e s = (
-        length-map ds merged ∙ sym (length-map ds (λ d. d .comps)) ∙ ap length e ∙ s .groups,
+        length-map ds merged ∙ sym (length-map ds (λ d. d .comps)) ∙ ap length e ∙ s .concats,
         rw (merged-comps ds, e) (le-trans (rows-light cc) (s .light)),
       )

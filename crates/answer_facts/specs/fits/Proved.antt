@@ -12,7 +12,7 @@ use Rattle.definition.specs.Limits.{sizes}
 use Rattle.definition.specs.Image.{Unparsed, Placed, bytesFor, counts, treeOf}
 use Rattle.definition.specs.Ranges.{Usbr}
 use Rattle.definition.specs.Component.{Component, ComponentType, literal, variable, filler, keepBase, stage1Component, simplify}
-use Rattle.definition.specs.Concatenation.{isStaticLiteral, bitsOf, fixedLiteral}
+use Rattle.definition.specs.Concatenation.{isStaticLiteral, bitsOf, wholeLiteral}
 use Rattle.definition.specs.Answer.{Answer, components, concatenationBytes, literalBytes, answerBytes}
 use Rattle.laws.specs.Lists.{length-joined}
 use Rattle.prepared.specs.Bits.{length-packed}
@@ -56,10 +56,10 @@ answer-fits image h mode a e = go (tree-counted image h)
   where
     go : Counted image (treeOf image) → Fits image a
     go t =
-        let (groups, few) = the-given (rw e at (stages-light (λ _. 1) (λ m n l. le-refl 1) (λ m n. omega arith) mode (treeOf image) (t .short))) in
+        let (concats, few) = the-given (rw e at (stages-light (λ _. 1) (λ m n l. le-refl 1) (λ m n. omega arith) mode (treeOf image) (t .short))) in
         let (_, light) = the-given (rw e at (stages-light bytesFor (λ m n l. omega arith) (λ m n. omega arith) mode (treeOf image) (t .short))) in
         let size = answer-length a in
-        let c : length (a .cc) ≡ (counts image) .c = groups ∙ t .concatenations in
+        let c : length (a .cc) ≡ (counts image) .c = concats ∙ t .concatenations in
         let m : length (components a) ≤ (counts image) .n = rw (ones (components a), ones (joined (treeOf image)), t .components) at few in
         let l : length (literalsOf (components a)) ≤ (counts image) .b = rw (← literals-length (components a), t .literals) at light in
         record { concatenations = c; merged = m; literals = l; size = size; room = omega arith }
@@ -70,7 +70,7 @@ normal-fixed : (b : ℕ) (c : Component) → Normal c → Short (bitsOf c) → F
 normal-fixed b c n s = record { fixed = λ t. go (c .c-type) (c .range) t (n t); bits = s .1 }
   where
     go : (t : ComponentType) (r : Usbr) → let c : Component = record { c-type = t; range = r } in
-        isStaticLiteral c ≡ true → r ≡ upTo (length (bitsOf c)) → c ≡ fixedLiteral (bitsOf c)
+        isStaticLiteral c ≡ true → r ≡ upTo (length (bitsOf c)) → c ≡ wholeLiteral (bitsOf c)
     go (literal bits) r s e = ap (λ (r : Usbr). record { c-type = literal bits; range = r }) e
     go (variable p) r s e = absurd (false≢true s)
     go filler r s e = absurd (false≢true s)

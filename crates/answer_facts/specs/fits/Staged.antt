@@ -41,7 +41,7 @@ module _ (g : ℕ → ℕ) (grows : (m n : ℕ) → m ≤ n → g m ≤ g n) whe
 
   -- as many concatenations as the tree, of no greater weight, with components of which P holds
   pub record Staged (P : Placed Component → Type 0) (t : List (List (Placed Unparsed))) (cc : List (List (Placed Component))) : Type 0 where
-    pub groups : length cc ≡ length t
+    pub concats : length cc ≡ length t
     pub every : Every P (joined cc)
     pub light : total (weight g) (joined cc) ≤ total (weightBefore g) (joined t)
 
@@ -50,10 +50,10 @@ module _ (g : ℕ → ℕ) (grows : (m n : ℕ) → m ≤ n → g m ≤ g n) whe
   stage1-all t h =
       after (startingValue 0 (source t)) λ init.
       bound (each-kept (keepBase stage1Component) ShortBefore ShortAt (weightBefore g) (weight g) first-step 0 t h) λ cc k.
-      given (record { groups = k .0; every = k .1; light = k .2 })
+      given (record { concats = k .0; every = k .1; light = k .2 })
 
   pub stage2-all : (t : List (List (Placed Unparsed))) (p : Parsed) → Staged ShortAt t (p .cc) → Yields (λ q. Staged NormalAt t (q .cc)) (stage2 p)
   unfolding stage2
   stage2-all t p s =
       bound (each-kept (keepBase (λ last. simplify)) ShortAt NormalAt (weight g) (weight g) second-step 0 (p .cc) (s .every)) λ cc k.
-      given (record { groups = k .0 ∙ s .groups; every = k .1; light = le-trans (k .2) (s .light) })
+      given (record { concats = k .0 ∙ s .concats; every = k .1; light = le-trans (k .2) (s .light) })

@@ -9,31 +9,31 @@ use Rattle.definition.specs.Component.{Component, keepBase, each, stage1Compone
 use Rattle.definition.specs.Answer.{Answer, components, answerBytes}
 use Rattle.definition.specs.Run.{stages}
 use Rattle.definition.specs.Compute.{computed}
-use Rattle.definition.specs.Worked.{image}
+use Rattle.definition.specs.Worked.{workedImage}
 use Rattle.answer_facts.specs.fits.Fixed.{AllFixed}
 use Rattle.answer_facts.specs.fits.Statement.{literalsOf, Fits}
 use Rattle.answer_facts.specs.fits.Proved.{answer-fits, read-fixed}
 
-image-checked : checkImage image ≡ ok tt
-unfolding computed image
+image-checked : checkImage workedImage ≡ ok tt
+unfolding computed workedImage
 image-checked = refl
 
-image-answered : (a : Answer) × (stages 0 (treeOf image) ≡ ok a)
-unfolding computed image
+image-answered : (a : Answer) × (stages 0 (treeOf workedImage) ≡ ok a)
+unfolding computed workedImage
 image-answered = (_, refl)
 
-image-fits : Fits image (image-answered .0)
-image-fits = answer-fits image image-checked 0 (image-answered .0) (image-answered .1)
+image-fits : Fits workedImage (image-answered .0)
+image-fits = answer-fits workedImage image-checked 0 (image-answered .0) (image-answered .1)
 
 -- 2 concatenations, 2 components of the image's 3, 1 literal byte of its 2: 32 + 20·2 + 72·2 + 1 bytes
 image-sizes : let a = image-answered .0 in
     length (a .cc) ∷ length (components a) ∷ length (literalsOf (components a)) ∷ length (answerBytes a) ∷ [] ≡ 2 ∷ 2 ∷ 1 ∷ 217 ∷ []
-unfolding computed image image-answered
+unfolding computed workedImage image-answered
 image-sizes = refl
 
-image-read : (u : List (List (Placed Component))) × (each (keepBase (λ s x. stage1Component s x >>= simplify)) 0 (treeOf image) ≡ ok u)
-unfolding computed image
+image-read : (u : List (List (Placed Component))) × (each (keepBase (λ s x. stage1Component s x >>= simplify)) 0 (treeOf workedImage) ≡ ok u)
+unfolding computed workedImage
 image-read = (_, refl)
 
 image-fixed : AllFixed (joined (image-read .0))
-image-fixed = read-fixed image image-checked (image-read .0) (image-read .1)
+image-fixed = read-fixed workedImage image-checked (image-read .0) (image-read .1)

@@ -4,7 +4,7 @@ use mathlib.Core.List.{append-assoc}
 use Rattle.definition.specs.Prelude.{ℕ, true, false, Option, none, some, List, [], _∷_, _++_}
 use Rattle.definition.specs.Image.{Placed}
 use Rattle.definition.specs.Component.{Component}
-use Rattle.definition.specs.Concatenation.{isStaticLiteral, bitsOf, fixedLiteral, mergeOnto, merge}
+use Rattle.definition.specs.Concatenation.{isStaticLiteral, bitsOf, wholeLiteral, mergeOnto, merge}
 use Rattle.answer_facts.specs.fits.Fixed.{Fixed, AllFixed, none-left, one-more}
 use Rattle.laws.specs.Tests.{by-test}
 
@@ -17,7 +17,7 @@ runBits o = elim o [ none ↦ [] | some b ↦ b .value ]
 
 -- the literal that a run becomes
 abbrev pub literalOf : Placed (List ℕ) → Placed Component
-literalOf b = record { base = b .base; value = fixedLiteral (b .value) }
+literalOf b = record { base = b .base; value = wholeLiteral (b .value) }
 
 -- a run with a static literal more
 abbrev pub longer : Run → Placed Component → Placed (List ℕ)

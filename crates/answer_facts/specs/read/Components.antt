@@ -6,7 +6,8 @@ use native.Mathlib.Omega.{arith}
 use lib.ListN.{length-take, length-drop}
 use Rattle.definition.specs.Prelude.{Bool, true, false, _&&_, _||_, not, Option, none, some, List, [], _∷_, _++_, length, take, drop, eqb, ℤ, pos, natAbs, _+ℤ_, _-ℤ_, ltZ, leZ, nonNeg}
 use Rattle.definition.specs.Basics.{ok, _>>=_, if_then_else_, isEmpty}
-use Rattle.definition.specs.Numbers.{tryParse, char}
+use Rattle.definition.specs.Characters.{char}
+use Rattle.definition.specs.Numbers.{tryParse}
 use Rattle.definition.specs.Refusals.{need, nothing-before-range, no-literal, overflow, negative-bound, reversed, zero-width, start-above-width, end-above-width, range-above-width, end-zero, open-start}
 use Rattle.definition.specs.Image.{Unparsed, kinds}
 use Rattle.definition.specs.Tree.{textOf}

@@ -2,13 +2,13 @@
 use mathlib.Core.Path.{_≡_, refl, ap, ap₂, _∙_}
 use lib.ListN.{length-map}
 use Rattle.definition.specs.Prelude.{ℕ, suc, Bool, true, false, _&&_, not, Option, none, some, List, [], _∷_, map, _++_, leb, ltb, eqb}
-use Rattle.definition.specs.Basics.{Result, ok, refused, _>>=_, placed, if_then_else_, isEmpty}
+use Rattle.definition.specs.Basics.{Result, ok, refused, _>>=_, withPlaces, if_then_else_, isEmpty}
 use Rattle.definition.specs.Refusals.{need, refuse, middle-filler, opposite-fillers, zero-total-width, empty-after-colon}
 use Rattle.definition.specs.Image.{Unparsed, Placed}
 use Rattle.definition.specs.Text.{Part, partOf}
 use Rattle.definition.specs.Component.{Component, Prefix, Parsed, prefixOf, startingValue, source, eachIn, each, keepBase, stage1Component, simplify, stage1, stage2}
-use Rattle.definition.specs.Concatenation.{Concatenation, Running, isAlign, align-mid, running, isUnboundedFiller, isStaticLiteral, fixedLiteral, bitsOf, checkFrom, check, stage3, mergeOnto, merge, merged}
-use Rattle.definition.specs.Overall.{Overall, overall, placeFrom, checkSource, overallFrom, middleFrom, oppositeFrom, isFiller, isSided, stage4}
+use Rattle.definition.specs.Concatenation.{Concatenation, Running, isAlign, align-mid, unchecked, isUnboundedFiller, isStaticLiteral, wholeLiteral, bitsOf, checkFrom, check, stage3, mergeOnto, merge, merged}
+use Rattle.definition.specs.Overall.{Overall, overallStart, placeFrom, checkSource, overallFrom, middleFrom, oppositeFrom, isFiller, isSided, stage4}
 use Rattle.definition.specs.Run.{stages}
 use Rattle.answer_facts.specs.read.Statement.{erase, eraseTree, eraseConcatenation, eraseAnswer, onOk, EraseStages}
 
@@ -38,11 +38,11 @@ empty-map f (a ∷ l) = refl
 -- ---- stages 1 and 2
 
 erase-kept : {A B : Type 0} (f : Bool → A → Result B) (i k : ℕ) (last : Bool) (p : Placed A)
-    → placed i k (keepBase f last (erase p)) ≡ onOk erase (placed i k (keepBase f last p))
+    → withPlaces i k (keepBase f last (erase p)) ≡ onOk erase (withPlaces i k (keepBase f last p))
 erase-kept {A} {B} f i k last p = go (f last (p .value))
   where
     go : (r : Result B)
-        → placed i k (r >>= λ b. ok (record { base = 0; value = b })) ≡ onOk erase (placed i k (r >>= λ b. ok (record { base = p .base; value = b })))
+        → withPlaces i k (r >>= λ b. ok (record { base = 0; value = b })) ≡ onOk erase (withPlaces i k (r >>= λ b. ok (record { base = p .base; value = b })))
     go (ok b) = refl
     go (refused n i₀ k₀) = refl
 
@@ -52,7 +52,7 @@ unfolding eachIn
 erase-eachIn f i k [] = refl
 erase-eachIn f i k (p ∷ ps) =
     rw (empty-map erase ps)
-    (on-bind erase (map erase) (placed i k (keepBase f (eqb i 0 && isEmpty ps) p)) _ _ (erase-kept f i k (eqb i 0 && isEmpty ps) p) λ b.
+    (on-bind erase (map erase) (withPlaces i k (keepBase f (eqb i 0 && isEmpty ps) p)) _ _ (erase-kept f i k (eqb i 0 && isEmpty ps) p) λ b.
     on-bind (map erase) (map erase) (eachIn (keepBase f) i (suc k) ps) _ _ (erase-eachIn f i (suc k) ps) λ bs. refl)
 
 erase-each : {A B : Type 0} (f : Bool → A → Result B) (i : ℕ) (t : List (List (Placed A)))
@@ -73,13 +73,13 @@ erase-start k (u ∷ []) = go (prefixOf (u .value))
         elim x [
           | none ↦ ok none
           | some p ↦ do
-            _ ← placed 0 k (need (not (isEmpty (p .after))) empty-after-colon)
+            _ ← withPlaces 0 k (need (not (isEmpty (p .after))) empty-after-colon)
             ok (some (record { base = base; value = partOf (p .before) }))
         ]
 
     go : (x : Option Prefix) → from 0 x ≡ onOk eraseInit (from (u .base) x)
     go none = refl
-    go (some p) = on-same eraseInit (placed 0 k (need (not (isEmpty (p .after))) empty-after-colon)) _ _ refl λ _. refl
+    go (some p) = on-same eraseInit (withPlaces 0 k (need (not (isEmpty (p .after))) empty-after-colon)) _ _ refl λ _. refl
 erase-start k (u ∷ v ∷ us) = erase-start (suc k) (v ∷ us)
 
 erase-source : {A : Type 0} (t : List (List (Placed A))) → source (eraseTree t) ≡ map erase (source t)
@@ -111,8 +111,8 @@ erase-checkFrom i k first (c ∷ cs) r = simp (empty-map erase cs, erase-checkFr
 erase-check : (i : ℕ) (cs : List (Placed Component)) → check i (map erase cs) ≡ onOk eraseConcatenation (check i cs)
 unfolding check
 erase-check i cs =
-    on-same eraseConcatenation (checkFrom i 0 true cs running) _ _ (erase-checkFrom i 0 true cs running) λ r.
-    on-same eraseConcatenation (placed i 0 (need (elim (r .width) [ none ↦ true | some w ↦ ltb 0 w ]) zero-total-width)) _ _ refl λ _. refl
+    on-same eraseConcatenation (checkFrom i 0 true cs unchecked) _ _ (erase-checkFrom i 0 true cs unchecked) λ r.
+    on-same eraseConcatenation (withPlaces i 0 (need (elim (r .width) [ none ↦ true | some w ↦ ltb 0 w ]) zero-total-width)) _ _ refl λ _. refl
 
 erase-stage3 : (i : ℕ) (t : List (List (Placed Component))) → stage3 i (eraseTree t) ≡ onOk (map eraseConcatenation) (stage3 i t)
 unfolding stage3
@@ -142,25 +142,25 @@ erase-middleFrom : (i : ℕ) (cs : List Concatenation) → middleFrom i (map era
 unfolding middleFrom
 erase-middleFrom i [] = refl
 erase-middleFrom i (c ∷ cs) =
-    ap₂ (λ (x : Option ℕ) (later : Result Unit). if isAlign (c .align) align-mid then elim x [ none ↦ later | some k ↦ placed i k (refuse middle-filler) ] else later)
+    ap₂ (λ (x : Option ℕ) (later : Result Unit). if isAlign (c .align) align-mid then elim x [ none ↦ later | some k ↦ withPlaces i k (refuse middle-filler) ] else later)
     (place-map (λ (p : Placed Component). isUnboundedFiller (p .value)) erase 0 (c .comps)) (erase-middleFrom (suc i) cs)
 
 erase-oppositeFrom : (i : ℕ) (cs : List Concatenation) → oppositeFrom i (map eraseConcatenation cs) ≡ oppositeFrom i cs
 unfolding oppositeFrom
 erase-oppositeFrom i [] = refl
 erase-oppositeFrom i (c ∷ cs) =
-    ap₂ (λ (x : Option ℕ) (later : Result Unit). elim x [ none ↦ later | some j ↦ placed i j (refuse opposite-fillers) ])
+    ap₂ (λ (x : Option ℕ) (later : Result Unit). elim x [ none ↦ later | some j ↦ withPlaces i j (refuse opposite-fillers) ])
     (place-map (λ (d : Concatenation). isSided (c .align) && isSided (d .align) && not (isAlign (c .align) (d .align))) eraseConcatenation (suc i) cs)
     (erase-oppositeFrom (suc i) cs)
 
-erase-overall : (cs : List Concatenation) → overall (map eraseConcatenation cs) ≡ overall cs
+erase-overall : (cs : List Concatenation) → overallStart (map eraseConcatenation cs) ≡ overallStart cs
 erase-overall [] = refl
 erase-overall (c ∷ cs) = refl
 
 erase-stage4 : (mode : ℕ) (given : Bool) (cs : List Concatenation) → stage4 mode given (map eraseConcatenation cs) ≡ stage4 mode given cs
 unfolding stage4
 erase-stage4 mode given cs =
-    rw (erase-overall, erase-overallFrom (leb 1 mode && not given) 0 cs (overall cs), length-map cs eraseConcatenation, erase-middleFrom 0 cs, erase-oppositeFrom 0 cs)
+    rw (erase-overall, erase-overallFrom (leb 1 mode && not given) 0 cs (overallStart cs), length-map cs eraseConcatenation, erase-middleFrom 0 cs, erase-oppositeFrom 0 cs)
 
 -- ---- stage 5, and the whole
 
@@ -174,8 +174,8 @@ erase-merge (c ∷ cs) = rw (erase-merge cs) (go (merge cs))
     go (d ∷ l) = by-both (isStaticLiteral (c .value) && isStaticLiteral (d .value))
       where
         by-both : (b : Bool)
-            → (if b then record { base = 0; value = fixedLiteral (bitsOf (c .value) ++ bitsOf (d .value)) } ∷ map erase l else erase c ∷ erase d ∷ map erase l)
-            ≡ map erase (if b then record { base = c .base; value = fixedLiteral (bitsOf (c .value) ++ bitsOf (d .value)) } ∷ l else c ∷ d ∷ l)
+            → (if b then record { base = 0; value = wholeLiteral (bitsOf (c .value) ++ bitsOf (d .value)) } ∷ map erase l else erase c ∷ erase d ∷ map erase l)
+            ≡ map erase (if b then record { base = c .base; value = wholeLiteral (bitsOf (c .value) ++ bitsOf (d .value)) } ∷ l else c ∷ d ∷ l)
         by-both true = refl
         by-both false = refl
 

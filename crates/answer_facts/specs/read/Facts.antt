@@ -1,6 +1,6 @@
 -- How a fact is carried along: to what an operation gives where it does not refuse, to what is found, to every element of a list.
 use Rattle.definition.specs.Prelude.{ℕ, Bool, true, false, Option, none, some, List, [], _∷_, _++_}
-use Rattle.definition.specs.Basics.{Result, ok, refused, _>>=_, placed, if_then_else_}
+use Rattle.definition.specs.Basics.{Result, ok, refused, _>>=_, withPlaces, if_then_else_}
 
 pub data Yields {A : Type 0} (P : A → Type 0) : Result A → Type 0 where
   given : {a : A} → P a → Yields P (ok a)
@@ -18,7 +18,7 @@ module _ {A : Type 0} {P : A → Type 0} where
   pub the-given : {a : A} → Yields P (ok a) → P a
   the-given (given p) = p
 
-  pub yields-placed : {m : Result A} (i k : ℕ) → Yields P m → Yields P (placed i k m)
+  pub yields-placed : {m : Result A} (i k : ℕ) → Yields P m → Yields P (withPlaces i k m)
   yields-placed i k (given p) = given p
   yields-placed i k nothing = nothing
 

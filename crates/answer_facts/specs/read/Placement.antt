@@ -87,4 +87,4 @@ answer-fits t h mode a e = go (the-given (rw e at (stages-fitting txt mode (plac
 
     go : Fitting txt (length (placedTree t)) (total sizeBefore (joined (placedTree t))) (a .init) (map (λ c. c .comps) (a .cc))
         → Fitting txt (length t) (suc (limits .width) * limits .components) (a .init) (map (λ c. c .comps) (a .cc))
-    go f = record { groups = f .groups ∙ length-tree t; init-stands = f .init-stands; texts = f .texts; small = le-trans (f .small) size }
+    go f = record { concats = f .concats ∙ length-tree t; init-stands = f .init-stands; texts = f .texts; small = le-trans (f .small) size }

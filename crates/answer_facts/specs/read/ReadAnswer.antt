@@ -13,7 +13,7 @@ use Rattle.definition.specs.Tree.{imageOf, allRecs, textOf, u32}
 use Rattle.definition.specs.Text.{Part, noText}
 use Rattle.definition.specs.Component.{Component}
 use Rattle.definition.specs.Concatenation.{Concatenation, alignNumber}
-use Rattle.definition.specs.Answer.{Answer, components, flag, widthBytes, textBytes, headBytes, concatenationBytes, componentsBytes, literalBytes, answerBytes, Group, widthAt, textAt, groupAt, fieldAt, readAnswer}
+use Rattle.definition.specs.Answer.{Answer, components, flag, widthBytes, textBytes, headBytes, concatenationBytes, componentsBytes, literalBytes, answerBytes, Concat, widthAt, textAt, concatAt, fieldAt, readAnswer}
 use Rattle.laws.specs.Tests.{leb-iff}
 use mathlib.Core.List.{map-append}
 use Rattle.laws.specs.Lists.{all-map, all-parts}
@@ -34,7 +34,7 @@ shown-small n h = u32At-holds (u32 n) 0 n (holds-whole (u32 n)) h
 
 -- ---- concatenations
 
-abbrev readGroup : List ℕ → ℕ → Group
+abbrev readGroup : List ℕ → ℕ → Concat
 readGroup s at = record { size = u32At s at; align = u32At s (at + 4); flags = u32At s (at + 8); width = widthAt s (at + 12) }
 
 group-read : (s : List ℕ) (i : ℕ) (c : Concatenation) → length (c .comps) < 2 ^ 32 → Holds s i (concatenationBytes c)
@@ -50,7 +50,7 @@ group-read s i c b h =
     λ k. record { size = size k; align = align k; flags = flags k; width = low k + 2 ^ 32 * high k }
 
 groups-read : (s : List ℕ) (size : ℕ) (cc : List Concatenation) → length (joined (map (λ c. c .comps) cc)) ≤ size → size < 2 ^ 32
-    → Holds s (sizes .head) (joined (map concatenationBytes cc)) → tab (groupAt s) 0 (length cc) ≡ map shownGroup (map eraseConcatenation cc)
+    → Holds s (sizes .head) (joined (map concatenationBytes cc)) → tab (concatAt s) 0 (length cc) ≡ map shownGroup (map eraseConcatenation cc)
 groups-read s size cc l b h =
     rows-read (sizes .concatenation) concatenationBytes (λ c. refl) (λ c. leb (length (c .comps)) size) s (sizes .head) (readGroup s) (λ c. shownGroup (eraseConcatenation c))
     (λ i c g h. let m = (leb-iff (length (c .comps)) size) .0 g in group-read s i c (omega arith) h) 0 cc
@@ -140,7 +140,7 @@ module _ (image txt : List ℕ) (read : bytesAt image ((tables image) .text) (le
   count : length (a .cc) < 2 ^ 32
   count =
       let e = length-map (a .cc) (λ c. c .comps) in
-      let g = f .groups in
+      let g = f .concats in
       omega arith
 
   sized : length (components a) ≤ size
@@ -173,10 +173,10 @@ module _ (image txt : List ℕ) (read : bytesAt image ((tables image) .text) (le
       let align : u32At s 20 ≡ shownNumber (alignNumber (a .overall .align)) = word a s whole 20 (omega arith) in
       let init : textAt image s 24 ≡ initText (eraseInit (a .init)) =
       init-read (a .init) (f .init-stands) (holds-next s 0 (frontBytes a) (initBytes (a .init)) 24 (placed-parts a s whole .0) refl) ∙ sym (erased-text (a .init)) in
-      let groups : tab (groupAt s) 0 (u32At s 0) ≡ map shownGroup (map eraseConcatenation (a .cc)) =
-      ap (tab (groupAt s) 0) c-is ∙ groups-read s size (a .cc) sized light (placed-parts a s whole .1) in
+      let concats : tab (concatAt s) 0 (u32At s 0) ≡ map shownGroup (map eraseConcatenation (a .cc)) =
+      ap (tab (concatAt s) 0) c-is ∙ groups-read s size (a .cc) sized light (placed-parts a s whole .1) in
       let fields : tab (fieldAt image s) 0 (u32At s 4) ≡ shownFields 0 (components (eraseAnswer a)) = fields-are ∙ ap (shownFields 0) (sym e) in
-      λ k. record { size = sizeof k; width = low k + 2 ^ 32 * high k; flags = flags k; align = align k; init = init k; groups = groups k; fields = fields k }
+      λ k. record { size = sizeof k; width = low k + 2 ^ 32 * high k; flags = flags k; align = align k; init = init k; concats = concats k; fields = fields k }
 
 -- ---- of a tree
 

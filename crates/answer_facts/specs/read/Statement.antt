@@ -9,7 +9,7 @@ use Rattle.definition.specs.Text.{Part}
 use Rattle.definition.specs.Ranges.{Usb}
 use Rattle.definition.specs.Component.{Component, ComponentType, literal, variable, filler}
 use Rattle.definition.specs.Concatenation.{Concatenation, alignNumber, bitsOf}
-use Rattle.definition.specs.Answer.{Answer, components, answerBytes, readAnswer, Read, Group, Field, Bound, flag, widthBytes, widthAt, xBytes, untwos, literalBytes}
+use Rattle.definition.specs.Answer.{Answer, components, answerBytes, readAnswer, Read, Concat, Field, Bound, flag, widthBytes, widthAt, xBytes, untwos, literalBytes}
 use Rattle.definition.specs.Run.{stages}
 use Rattle.prepared.specs.Statement.{placedTree}
 
@@ -45,7 +45,7 @@ shownNumber n = u32At (u32 n) 0
 abbrev pub shownBound : Usb → Bound
 shownBound u = record { text = u .s .bytes; x = untwos (sum (tab (λ i. u32At (xBytes (u .x)) (4 * i) * 2 ^ (32 * i)) 0 4)) }
 
-abbrev pub shownGroup : Concatenation → Group
+abbrev pub shownGroup : Concatenation → Concat
 shownGroup c =
     record {
       size = length (c .comps);
@@ -94,7 +94,7 @@ shown a =
       flags = shownNumber (flag (a .overall .deterministic) 1 + flag (a .overall .nonzero) 2 + elim (a .init) [ none ↦ 0 | some p ↦ 4 ]);
       align = shownNumber (alignNumber (a .overall .align));
       init = elim (a .init) [ none ↦ [] | some p ↦ p .value .bytes ];
-      groups = map shownGroup (a .cc);
+      concats = map shownGroup (a .cc);
       fields = shownFields 0 (components a);
     }
 

@@ -3,11 +3,12 @@ use mathlib.Core.Path.{_≡_, refl, ap}
 use Prim.Native.Nat.{ℕ}
 use Rattle.definition.specs.Prelude.{Bool, true, false, _&&_, not, Option, none, some, List, [], _∷_, _++_, take, drop, eqb, ℤ, pos, _+ℤ_, _-ℤ_}
 use Rattle.definition.specs.Basics.{ok, _>>=_, if_then_else_, isEmpty}
-use Rattle.definition.specs.Numbers.{char, narrow}
+use Rattle.definition.specs.Characters.{char}
+use Rattle.definition.specs.Numbers.{narrow}
 use Rattle.definition.specs.Refusals.{Reason, need, refuse, bound-overflow, not-one-token, empty-range}
 use Rattle.definition.specs.Image.{kinds}
 use Rattle.definition.specs.Text.{Part, Item, items, isGroup, isToken, partOf}
-use Rattle.definition.specs.Ranges.{Usb, Usbr, Cut, Scan, val, text, withX, behind, cutLast, cutPair, cutBound, orElse, beginsWith, numberIn, side, joinSides, readBound, parseUsb, parseStart, parseEnd, scan, parseRange}
+use Rattle.definition.specs.Ranges.{Usb, Usbr, Cut, Scan, val, text, withX, behind, cutLast, cutPair, cutBound, orElse, beginsWith, numberIn, side, joinSides, readBound, parseUsb, parseStart, parseEnd, scanDots, parseRange}
 use Rattle.definition.specs.Component.{Component, ComponentType, literal, variable, filler}
 use Rattle.answer_facts.specs.read.Facts.{Yields, given, nothing, Found, found, missing, after, bound, yields-if}
 use Rattle.answer_facts.specs.read.Items.{Stands, Run, run-split, run-take, run-drop, run-part, run-inside}
@@ -157,7 +158,7 @@ module _ (txt : List ℕ) where
 
   pub parse-range : (is : List Item) → Run txt is → Yields (Found InUsbr) (parseRange is)
   unfolding parseRange
-  parse-range is r = after (need (not (isEmpty is)) empty-range) λ _. after (scan is) λ st. go st (st .found)
+  parse-range is r = after (need (not (isEmpty is)) empty-range) λ _. after (scanDots is) λ st. go st (st .found)
     where
       go : (st : Scan) (x : Option (ℕ × ℕ))
           → Yields (Found InUsbr) (elim x [

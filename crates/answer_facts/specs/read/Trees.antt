@@ -5,13 +5,13 @@ use native.Mathlib.Nat.{le-refl, le-trans}
 use native.Mathlib.Omega.{arith}
 use lib.ListN.{length-append, length-map}
 use Rattle.definition.specs.Prelude.{Bool, true, false, _&&_, not, Option, none, some, List, [], _∷_, _++_, map, length, drop, ltb, eqb, pos}
-use Rattle.definition.specs.Basics.{Result, ok, _>>=_, placed, if_then_else_, isEmpty, sum, joined}
+use Rattle.definition.specs.Basics.{Result, ok, _>>=_, withPlaces, if_then_else_, isEmpty, sum, joined}
 use Rattle.definition.specs.Refusals.{need, empty-after-colon, zero-total-width}
 use Rattle.definition.specs.Image.{Unparsed, Placed}
 use Rattle.definition.specs.Tree.{textOf}
 use Rattle.definition.specs.Text.{Part, partOf}
 use Rattle.definition.specs.Component.{Component, Prefix, Parsed, prefixOf, startingValue, source, eachIn, each, keepBase, stage1Component, simplify, stage1, stage2}
-use Rattle.definition.specs.Concatenation.{Concatenation, isStaticLiteral, fixedLiteral, bitsOf, running, checkFrom, check, stage3, mergeOnto, merge, merged}
+use Rattle.definition.specs.Concatenation.{Concatenation, isStaticLiteral, wholeLiteral, bitsOf, unchecked, checkFrom, check, stage3, mergeOnto, merge, merged}
 use Rattle.definition.specs.Overall.{stage4}
 use Rattle.definition.specs.Run.{stages}
 use mathlib.Core.List.{map-append}
@@ -79,11 +79,11 @@ module _ (txt : List ℕ) where
           → Yields (Found PartWithin) (elim x [
             | none ↦ ok none
             | some p ↦ do
-              _ ← placed 0 k (need (not (isEmpty (p .after))) empty-after-colon)
+              _ ← withPlaces 0 k (need (not (isEmpty (p .after))) empty-after-colon)
               ok (some (record { base = u .base; value = partOf (p .before) }))
           ])
       go none r = given missing
-      go (some p) (found r) = after (placed 0 k (need (not (isEmpty (p .after))) empty-after-colon)) λ _. given (found (run-part (r .0)))
+      go (some p) (found r) = after (withPlaces 0 k (need (not (isEmpty (p .after))) empty-after-colon)) λ _. given (found (run-part (r .0)))
   start-kept k (every-cons h (every-cons h′ hs)) = start-kept (suc k) (every-cons h′ hs)
 
   first-kept : (last : Bool) (u : Placed Unparsed) → Begins u → Yields (λ c. Within c × (sizeOf c ≤ sizeBefore u)) (keepBase stage1Component last u)
@@ -101,7 +101,7 @@ module _ (txt : List ℕ) where
   onto-kept c h (every-cons {a = d} {l = l} k ks) = go (isStaticLiteral (c .value) && isStaticLiteral (d .value))
     where
       both : Placed Component
-      both = record { base = c .base; value = fixedLiteral (bitsOf (c .value) ++ bitsOf (d .value)) }
+      both = record { base = c .base; value = wholeLiteral (bitsOf (c .value) ++ bitsOf (d .value)) }
 
       go : (b : Bool)
           → Every Within (if b then both ∷ l else c ∷ d ∷ l) × (total sizeOf (if b then both ∷ l else c ∷ d ∷ l) ≤ sizeOf c + total sizeOf (d ∷ l))
@@ -134,7 +134,7 @@ module _ (txt : List ℕ) where
 
 check-comps : (i : ℕ) (cs : List (Placed Component)) → Yields (λ d. d .comps ≡ cs) (check i cs)
 unfolding check
-check-comps i cs = after (checkFrom i 0 true cs running) λ r. after (placed i 0 (need (elim (r .width) [ none ↦ true | some w ↦ ltb 0 w ]) zero-total-width)) λ _. given refl
+check-comps i cs = after (checkFrom i 0 true cs unchecked) λ r. after (withPlaces i 0 (need (elim (r .width) [ none ↦ true | some w ↦ ltb 0 w ]) zero-total-width)) λ _. given refl
 
 pub stage3-comps : (i : ℕ) (t : List (List (Placed Component))) → Yields (λ ds. map (λ d. d .comps) ds ≡ t) (stage3 i t)
 unfolding stage3
@@ -149,7 +149,7 @@ merged-comps (d ∷ ds) = ap (λ (l : List (List (Placed Component))). merge (d 
 
 -- n concatenations, of a size in all, whose texts and starting value stand in a text
 pub record Fitting (txt : List ℕ) (n size : ℕ) (init : Option (Placed Part)) (cc : List (List (Placed Component))) : Type 0 where
-  pub groups : length cc ≡ n
+  pub concats : length cc ≡ n
   pub init-stands : Found (PartWithin txt) init
   pub texts : Every (Within txt) (joined cc)
   pub small : total sizeOf (joined cc) ≤ size
@@ -166,13 +166,13 @@ module _ (txt : List ℕ) where
   stage1-fitting t h =
       bound (start-kept txt 0 (source-begins t h)) λ init i.
       bound (each-kept (keepBase stage1Component) (Begins txt) (Within txt) sizeBefore sizeOf (first-kept txt) 0 t h) λ cc f.
-      given (record { groups = f .0; init-stands = i; texts = f .1; small = f .2 })
+      given (record { concats = f .0; init-stands = i; texts = f .1; small = f .2 })
 
   stage2-fitting : (n size : ℕ) (t : Parsed) → Fitting txt n size (t .init) (t .cc) → Yields (λ t₂. Fitting txt n size (t₂ .init) (t₂ .cc)) (stage2 t)
   unfolding stage2
   stage2-fitting n size t h =
       bound (each-kept (keepBase (λ last. simplify)) (Within txt) (Within txt) sizeOf sizeOf (second-kept txt) 0 (t .cc) (h .texts)) λ cc f.
-      given (record { groups = f .0 ∙ h .groups; init-stands = h .init-stands; texts = f .1; small = le-trans (f .2) (h .small) })
+      given (record { concats = f .0 ∙ h .concats; init-stands = h .init-stands; texts = f .1; small = le-trans (f .2) (h .small) })
 
   pub stages-fitting : (mode : ℕ) (t : List (List (Placed Unparsed))) → Every (Begins txt) (joined t)
       → Yields (λ a. Fitting txt (length t) (total sizeBefore (joined t)) (a .init) (map (λ c. c .comps) (a .cc))) (stages mode t)
@@ -187,4 +187,4 @@ module _ (txt : List ℕ) where
       go t₂ cc e f =
           let (texts, small) = rows-merged txt (t₂ .cc) (f .texts) in
           rw (merged-comps cc, e)
-          (record { groups = length-map (t₂ .cc) merge ∙ f .groups; init-stands = f .init-stands; texts = texts; small = le-trans small (f .small) })
+          (record { concats = length-map (t₂ .cc) merge ∙ f .concats; init-stands = f .init-stands; texts = texts; small = le-trans small (f .small) })

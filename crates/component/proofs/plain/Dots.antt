@@ -6,7 +6,7 @@ use native.Mathlib.Nat.{add-assoc}
 use native.Mathlib.Omega.{arith}
 use Rattle.definition.specs.Prelude.{ℕ, zero, suc, _+_, _*_, _-_, Bool, true, false, _&&_, none, some, List, [], _∷_, _++_, getD, eqb, pos, _+ℤ_}
 use Rattle.definition.specs.Basics.{Result, ok}
-use Rattle.definition.specs.Numbers.{char}
+use Rattle.definition.specs.Characters.{char}
 use Rattle.definition.specs.Refusals.{bound-overflow}
 use Rattle.definition.specs.Image.{padded}
 use Rattle.definition.specs.Text as Text

@@ -5,7 +5,7 @@ use native.Mathlib.Nat.{add-zero}
 use native.Mathlib.Omega.{arith}
 use Rattle.definition.specs.Prelude.{ℕ, suc, _+_, _*_, _-_, _^_, Bool, true, false, _&&_, _||_, none, some, List, [], _∷_, getD, drop, eqb, pos}
 use Rattle.definition.specs.Basics.{Result, ok, _>>=_, isEmpty, sameBytes}
-use Rattle.definition.specs.Numbers.{char}
+use Rattle.definition.specs.Characters.{char}
 use Rattle.definition.specs.Image.{Unparsed, u32At, kinds, padded, tables, entryAt}
 use Rattle.definition.specs.Text.{Item, items, isToken}
 use Rattle.definition.specs.Ranges as Ranges

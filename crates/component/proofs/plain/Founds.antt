@@ -6,7 +6,7 @@ use native.Mathlib.Nat.{add-zero, zero-add}
 use native.Mathlib.Omega.{arith}
 use borrow.Author.Tests.{eq-eqb, ltb-true}
 use Rattle.definition.specs.Prelude.{ℕ, suc, _+_, _*_, _-_, _^_, Bool, true, not, Option, none, some, List, [], _∷_, getD, ltb, eqb}
-use Rattle.definition.specs.Basics.{Result, ok, _>>=_, placed, isEmpty}
+use Rattle.definition.specs.Basics.{Result, ok, _>>=_, withPlaces, isEmpty}
 use Rattle.definition.specs.Refusals.{need, empty-after-colon}
 use Rattle.definition.specs.Image.{Unparsed, Placed, u32At, bytesAt, recsFrom, tables, entryAt}
 use Rattle.definition.specs.Text as Text
@@ -100,13 +100,13 @@ abbrev startOf : Option Prefix → Result (Option (Placed Text.Part))
 startOf o =
     elim o [
       | none ↦ ok none
-      | some p ↦ (placed 0 0 (need (not (isEmpty (p .after))) empty-after-colon) >>= λ _. ok (some (placedAt 0 (Text.partOf (p .before)))))
+      | some p ↦ (withPlaces 0 0 (need (not (isEmpty (p .after))) empty-after-colon) >>= λ _. ok (some (placedAt 0 (Text.partOf (p .before)))))
     ]
 
 none-of : (o : Option Prefix) → startOf o ≡ ok none → o ≡ none
 none-of none h = refl
 none-of (some p) h =
-    let (x, y, z) = bind-ok (placed 0 0 (need (not (isEmpty (p .after))) empty-after-colon)) (λ _. ok (some (placedAt 0 (Text.partOf (p .before))))) h in cc
+    let (x, y, z) = bind-ok (withPlaces 0 0 (need (not (isEmpty (p .after))) empty-after-colon)) (λ _. ok (some (placedAt 0 (Text.partOf (p .before))))) h in cc
 
 pub no-prefix : (u : Unparsed) → startingValue 0 (placedAt 0 u ∷ []) ≡ ok none → prefixOf u ≡ none
 unfolding startingValue

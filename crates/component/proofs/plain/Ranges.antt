@@ -5,7 +5,7 @@ use Prim.Native.Nat.{_≤_}
 use native.Mathlib.Nat.{add-assoc}
 use native.Mathlib.Omega.{arith}
 use Rattle.definition.specs.Prelude.{ℕ, suc, _+_, _*_, _-_, Bool, true, _&&_, List, [], _∷_, getD}
-use Rattle.definition.specs.Numbers.{char}
+use Rattle.definition.specs.Characters.{char}
 use Rattle.definition.specs.Image.{u32At, padded, tables, entryAt}
 use Rattle.definition.specs.Text as Text
 use Rattle.laws.specs.Tests.{and-iff}

@@ -7,7 +7,8 @@ use lib.IntN.{+ℤ-assoc, +ℤ-comm}
 use borrow.Author.Tests.{le-ltb, lt-leb, leb-true, ne-eqb}
 use Rattle.definition.specs.Prelude.{ℕ, zero, suc, _+_, _*_, _-_, Bool, true, false, _&&_, not, Option, none, some, List, [], _∷_, length, getD, leb, ltb, eqb, ℤ, pos, _+ℤ_, _-ℤ_}
 use Rattle.definition.specs.Basics.{Result, ok, if_then_else_, within, isEmpty, sameBytes}
-use Rattle.definition.specs.Numbers.{fits128, char, digitWorth, digitIn, digitsFrom, signedAs, inner, unsignedParse, tryParse}
+use Rattle.definition.specs.Characters.{char}
+use Rattle.definition.specs.Numbers.{fits128, digitWorth, digitIn, digitsFrom, signedAs, inner, unsignedParse, tryParse}
 use Rattle.definition.specs.Refusals.{Reason, refuse, overflow, bound-overflow}
 use Rattle.definition.specs.Image.{padded}
 use Rattle.definition.specs.Text.{Part, noText, Item, items, isGroup, isToken, partOf, bytesOf}
@@ -27,7 +28,7 @@ abbrev inTen : Option ℕ → Option ℕ
 inTen o = elim o [ none ↦ none | some d ↦ if ltb d 10 then some d else none ]
 
 abbrev letterWorth : ℕ → Bool → Bool → Option ℕ
-letterWorth b t u = if t then some (b - 87) else if u then some (b - 55) else none
+letterWorth b t u = if t then some (10 + (b - 97)) else if u then some (10 + (b - 65)) else none
 
 letter-worth : (b : ℕ) → 57 < b → digitWorth b ≡ letterWorth b (within 97 102 b) (within 65 70 b)
 unfolding digitWorth
@@ -37,8 +38,8 @@ above-ten : (d : ℕ) → 10 ≤ d → inTen (some d) ≡ none
 above-ten d h = rw (le-ltb d 10 h)
 
 letter-none : (b : ℕ) (t u : Bool) → (t ≡ true → 97 ≤ b) → (u ≡ true → 65 ≤ b) → inTen (letterWorth b t u) ≡ none
-letter-none b true u f g = let k = f refl in above-ten (b - 87) (omega arith)
-letter-none b false true f g = let k = g refl in above-ten (b - 55) (omega arith)
+letter-none b true u f g = let k = f refl in above-ten (10 + (b - 97)) (omega arith)
+letter-none b false true f g = let k = g refl in above-ten (10 + (b - 65)) (omega arith)
 letter-none b false false f g = refl
 
 no-digit : (b : ℕ) → 57 < b → digitIn 10 b ≡ none

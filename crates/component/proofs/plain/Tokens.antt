@@ -7,7 +7,7 @@ use native.Mathlib.Omega.{arith}
 use borrow.Author.Tests.{not-true}
 use Rattle.definition.specs.Prelude.{ℕ, zero, suc, _+_, _*_, _-_, Bool, true, false, _&&_, _||_, not, List, [], _∷_, getD, leb, eqb}
 use Rattle.definition.specs.Basics.{if_then_else_}
-use Rattle.definition.specs.Numbers.{char}
+use Rattle.definition.specs.Characters.{char}
 use Rattle.definition.specs.Image.{Rec, u32At, bytesAt, counts, tables, entryAt, startAt}
 use Rattle.definition.specs.Text.{Item, more, isToken}
 use Rattle.laws.specs.Tests.{by-test, and-iff, leb-iff, eqb-iff, eqb-false, eqb-apart}

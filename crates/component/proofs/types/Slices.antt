@@ -1,15 +1,16 @@
 -- Bits from one place to another.
 use mathlib.Core.Path.{_≡_, refl, sym, ap, _∙_}
-use mathlib.Core.Logic.{_⊎_, inl, inr}
-use Prim.Native.Nat.{_≤_, _<_}
+use Prim.Native.Nat.{_≤_, min}
 use native.Mathlib.Nat.{zero-add, suc-add}
 use native.Mathlib.Omega.{arith}
 use lib.ListN.{length-drop, drop-of-length-le}
+use borrow.Author.Tests.{leb-true, leb-false}
 use lib.Seq.{length-take-le, take-all, take-take, drop-drop}
-use Rattle.definition.specs.Prelude.{ℕ, zero, suc, _+_, _-_, List, [], _∷_, length, take, drop}
+use Rattle.definition.specs.Prelude.{ℕ, zero, suc, _+_, _-_, List, [], _∷_, length, take, drop, leb}
 use Rattle.definition.specs.Image.{bitsAt}
 use Rattle.laws.specs.Lists.{length-tab}
-use Rattle.component.specs.types.Values.{Least, SameBits, CutBits, bitsFrom, bitsOf}
+use Rattle.laws.specs.Tests.{by-test}
+use Rattle.component.specs.types.Values.{SameBits, CutBits, bitsFrom, bitsOf}
 use Rattle.component.specs.declared.types.places.Place.{Place}
 use Rattle.component.specs.declared.types.values.Bits.{Bits}
 
@@ -23,42 +24,40 @@ take-drop (suc a) (suc n) [] = rw (suc-add a (suc n))
 take-drop (suc a) n (x ∷ l) = rw (suc-add a n) (take-drop a n l)
 
 -- a place no further than n, which the list does not pass
-drop-least : (f n r : ℕ) (l : List ℕ) → length l ≤ n → Least f n r → drop f l ≡ drop r l
-drop-least f n r l h m = go (m .one)
-  where
-    go : (r ≡ f) ⊎ (r ≡ n) → drop f l ≡ drop r l
-    go (inl e) = rw e
-    go (inr e) =
-        let a : length l ≤ f = let q = m .first in omega arith in
-        let b : length l ≤ r = omega arith in
-        drop-of-length-le l a ∙ sym (drop-of-length-le l b)
+module _ (f n r : ℕ) (l : List ℕ) (m : r ≡ min f n) where
+  drop-least : length l ≤ n → drop f l ≡ drop r l
+  drop-least h =
+      by-test (leb f n)
+      (λ t. let o = leb-true f n t in
+      let e : f ≡ r = omega arith in ap (λ k. drop k l) e)
+      (λ t. let o = leb-false f n t in
+      let a : length l ≤ f = omega arith in
+      let b : length l ≤ r = omega arith in drop-of-length-le l a ∙ sym (drop-of-length-le l b))
 
-take-least : (t n r : ℕ) (l : List ℕ) → length l ≡ n → Least t n r → take t l ≡ take r l
-take-least t n r l h m = go (m .one)
-  where
-    go : (r ≡ t) ⊎ (r ≡ n) → take t l ≡ take r l
-    go (inl e) = rw e
-    go (inr e) =
-        let a : length l ≤ t = let q = m .first in omega arith in
-        let b : length l ≤ r = omega arith in
-        take-all t l a ∙ sym (take-all r l b)
+  take-least : length l ≡ n → take f l ≡ take r l
+  take-least h =
+      by-test (leb f n)
+      (λ t. let o = leb-true f n t in
+      let e : f ≡ r = omega arith in ap (λ k. take k l) e)
+      (λ t. let o = leb-false f n t in
+      take-all f l (omega arith) ∙ sym (take-all r l (omega arith)))
 
-pub ordered-bits : (width : ℕ) (b : Bits) (f t : ℕ) → Least (b .to) width t → Least (b .from) t f → SameBits width b (record { from = f; to = t })
+pub ordered-bits : (width : ℕ) (b : Bits) (f t : ℕ) → t ≡ min (b .to) width → f ≡ min (b .from) t → SameBits width b (record { from = f; to = t })
 ordered-bits width b f t m n =
     record {
-      order = n .second;
-      last = m .second;
+      order = omega arith;
+      last = omega arith;
       same = λ bits e.
-          let l : t ≤ length bits = let q = m .second in omega arith in
+          let l : t ≤ length bits = omega arith in
           let k : length (take t bits) ≤ t = let q = length-take-le t bits l in omega arith in
-          ap (drop (b .from)) (take-least (b .to) width t bits e m) ∙ drop-least (b .from) t f (take t bits) k n;
+          ap (drop (b .from)) (take-least (b .to) width t bits m e) ∙ drop-least (b .from) t f (take t bits) n k;
     }
 
-pub cut-bits : (b : Bits) (from to f t : ℕ) → b .from ≤ b .to → Least from (b .to - b .from) f → Least to (b .to - b .from) t
+pub cut-bits : (b : Bits) (from to f t : ℕ) → b .from ≤ b .to → f ≡ min from (b .to - b .from) → t ≡ min to (b .to - b .from)
     → CutBits b from to (record { from = b .from + f; to = b .from + t })
 cut-bits b from to f t o m n bits h =
-    ap (drop from) (take-least to (b .to - b .from) t (bitsFrom b bits) width n)
-    ∙ drop-least from (b .to - b .from) f (take t (bitsFrom b bits)) short m
+    ap (drop from) (take-least to (b .to - b .from) t (bitsFrom b bits) n width)
+    ∙ drop-least from (b .to - b .from) f (take t (bitsFrom b bits)) m short
     ∙ ap (drop f) (take-drop (b .from) t (take (b .to) bits) ∙ ap (drop (b .from)) (take-take (b .from + t) (b .to) bits within))
     ∙ drop-drop f (b .from) (take (b .from + t) bits)
   where
@@ -66,12 +65,11 @@ cut-bits b from to f t o m n bits h =
     width = length-drop (b .from) (take (b .to) bits) ∙ ap (λ n. n - b .from) (length-take-le (b .to) bits h)
 
     within : b .from + t ≤ b .to
-    within = let q = n .second in omega arith
+    within = omega arith
 
     short : length (take t (bitsFrom b bits)) ≤ b .to - b .from
     short =
-        let q = n .second in
-        let l : t ≤ length (bitsFrom b bits) = rw width q in
+        let l : t ≤ length (bitsFrom b bits) = rw width (omega arith) in
         let e = length-take-le t (bitsFrom b bits) l in
         omega arith
 

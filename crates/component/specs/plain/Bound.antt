@@ -4,7 +4,8 @@ use mathlib.Core.Logic.{_⊎_}
 use Prim.Native.Nat.{_<_}
 use Rattle.definition.specs.Prelude.{ℕ, _+_, _-_, _%_, _^_, true, false, some, List, [], _∷_, getD, ℤ, pos, _+ℤ_}
 use Rattle.definition.specs.Basics.{Result, ok}
-use Rattle.definition.specs.Numbers.{fits128, tryParse, char}
+use Rattle.definition.specs.Characters.{char}
+use Rattle.definition.specs.Numbers.{fits128, tryParse}
 use Rattle.definition.specs.Image.{u32At, bytesAt}
 use Rattle.definition.specs.Text as Text
 use Rattle.definition.specs.Ranges as Ranges

@@ -3,7 +3,7 @@ use mathlib.Core.Path.{_≡_}
 use Prim.Native.Nat.{_≤_}
 use Rattle.definition.specs.Prelude.{ℕ, Bool, true, false, Option, some, List, _++_, eqb}
 use Rattle.definition.specs.Basics.{ok}
-use Rattle.definition.specs.Numbers.{char}
+use Rattle.definition.specs.Characters.{char}
 use Rattle.definition.specs.Text.{Item}
 use Rattle.definition.specs.Ranges.{Usb, parseStart, parseEnd, parseRange}
 use Rattle.definition.specs.Component.{simplifyEnd}

@@ -2,10 +2,10 @@
 use mathlib.Core.Path.{_≡_, refl, ap, _∙_}
 use Rattle.definition.specs.Prelude.{ℕ, _+_, Bool, true, false, Option, none, some, List, [], _∷_, _++_, take, drop, eqb, pos}
 use Rattle.definition.specs.Basics.{Result, ok, isEmpty}
-use Rattle.definition.specs.Numbers.{char}
+use Rattle.definition.specs.Characters.{char}
 use Rattle.definition.specs.Image.{Unparsed, Placed, kinds}
 use Rattle.definition.specs.Text.{Item, items, isGroup, isToken, partOf}
-use Rattle.definition.specs.Ranges.{Usb, Usbr, val, text, unbounded, Scan, scan, scanFrom, parseStart, parseEnd, parseRange, parseUsb, readBound, cutBound, cutLast, cutPair, singleBit}
+use Rattle.definition.specs.Ranges.{Usb, Usbr, val, text, unbounded, Scan, scanDots, scanFrom, parseStart, parseEnd, parseRange, parseUsb, readBound, cutBound, cutLast, cutPair, singleBit}
 use Rattle.definition.specs.Component.{Component, Split, splitRange, splitColon, parseComponent, typed, stage1Component, startingValue}
 use Rattle.component.specs.types.Places.{middleOf}
 
@@ -72,7 +72,7 @@ lo none = 0
 lo (some a) = 1
 
 module _ (d f : Item) (x : isToken (char .dot) d ≡ true) (y : isToken (char .dot) f ≡ true) where
-  scan-is : (s e : Option Item) → Undotted s → Undotted e → Unequal e → scan (listOf s ++ (d ∷ f ∷ listOf e)) ≡ ok (foundAt false (lo s) (lo s + 2))
+  scan-is : (s e : Option Item) → Undotted s → Undotted e → Unequal e → scanDots (listOf s ++ (d ∷ f ∷ listOf e)) ≡ ok (foundAt false (lo s) (lo s + 2))
   unfolding scanFrom
   scan-is none none p q r = rw (x, y)
   scan-is (some a) none p q r = rw (p, x, y)
@@ -80,7 +80,7 @@ module _ (d f : Item) (x : isToken (char .dot) d ≡ true) (y : isToken (char .d
   scan-is (some a) (some b) p q r = rw (p, x, y, q, r)
 
   scan-equals : (s e : Option Item) (g : Item) → Undotted s → Undotted e → isToken (char .dot) g ≡ false → isToken (char .equals) g ≡ true
-      → scan (listOf s ++ (d ∷ f ∷ g ∷ listOf e)) ≡ ok (foundAt true (lo s) (lo s + 3))
+      → scanDots (listOf s ++ (d ∷ f ∷ g ∷ listOf e)) ≡ ok (foundAt true (lo s) (lo s + 3))
   unfolding scanFrom
   scan-equals none none g p q u v = rw (x, y, u, v)
   scan-equals (some a) none g p q u v = rw (p, x, y, u, v)
@@ -96,7 +96,7 @@ end-is none p = refl
 end-is (some b) p = rw (usb-is b p)
 
 -- the range of dots that were found
-parsed-is : (is : List Item) (inclusive : Bool) (m n : ℕ) (s : Usb) (e : Option Usb) → isEmpty is ≡ false → scan is ≡ ok (foundAt inclusive m n)
+parsed-is : (is : List Item) (inclusive : Bool) (m n : ℕ) (s : Usb) (e : Option Usb) → isEmpty is ≡ false → scanDots is ≡ ok (foundAt inclusive m n)
     → parseStart (take m is) ≡ ok s → parseEnd inclusive (drop n is) ≡ ok e → parseRange is ≡ ok (some (record { start = s; «end» = e }))
 unfolding parseRange
 parsed-is is inclusive m n s e h p q r = rw (h, p, q, r)

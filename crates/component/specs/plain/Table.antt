@@ -3,7 +3,7 @@ use mathlib.Core.Path.{_≡_}
 use Prim.Native.Nat.{_<_}
 use Rattle.definition.specs.Prelude.{ℕ, _+_, _*_, _-_, Bool, _&&_, _||_, not, List, [], getD, leb, eqb}
 use Rattle.definition.specs.Basics.{if_then_else_, within}
-use Rattle.definition.specs.Numbers.{char}
+use Rattle.definition.specs.Characters.{char}
 use Rattle.definition.specs.Image.{u32At, bytesAt, counts, tables, kinds}
 use Rattle.definition.specs.Text.{Item}
 

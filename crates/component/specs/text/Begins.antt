@@ -1,7 +1,7 @@
 -- An item that begins a literal, as it is read in code.
 use Rattle.definition.specs.Prelude.{ℕ, Bool, _&&_, _||_, not, eqb}
 use Rattle.definition.specs.Basics.{within}
-use Rattle.definition.specs.Numbers.{char}
+use Rattle.definition.specs.Characters.{char}
 use Rattle.definition.specs.Image.{opens}
 use Rattle.image.specs.declared.items.Item.{Item}
 

@@ -3,7 +3,7 @@ use mathlib.Core.Path.{_≡_}
 use Prim.Native.Nat.{_<_}
 use Rattle.definition.specs.Prelude.{ℕ, _+_, _-_, true, Option, none, some, List, [], _∷_, _++_, eqb}
 use Rattle.definition.specs.Basics.{if_then_else_}
-use Rattle.definition.specs.Numbers.{char}
+use Rattle.definition.specs.Characters.{char}
 use Rattle.definition.specs.Text as Text
 use Rattle.definition.specs.Component.{Prefix, splitColon}
 use Rattle.ranges.specs.Usb as Usb

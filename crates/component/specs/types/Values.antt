@@ -1,6 +1,5 @@
 -- A component in code as the definition's.
 use mathlib.Core.Path.{_≡_}
-use mathlib.Core.Logic.{_⊎_}
 use Prim.Native.Nat.{_≤_}
 use Rattle.definition.specs.Prelude.{ℕ, Bool, List, length, take, drop}
 use Rattle.definition.specs.Basics.{Result, ok, _>>=_}
@@ -45,11 +44,6 @@ pub refused-then : {A B : Type 0} (q : Refusal) (m : Result A) (f : A → Result
 refused-then q m f e = rw (← e)
 
 -- ---- places among bits
-
-pub record Least (a b r : ℕ) : Type 0 where
-  pub first : r ≤ a
-  pub second : r ≤ b
-  pub one : (r ≡ a) ⊎ (r ≡ b)
 
 -- the same bits of so many, the places in order and no further than the last
 pub record SameBits (width : ℕ) (b r : Bits) : Type 0 where

@@ -1,8 +1,9 @@
 // A component as a value: a literal is its bits from .. to, a text a part.
 use errors::Refusal;
+use numbers::least;
 use ranges::Part;
 use ranges::Usbr;
-ghost use Rattle.component.specs.types.Values.{Least, SameBits};
+ghost use Rattle.component.specs.types.Values.{SameBits};
 
 // The bits of a literal from one place to another.
 pub struct Bits {
@@ -25,12 +26,6 @@ pub struct Component {
 pub enum ComponentResult {
     Ok(Component),
     Refused(Refusal),
-}
-
-pub(crate) fn least(a: usize, b: usize) -> usize
-    ensures { λ r. ⌜ Least a b r ⌝ }
-{
-    if a < b { a } else { b }
 }
 
 // The same bits of a literal of so many, the places in order and no further than the last.

@@ -1,14 +1,13 @@
 -- One step of the running check, way by way.
-use mathlib.Core.Path.{_≡_, refl, ap}
+use mathlib.Core.Path.{_≡_}
 use borrow.Author.Tests.{eq-eqb, ne-eqb}
 use Rattle.definition.specs.Prelude.{ℕ, _+_, none, some, Bool, true, false, not, _&&_, eqb, ℤ, natAbs}
-use Rattle.definition.specs.Basics.{ok, refused, placed, if_then_else_}
+use Rattle.definition.specs.Basics.{ok, refused, withPlaces, if_then_else_}
 use Rattle.definition.specs.Refusals.{refuse, lone-filler-sink, second-filler, sum-overflow}
-use Rattle.definition.specs.Component.{Component, ComponentType, literal, variable, filler, hasEnd}
-use Rattle.definition.specs.Concatenation.{Running, addWidth, checkType, hasFullRange, isAlign, align-none, alignOf as placedAlign}
+use Rattle.definition.specs.Concatenation.{Running, isAlign, align-none, alignOf as placedAlign}
 use Rattle.numbers.specs.Value.{optionOf}
 use Rattle.concatenation.specs.declared.running_check.running.Shape.{Shape}
-use Rattle.concatenation.specs.running_check.Running.{HasShape, kindOf, stepOf, addAs, checkOpen, checkLiteral, withFull, checkAs}
+use Rattle.concatenation.specs.running_check.Running.{stepAs, addAs, checkOpen, checkLiteral, withFull, checkAs}
 use Rattle.concatenation.specs.width.Fitting.{fitting}
 use Rattle.concatenation.proofs.width.Widths.{fits-back, exceeds-back}
 
@@ -46,32 +45,11 @@ module _ (kind : ℕ) (ends full sink first last : Bool) (r : Running) where
   pub as-filler : (kind ≡ 1 → ⊥) → (kind ≡ 2 → ⊥) → checkAs kind ends full sink first last r ≡ (if ends then ok r else checkOpen sink first last r)
   as-filler h g = rw (ne-eqb kind 1 h, ne-eqb kind 2 g)
 
--- the definition over a component is the one over its shape
-by-type : (t : ComponentType) (ends full sink first last : Bool) (r : Running) →
-    elim t [
-      | literal b ↦ checkLiteral sink r
-      | variable p ↦ ok (withFull full r)
-      | filler ↦ elim ends [ true ↦ ok r | false ↦ checkOpen sink first last r ]
-    ] ≡ checkAs (kindOf t) ends full sink first last r
-by-type (literal b) ends full sink first last r = refl
-by-type (variable p) ends full sink first last r = refl
-by-type filler true full sink first last r = refl
-by-type filler false full sink first last r = refl
+-- the width, then the type
+module _ (i k : ℕ) (first last : Bool) (s : Shape) (r : Running) where
+  pub step-on : (r₁ : Running) → withPlaces i 0 (addAs (optionOf (s .width)) r) ≡ ok r₁
+      → stepAs i k first last s r ≡ withPlaces i k (checkAs (s .kind) (s .«has_end») (s .full) (not (eqb i 0)) first last r₁)
+  step-on r₁ e = rw e
 
-module _ (i k : ℕ) (first last : Bool) (c : Component) (s : Shape) (h : HasShape c s) (r : Running) where
-  check-is : checkType (not (eqb i 0)) first last c r ≡ checkAs (s .kind) (s .«has_end») (s .full) (not (eqb i 0)) first last r
-  check-is = rw (h .kind-is, h .end-is, h .full-is) (by-type (c .c-type) (hasEnd (c .range)) (hasFullRange c) (not (eqb i 0)) first last r)
-
-  add-is : addWidth c r ≡ addAs (optionOf (s .width)) r
-  add-is = rw (h .width-is)
-
-pub step-on :
-    (i k : ℕ) (first last : Bool) (c : Component) (s : Shape) → HasShape c s → (r r₁ : Running)
-    → placed i 0 (addAs (optionOf (s .width)) r) ≡ ok r₁
-    → stepOf i k first last c r ≡ placed i k (checkAs (s .kind) (s .«has_end») (s .full) (not (eqb i 0)) first last r₁)
-step-on i k first last c s h r r₁ e = rw (add-is i k first last c s h r, e) (ap (placed i k) (check-is i k first last c s h r₁))
-
-pub step-off :
-    (i k : ℕ) (first last : Bool) (c : Component) (s : Shape) → HasShape c s → (r : Running) (n a b : ℕ)
-    → placed i 0 (addAs (optionOf (s .width)) r) ≡ refused n a b → stepOf i k first last c r ≡ refused n a b
-step-off i k first last c s h r n a b e = rw (add-is i k first last c s h r, e)
+  pub step-off : (n a b : ℕ) → withPlaces i 0 (addAs (optionOf (s .width)) r) ≡ refused n a b → stepAs i k first last s r ≡ refused n a b
+  step-off n a b e = rw e

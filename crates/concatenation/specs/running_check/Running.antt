@@ -1,7 +1,7 @@
 -- What stage 3 asks of a component, the running check in code, and one step of it.
 use Rattle.definition.specs.Prelude.{ℕ, _+_, _^_, Bool, true, false, not, _&&_, _||_, Option, none, some, ltb, eqb, ℤ, natAbs}
 use mathlib.Core.Path.{_≡_}
-use Rattle.definition.specs.Basics.{Result, ok, refused, _>>=_, placed, if_then_else_}
+use Rattle.definition.specs.Basics.{Result, ok, refused, _>>=_, withPlaces, if_then_else_}
 use Rattle.definition.specs.Refusals.{need, literal-in-sink, lone-filler-sink, second-filler, zero-total-width, sum-overflow}
 use Rattle.definition.specs.Ranges.{staticWidth}
 use Rattle.definition.specs.Component.{Component, ComponentType, literal, variable, filler, hasEnd}
@@ -35,11 +35,11 @@ pub record HasShape (c : Component) (s : Shape) : Type 0 where
 
 -- component k of concatenation i, as checkFrom goes over it
 abbrev pub stepOf : ℕ → ℕ → Bool → Bool → Component → Running → Result Running
-stepOf i k first last c r = placed i 0 (addWidth c r) >>= λ r₁. placed i k (checkType (not (eqb i 0)) first last c r₁)
+stepOf i k first last c r = withPlaces i 0 (addWidth c r) >>= λ r₁. withPlaces i k (checkType (not (eqb i 0)) first last c r₁)
 
 -- 33, as check ends
 abbrev pub finishOf : ℕ → Running → Result Unit
-finishOf i r = placed i 0 (need (elim (r .width) [ none ↦ true | some w ↦ ltb 0 w ]) zero-total-width)
+finishOf i r = withPlaces i 0 (need (elim (r .width) [ none ↦ true | some w ↦ ltb 0 w ]) zero-total-width)
 
 -- the same over what a shape says
 -- addWidth
@@ -75,6 +75,11 @@ checkAs kind ends full sink first last r =
     else if eqb kind 2 then ok (withFull full r)
     else if ends then ok r else checkOpen sink first last r
 
+-- component k of concatenation i, by its shape
+abbrev pub stepAs : ℕ → ℕ → Bool → Bool → Shape → Running → Result Running
+stepAs i k first last s r =
+    withPlaces i 0 (addAs (optionOf (s .width)) r) >>= λ r₁. withPlaces i k (checkAs (s .kind) (s .«has_end») (s .full) (not (eqb i 0)) first last r₁)
+
 -- the running check after a step, as it was where the step refuses; and whether it refused
 abbrev pub keptOf : Running → Result Running → Running
 keptOf r (ok s) = s
@@ -83,7 +88,9 @@ keptOf r (refused n i k) = r
 abbrev pub verdictOf : Result Running → Result Unit
 verdictOf q = q >>= λ _. ok tt
 
--- a step from r: r′ stands afterwards, and v is the answer
-abbrev pub Advances : ℕ → ℕ → Bool → Bool → Shape → Running → Running → Result Unit → Type 0
-Advances i k first last s r r′ v =
-    (c : Component) → HasShape c s → (r′ ≡ keptOf r (stepOf i k first last c r)) × (v ≡ verdictOf (stepOf i k first last c r))
+abbrev pub settledOf : Running → Result Running → Running × Result Unit
+settledOf r q = (keptOf r q, verdictOf q)
+
+-- the running check after a step from r, and the step's answer
+abbrev pub advancedAs : ℕ → ℕ → Bool → Bool → Shape → Running → Running × Result Unit
+advancedAs i k first last s r = settledOf r (stepAs i k first last s r)

@@ -4,12 +4,13 @@ use crate::running_check::running::Running;
 use crate::running_check::running::Shape;
 use crate::running_check::running::advance_value;
 use errors::Checked;
+ghost use mathlib.Core.Path.{_≡_};
 ghost use Rattle.errors.specs.Refused.{resultOf};
-ghost use Rattle.concatenation.specs.running_check.Running.{runningOf, Advances};
+ghost use Rattle.concatenation.specs.running_check.Running.{runningOf, advancedAs};
 
 // The struct is lent, and altered by one component.
 fn advance(r: &mut Running, i: u32, k: u32, first: bool, last: bool, shape: Shape) -> Checked
-    ensures { λ q. ⌜ Advances i k first last shape (runningOf (now (r .entry))) (runningOf (now (r .exit))) (resultOf q) ⌝ }
+    ensures { λ q. ⌜ (runningOf (now (r .exit)), resultOf q) ≡ advancedAs i k first last shape (runningOf (now (r .entry))) ⌝ }
 {
     let a = advance_value(*r, i, k, first, last, shape);
     *r = a.running;
@@ -18,7 +19,7 @@ fn advance(r: &mut Running, i: u32, k: u32, first: bool, last: bool, shape: Shap
 
 // Plain parameters above the lent form: a local is lent once.
 pub fn lent_once(r: Running, i: u32, k: u32, first: bool, last: bool, shape: Shape) -> Advanced
-    ensures { λ a. ⌜ Advances i k first last shape (runningOf r) (runningOf (a .running)) (resultOf (a .checked)) ⌝ }
+    ensures { λ a. ⌜ (runningOf (a .running), resultOf (a .checked)) ≡ advancedAs i k first last shape (runningOf r) ⌝ }
 {
     let mut x = r;
     let checked = advance(&mut x, i, k, first, last, shape);

@@ -1,10 +1,10 @@
 // The running check of a concatenation (Concatenation::check), by value.
 use crate::alignment::FillerAlign;
-use crate::alignment::both;
 use crate::alignment::filler_align;
 use crate::alignment::is_align;
 use errors::Checked;
 use errors::Refusal;
+use errors::flags::both;
 use numbers::I128;
 use numbers::OptionI128;
 use numbers::OptionUsize;
@@ -12,11 +12,11 @@ ghost use mathlib.Core.Path.{_≡_};
 ghost use mathlib.Core.Bool.{not};
 ghost use mathlib.Core.Option.{some};
 ghost use lib.Dec.{eqb};
-ghost use Rattle.definition.specs.Basics.{placed, refused as refusedDef};
-ghost use Rattle.definition.specs.Component.{Component};
+ghost use Rattle.definition.specs.Basics.{withPlaces, refused as refusedDef};
 ghost use Rattle.errors.specs.Refused.{resultOf};
 ghost use Rattle.numbers.specs.Value.{valueOf, optionOf};
-ghost use Rattle.concatenation.specs.running_check.Running.{runningOf, steppedOf, HasShape, stepOf, finishOf, addAs, checkLiteral, withFull, checkOpen, checkAs, keptOf, verdictOf, Advances};
+ghost use Rattle.concatenation.specs.running_check.Running.{runningOf, steppedOf, finishOf, settledOf, advancedAs};
+ghost use Rattle.concatenation.specs.running_check.Running.{addAs, checkLiteral, withFull, checkOpen, checkAs, stepAs};
 
 // What stage 3 asks of a component: its kind (1 literal, 2 variable, 3 filler), static_width, and two tests.
 pub struct Shape {
@@ -51,7 +51,7 @@ fn refused(number: u32, i: u32, k: u32) -> Stepped
 
 // A component of known width: 34 has the places i and 0.
 fn add_known(i: u32, x: I128, r: Running) -> Stepped
-    ensures { λ q. ⌜ steppedOf q ≡ placed i 0 (addAs (some (valueOf x)) (runningOf r)) ⌝ }
+    ensures { λ q. ⌜ steppedOf q ≡ withPlaces i 0 (addAs (some (valueOf x)) (runningOf r)) ⌝ }
 {
     let align = r.align;
     let so_far = r.width;
@@ -75,7 +75,7 @@ fn add_known(i: u32, x: I128, r: Running) -> Stepped
 }
 
 fn add_width(i: u32, width: OptionI128, r: Running) -> Stepped
-    ensures { λ q. ⌜ steppedOf q ≡ placed i 0 (addAs (optionOf width) (runningOf r)) ⌝ }
+    ensures { λ q. ⌜ steppedOf q ≡ withPlaces i 0 (addAs (optionOf width) (runningOf r)) ⌝ }
 {
     let align = r.align;
     match width {
@@ -91,7 +91,7 @@ fn add_width(i: u32, width: OptionI128, r: Running) -> Stepped
 
 // An unbounded filler: 31, then 32.
 fn check_open(i: u32, k: u32, first: bool, last: bool, r: Running) -> Stepped
-    ensures { λ q. ⌜ steppedOf q ≡ placed i k (checkOpen (not (eqb i 0)) first last (runningOf r)) ⌝ }
+    ensures { λ q. ⌜ steppedOf q ≡ withPlaces i k (checkOpen (not (eqb i 0)) first last (runningOf r)) ⌝ }
 {
     let align = r.align;
     let width = r.width;
@@ -111,7 +111,7 @@ fn check_open(i: u32, k: u32, first: bool, last: bool, r: Running) -> Stepped
 }
 
 fn check_literal(i: u32, k: u32, r: Running) -> Stepped
-    ensures { λ q. ⌜ steppedOf q ≡ placed i k (checkLiteral (not (eqb i 0)) (runningOf r)) ⌝ }
+    ensures { λ q. ⌜ steppedOf q ≡ withPlaces i k (checkLiteral (not (eqb i 0)) (runningOf r)) ⌝ }
 {
     if i != 0 {
         return refused(30, i, k);
@@ -133,7 +133,7 @@ fn check_variable(full: bool, r: Running) -> Running
 }
 
 fn check_type(i: u32, k: u32, first: bool, last: bool, shape: Shape, r: Running) -> Stepped
-    ensures { λ q. ⌜ steppedOf q ≡ placed i k (checkAs (shape .kind) (shape .«has_end») (shape .full) (not (eqb i 0)) first last (runningOf r)) ⌝ }
+    ensures { λ q. ⌜ steppedOf q ≡ withPlaces i k (checkAs (shape .kind) (shape .«has_end») (shape .full) (not (eqb i 0)) first last (runningOf r)) ⌝ }
 {
     if shape.kind == 1 {
         return check_literal(i, k, r);
@@ -149,7 +149,7 @@ fn check_type(i: u32, k: u32, first: bool, last: bool, shape: Shape, r: Running)
 
 // One component: 34, 30, 31, 32. A kind that no component has counts as a filler.
 fn step(i: u32, k: u32, first: bool, last: bool, shape: Shape, r: Running) -> Stepped
-    ensures { λ q. ⌜ ((c : Component) → HasShape c shape → steppedOf q ≡ stepOf i k first last c (runningOf r)) ⌝ }
+    ensures { λ q. ⌜ steppedOf q ≡ stepAs i k first last shape (runningOf r) ⌝ }
 {
     let width = shape.width;
     match add_width(i, width, r) {
@@ -183,7 +183,7 @@ pub struct Advanced {
 }
 
 fn settle(r: Running, q: Stepped) -> Advanced
-    ensures { λ a. ⌜ (runningOf (a .running) ≡ keptOf (runningOf r) (steppedOf q)) × (resultOf (a .checked) ≡ verdictOf (steppedOf q)) ⌝ }
+    ensures { λ a. ⌜ (runningOf (a .running), resultOf (a .checked)) ≡ settledOf (runningOf r) (steppedOf q) ⌝ }
 {
     match q {
         Stepped::Ok(s) => Advanced {
@@ -206,7 +206,7 @@ pub(crate) fn advance_value(
     last: bool,
     shape: Shape,
 ) -> Advanced
-    ensures { λ a. ⌜ Advances i k first last shape (runningOf r) (runningOf (a .running)) (resultOf (a .checked)) ⌝ }
+    ensures { λ a. ⌜ (runningOf (a .running), resultOf (a .checked)) ≡ advancedAs i k first last shape (runningOf r) ⌝ }
 {
     settle(r, step(i, k, first, last, shape, r))
 }

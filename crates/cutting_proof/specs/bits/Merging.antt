@@ -5,7 +5,7 @@ use Rattle.definition.specs.Prelude.{ℕ, true, false, _&&_, List, [], _∷_, _
 use Rattle.definition.specs.Basics.{isEmpty, joined}
 use Rattle.definition.specs.Image.{Placed}
 use Rattle.definition.specs.Component.{Component}
-use Rattle.definition.specs.Concatenation.{isStaticLiteral, bitsOf, fixedLiteral, mergeOnto, merge}
+use Rattle.definition.specs.Concatenation.{isStaticLiteral, bitsOf, wholeLiteral, mergeOnto, merge}
 use Rattle.cutting.specs.Statement.{runEnd}
 use Rattle.laws.specs.Tests.{by-test, and-iff}
 use Rattle.laws.specs.Lists.{all-append}
@@ -15,7 +15,7 @@ use Rattle.cutting_proof.specs.bits.Runs.{Static}
 
 -- two literals with static ranges made one
 abbrev both : Placed Component → Placed Component → Placed Component
-both c d = record { base = c .base; value = fixedLiteral (bitsOf (c .value) ++ bitsOf (d .value)) }
+both c d = record { base = c .base; value = wholeLiteral (bitsOf (c .value) ++ bitsOf (d .value)) }
 
 -- ---- below the run
 

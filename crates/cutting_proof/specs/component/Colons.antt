@@ -4,7 +4,7 @@ use mathlib.Core.Bool.{true≢false, false≢true}
 use mathlib.Core.List.{append-nil}
 use Rattle.definition.specs.Prelude.{ℕ, _+_, Bool, true, false, Option, none, some, List, [], _∷_, length}
 use Rattle.definition.specs.Basics.{if_then_else_}
-use Rattle.definition.specs.Numbers.{char}
+use Rattle.definition.specs.Characters.{char}
 use Rattle.definition.specs.Image.{opens}
 use Rattle.definition.specs.Tree.{Forest, end, word, group, textOf}
 use Rattle.definition.specs.Text.{Item, itemOf, itemsOf, isToken}

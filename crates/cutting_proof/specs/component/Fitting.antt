@@ -2,11 +2,12 @@
 use mathlib.Core.Path.{_≡_, refl}
 use Rattle.definition.specs.Prelude.{ℕ, Bool, true, false, _&&_, Option, none, some, List, [], _∷_, length, getD, take, drop, ltb, eqb, ℤ, pos, negℤ, _+ℤ_, _-ℤ_}
 use Rattle.definition.specs.Basics.{Result, ok, refused, _>>=_, if_then_else_, isEmpty}
-use Rattle.definition.specs.Numbers.{half128, fits128, narrow, char, digits, signedAs, inner, radixOf, unsignedParse, tryParse}
+use Rattle.definition.specs.Characters.{char}
+use Rattle.definition.specs.Numbers.{half128, fits128, narrow, digits, signedAs, inner, radixOf, unsignedParse, tryParse}
 use Rattle.definition.specs.Refusals.{Reason, need, refuse, not-one-token, bound-overflow, overflow}
 use Rattle.definition.specs.Image.{kinds}
 use Rattle.definition.specs.Text.{Part, noText, Item, items, isGroup, isToken, partOf}
-use Rattle.definition.specs.Ranges.{Usb, Usbr, text, withX, Cut, cutBound, numberIn, side, joinSides, readBound, parseUsb, scan, parseStart, parseEnd, parseRange}
+use Rattle.definition.specs.Ranges.{Usb, Usbr, text, withX, Cut, cutBound, numberIn, side, joinSides, readBound, parseUsb, scanDots, parseStart, parseEnd, parseRange}
 use Rattle.definition.specs.Component.{simplifyUsb}
 
 -- ── Numbers ──
@@ -136,7 +137,7 @@ through Q (refused n i j) k q h = tt
 pub range-fit : (is : List Item) → FitRange (parseRange is)
 unfolding parseRange
 range-fit [] = tt
-range-fit (i ∷ is) = through (λ _. Unit) (scan (i ∷ is)) _ tt (λ st _. go (st .inclusive) (st .found))
+range-fit (i ∷ is) = through (λ _. Unit) (scanDots (i ∷ is)) _ tt (λ st _. go (st .inclusive) (st .found))
   where
     ends : Bool → ℕ × ℕ → Usb → Result (Option Usbr)
     ends inclusive f s = parseEnd inclusive (drop (f .1) (i ∷ is)) >>= λ e. ok (some (record { start = s; «end» = e }))

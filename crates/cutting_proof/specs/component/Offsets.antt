@@ -2,11 +2,12 @@
 use mathlib.Core.Path.{_≡_, refl, sym, ap, ap₂, _∙_, fun-ext}
 use Rattle.definition.specs.Prelude.{ℕ, zero, suc, Bool, true, false, _&&_, Option, none, some, List, [], _∷_, _++_, map, take, drop, eqb, ℤ, pos, _+ℤ_, _-ℤ_}
 use Rattle.definition.specs.Basics.{Result, ok, refused, _>>=_, if_then_else_}
-use Rattle.definition.specs.Numbers.{narrow, char}
+use Rattle.definition.specs.Characters.{char}
+use Rattle.definition.specs.Numbers.{narrow}
 use Rattle.definition.specs.Refusals.{Reason, need, refuse, not-one-token, bound-overflow}
 use Rattle.definition.specs.Image.{Rec, kinds}
 use Rattle.definition.specs.Text.{Part, noText, Item, chunks, itemOf, itemsOf, items, isGroup, isToken, bytesOf, partOf}
-use Rattle.definition.specs.Ranges.{Usb, Usbr, val, text, withX, Cut, behind, cutLast, beginsWith, cutPair, orElse, cutBound, numberIn, joinSides, readBound, parseUsb, Scan, scanStep, scanFrom, scan, parseStart, parseEnd, parseRange, singleBit}
+use Rattle.definition.specs.Ranges.{Usb, Usbr, val, text, withX, Cut, behind, cutLast, beginsWith, cutPair, orElse, cutBound, numberIn, joinSides, readBound, parseUsb, Scan, scanStep, scanFrom, scanDots, parseStart, parseEnd, parseRange, singleBit}
 
 -- ── Offsets taken from each thing ──
 
@@ -258,7 +259,7 @@ unfolding parseRange
 parse-alike [] = refl
 parse-alike (i ∷ is) =
     let js = i ∷ is in
-    bind-alike {A = Scan} (λ st. st) bareOption (scan (bareItems js)) (scan js) (rangeAfter (bareItems js)) (rangeAfter js)
+    bind-alike {A = Scan} (λ st. st) bareOption (scanDots (bareItems js)) (scanDots js) (rangeAfter (bareItems js)) (rangeAfter js)
     (ap (inResult (λ st. st)) (bare-scan 0 js (record { dots = 0; found = none; inclusive = false })))
     (λ st st′ q. ap (λ st. inResult bareOption (rangeAfter (bareItems js) st)) q ∙ after-alike js st′)
 

@@ -3,7 +3,7 @@ use mathlib.Core.Path.{_≡_, refl, sym, ap, _∙_, subst}
 use mathlib.Core.Option.{Option·none-ne-some}
 use Prim.Native.Nat.{_≤_, _<_}
 use Rattle.definition.specs.Prelude.{ℕ, Bool, true, false, not, Option, none, some, List, [], _∷_, length}
-use Rattle.definition.specs.Basics.{Result, ok, refused, _>>=_, placed, isEmpty}
+use Rattle.definition.specs.Basics.{Result, ok, refused, _>>=_, withPlaces, isEmpty}
 use Rattle.definition.specs.Refusals.{need, empty-after-colon}
 use Rattle.definition.specs.Image.{Rec, Unparsed, Placed}
 use Rattle.definition.specs.Tree.{Forest, end, Node, flat}
@@ -165,7 +165,7 @@ value-of k u v e = ap value e
     value mid =
         elim (splitColon mid) [
           | none ↦ ok none
-          | some p ↦ placed 0 k (need (not (isEmpty (p .after))) empty-after-colon) >>= λ _. ok (some (record { base = 0; value = partOf (p .before) }))
+          | some p ↦ withPlaces 0 k (need (not (isEmpty (p .after))) empty-after-colon) >>= λ _. ok (some (record { base = 0; value = partOf (p .before) }))
         ]
 
 pub prefix-kept : PrefixKept

@@ -6,7 +6,7 @@ use Rattle.definition.specs.Basics.{ok}
 use Rattle.definition.specs.Refusals.{zero-total-width}
 use Rattle.definition.specs.Image.{Placed}
 use Rattle.definition.specs.Component.{Component}
-use Rattle.definition.specs.Concatenation.{Running, running, checkFrom, Concatenation, check, stage3, merged, isUnboundedFiller}
+use Rattle.definition.specs.Concatenation.{Running, unchecked, checkFrom, Concatenation, check, stage3, merged, isUnboundedFiller}
 use Rattle.definition.specs.Overall.{isFiller}
 use Rattle.cutting_proof.specs.stages.Cuts.{Cuts, some-is, cuts-some, cuts-merge}
 use Rattle.cutting_proof.specs.stages.Running.{cuts-check}
@@ -45,8 +45,8 @@ check-alike {bits} small {cs} {ds} t i c h =
           same-unbounded = cuts-some isUnboundedFiller (λ b r. refl) t;
         }
 
-    go : (r : Running) → checkFrom i 0 true cs running ≡ ok r → positive r ≡ true → ok (made cs r) ≡ ok c → (d : Concatenation) × (check i ds ≡ ok d) × Alike c d
-    go r q p e = (made ds r, rw (cuts-check small t i 0 0 true running r q, p), (let q : made cs r ≡ c = cc in rw (← q) (alike r)))
+    go : (r : Running) → checkFrom i 0 true cs unchecked ≡ ok r → positive r ≡ true → ok (made cs r) ≡ ok c → (d : Concatenation) × (check i ds ≡ ok d) × Alike c d
+    go r q p e = (made ds r, rw (cuts-check small t i 0 0 true unchecked r q, p), (let q : made cs r ≡ c = cc in rw (← q) (alike r)))
 
 pub stage3-alike : {bits : List ℕ} → length bits ≤ 4096 → {t t′ : List (List (Placed Component))} → Pairwise (Cuts bits) t t′ → (i : ℕ) (cs : List Concatenation) → stage3 i t ≡ ok cs
     → (ds : List Concatenation) × (stage3 i t′ ≡ ok ds) × Pairwise Alike cs ds

@@ -7,7 +7,7 @@ use Rattle.definition.specs.Image.{Placed}
 use Rattle.definition.specs.Text.{Part}
 use Rattle.definition.specs.Component.{Component}
 use Rattle.definition.specs.Concatenation.{Concatenation, stage3, merged}
-use Rattle.definition.specs.Overall.{Overall, overall, stage4}
+use Rattle.definition.specs.Overall.{Overall, overallStart, stage4}
 use Rattle.definition.specs.Answer.{Answer}
 use Rattle.answer_facts.specs.stages.Statement.{later}
 use Rattle.cutting_proof.specs.stages.Statement.{CutLater}

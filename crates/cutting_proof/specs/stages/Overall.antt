@@ -1,12 +1,12 @@
 -- Stage 4 of such concatenations: it accepts them with the same result.
 use mathlib.Core.Path.{_≡_, refl, sym, ap, ap₂, _∙_, subst}
 use Rattle.definition.specs.Prelude.{ℕ, suc, Bool, true, false, _&&_, _||_, not, Option, none, some, List, [], _∷_, map, length, leb, eqb}
-use Rattle.definition.specs.Basics.{Result, ok, placed, if_then_else_}
+use Rattle.definition.specs.Basics.{Result, ok, withPlaces, if_then_else_}
 use Rattle.definition.specs.Refusals.{need, refuse, filler-without-start, no-common-width, only-source, middle-filler, opposite-fillers}
 use Rattle.definition.specs.Image.{Placed}
 use Rattle.definition.specs.Component.{Component}
 use Rattle.definition.specs.Concatenation.{FillerAlign, Concatenation, merged, isAlign, align-mid, align-multiple, isUnboundedFiller}
-use Rattle.definition.specs.Overall.{Overall, placeFrom, isFiller, joinWidth, checkSource, overallFrom, overall, middleFrom, isSided, oppositeFrom, stage4}
+use Rattle.definition.specs.Overall.{Overall, placeFrom, isFiller, joinWidth, checkSource, overallFrom, overallStart, middleFrom, isSided, oppositeFrom, stage4}
 use Rattle.cutting_proof.specs.stages.Cuts.{some-is}
 use Rattle.cutting_proof.specs.stages.Keeping.{Keeps, bind-keeps, placed-keeps}
 use Rattle.cutting_proof.specs.stages.Checked.{Alike, Pairwise, done, pair}
@@ -27,7 +27,7 @@ found-place t n (c ∷ l) = go (t (c .value)) (found-place t (suc n) l)
 
 -- a refusal at the first component that passes a test
 abbrev refusedAt : (Component → Bool) → List (Placed Component) → ℕ → Result Unit → Result Unit → Result Unit
-refusedAt t l i m n = elim (placeFrom (λ (c : Placed Component). t (c .value)) 0 l) [ none ↦ m | some k ↦ placed i k n ]
+refusedAt t l i m n = elim (placeFrom (λ (c : Placed Component). t (c .value)) 0 l) [ none ↦ m | some k ↦ withPlaces i k n ]
 
 refused-keeps : (t : Component → Bool) (l l′ : List (Placed Component)) (i : ℕ) (m m′ n : Result Unit) → some-is t l ≡ some-is t l′ → Keeps m m′
     → Keeps (refusedAt t l i m n) (refusedAt t l′ i m′ n)
@@ -36,7 +36,7 @@ refused-keeps t l l′ i m m′ n e h = go (place l) (place l′) (found-place t
     place : List (Placed Component) → Option ℕ
     place x = placeFrom (λ (c : Placed Component). t (c .value)) 0 x
 
-    go : (x y : Option ℕ) → found x ≡ found y → Keeps {A = Unit} (elim x [ none ↦ m | some k ↦ placed i k n ]) (elim y [ none ↦ m′ | some k ↦ placed i k n ])
+    go : (x y : Option ℕ) → found x ≡ found y → Keeps {A = Unit} (elim x [ none ↦ m | some k ↦ withPlaces i k n ]) (elim y [ none ↦ m′ | some k ↦ withPlaces i k n ])
     go none none p a q = h a q
     go none (some k) p a q = cc
     go (some k) none p a q = cc
@@ -59,9 +59,9 @@ overall-keeps bare (pair {a = c} {b = d} h hs) i o a q =
     bind-keeps (joinWidth i c o) (joinWidth i d o) _ _ (λ o′ e. sym (join-alike i c d o h) ∙ e)
     (λ o′. bind-keeps (checkSource bare i c) (checkSource bare i d) _ _ (source-keeps bare i c d h) (λ u a q. overall-keeps bare hs (suc i) o′ a q)) a q
 
-same-overall : {cs ds : List Concatenation} → Pairwise Alike cs ds → overall cs ≡ overall ds
+same-overall : {cs ds : List Concatenation} → Pairwise Alike cs ds → overallStart cs ≡ overallStart ds
 same-overall done = refl
-same-overall (pair h hs) = ap (λ c. overall (c ∷ [])) (h .same-merged)
+same-overall (pair h hs) = ap (λ c. overallStart (c ∷ [])) (h .same-merged)
 
 -- a concatenation in front of what the later ones say
 abbrev middleAt : ℕ → Concatenation → Result Unit → Result Unit
@@ -97,13 +97,13 @@ opposite-merged : (i : ℕ) (cs : List Concatenation) → oppositeFrom i (map me
 unfolding oppositeFrom
 opposite-merged i [] = refl
 opposite-merged i (c ∷ cs) =
-    ap₂ (λ (o : Option ℕ) (later : Result Unit). elim o as (λ _. Result Unit) [ none ↦ later | some j ↦ placed i j (refuse opposite-fillers) ])
+    ap₂ (λ (o : Option ℕ) (later : Result Unit). elim o as (λ _. Result Unit) [ none ↦ later | some j ↦ withPlaces i j (refuse opposite-fillers) ])
     (aligned-place (λ a. isSided (c .align) && isSided a && not (isAlign (c .align) a)) (suc i) cs) (opposite-merged (suc i) cs)
 
 pub stage4-keeps : (mode : ℕ) (given : Bool) {cs ds : List Concatenation} → Pairwise Alike cs ds → Keeps (stage4 mode given cs) (stage4 mode given ds)
 unfolding stage4
 stage4-keeps mode given {cs} {ds} h =
-    bind-keeps (overallFrom unstarted 0 cs (overall cs)) (overallFrom unstarted 0 ds (overall ds)) _ _ (λ o q. rw (← same-overall h) (overall-keeps unstarted h 0 (overall cs) o q)) λ o.
+    bind-keeps (overallFrom unstarted 0 cs (overallStart cs)) (overallFrom unstarted 0 ds (overallStart ds)) _ _ (λ o q. rw (← same-overall h) (overall-keeps unstarted h 0 (overallStart cs) o q)) λ o.
     bind-keeps (common o) (common o) _ _ (λ u q. q) λ _.
     bind-keeps (several o cs) (several o ds) _ _ (λ u q. rw (← same-length h) q) λ _.
     bind-keeps (middles o cs) (middles o ds) _ _ (if-keeps (o .deterministic) _ _ _ _ (λ u q. q) (middle-keeps h 0)) λ _.

@@ -5,7 +5,7 @@ use native.Mathlib.Nat.{add-zero, add-assoc, le-trans}
 use native.Mathlib.Omega.{arith}
 use borrow.Author.Tests.{ltb-true, lt-ltb}
 use Rattle.definition.specs.Prelude.{ℕ, suc, _+_, _-_, _^_, Bool, true, false, not, Option, none, some, List, _∷_, length, ltb, eqb, pos}
-use Rattle.definition.specs.Basics.{Result, ok, _>>=_, placed, isEmpty, sameBytes}
+use Rattle.definition.specs.Basics.{Result, ok, _>>=_, withPlaces, isEmpty, sameBytes}
 use Rattle.definition.specs.Numbers.{half128}
 use Rattle.definition.specs.Refusals.{need, sum-overflow, literal-in-sink}
 use Rattle.definition.specs.Image.{Placed}
@@ -59,7 +59,7 @@ same-front : (i k k′ : ℕ) (first : Bool) (c : Placed Component) (cs ds : Lis
     → (r : Running) → Keeps (checkFrom i k first (c ∷ cs) r) (checkFrom i k′ first (c ∷ ds) r)
 unfolding checkFrom
 same-front i k k′ first c cs ds e h r =
-    bind-keeps (placed i 0 (addWidth (c .value) r)) (placed i 0 (addWidth (c .value) r)) _ _ (λ a q. q)
+    bind-keeps (withPlaces i 0 (addWidth (c .value) r)) (withPlaces i 0 (addWidth (c .value) r)) _ _ (λ a q. q)
     λ r₁. bind-keeps _ _ _ _ (placed-keeps i k i k′ _ _ (λ a q. sym (ap (λ (s : Bool). checkType (not (eqb i 0)) first s (c .value) r₁) e) ∙ q)) h
 
 -- what the check of a literal in front says of its lowest piece, and of what is left of the literal

@@ -2,7 +2,7 @@
 use mathlib.Core.Path.{_≡_, refl, _∙_}
 use mathlib.Core.List.{append-nil, append-assoc}
 use Rattle.definition.specs.Prelude.{ℕ, suc, true, not, Option, none, some, List, [], _∷_, _++_}
-use Rattle.definition.specs.Basics.{Result, ok, _>>=_, placed, isEmpty}
+use Rattle.definition.specs.Basics.{Result, ok, _>>=_, withPlaces, isEmpty}
 use Rattle.definition.specs.Refusals.{need, empty-after-colon}
 use Rattle.definition.specs.Image.{Unparsed, Placed}
 use Rattle.definition.specs.Text.{Part, partOf}
@@ -21,10 +21,10 @@ anywhere k k′ (u ∷ []) = go (prefixOf (u .value))
     value p = ok (some (record { base = u .base; value = partOf (p .before) }))
 
     go : (x : Option Prefix)
-        → Keeps {A = Option (Placed Part)} (elim x [ none ↦ ok none | some p ↦ (placed 0 k (after p) >>= λ _. value p) ])
-        (elim x [ none ↦ ok none | some p ↦ (placed 0 k′ (after p) >>= λ _. value p) ])
+        → Keeps {A = Option (Placed Part)} (elim x [ none ↦ ok none | some p ↦ (withPlaces 0 k (after p) >>= λ _. value p) ])
+        (elim x [ none ↦ ok none | some p ↦ (withPlaces 0 k′ (after p) >>= λ _. value p) ])
     go none = λ a q. q
-    go (some p) = bind-keeps (placed 0 k (after p)) (placed 0 k′ (after p)) (λ _. value p) (λ _. value p) (placed-keeps 0 k 0 k′ (after p) (after p) (λ a q. q)) (λ u a q. q)
+    go (some p) = bind-keeps (withPlaces 0 k (after p)) (withPlaces 0 k′ (after p)) (λ _. value p) (λ _. value p) (placed-keeps 0 k 0 k′ (after p) (after p) (λ a q. q)) (λ u a q. q)
 anywhere k k′ (u ∷ v ∷ l) = anywhere (suc k) (suc k′) (v ∷ l)
 
 -- lower components do not matter

@@ -1,8 +1,8 @@
 // 5: concatenation and component entries, their sums, and the literals' spare bits.
-use crate::check::four_at;
-use crate::record_rules::both;
 use crate::token_tree::Counts;
 use crate::token_tree::Tables;
+use crate::words::four_at;
+use errors::flags::both;
 ghost use mathlib.Core.Path.{_≡_};
 ghost use Prim.Native.Nat.{_+_, _*_, _^_, _≤_};
 ghost use lib.ListN.{length};
@@ -51,7 +51,7 @@ fn widths_right(image: &[u8], components: usize, literals: usize, n: u32, total:
     while k < n {
         let w = four_at(image, components + 8 * (k as usize) + 4);
         let spare = spare_right(image, literals + l, w);
-        right = both(right, both(w <= 4096, spare));
+        right = both(right, both(w <= limits::WIDTH, spare));
         l += ((w as usize) + 7) / 8;
         k += 1;
     }

@@ -1,9 +1,9 @@
 // 6 and 7: records one by one, a group by what stands inside it. The four numbers of Places are plain parameters below, `all` the
 // count, and so stay in registers.
-use crate::check::four_at;
 use crate::record_rules::Numbers;
 use crate::token_tree::Counts;
 use crate::token_tree::Tables;
+use crate::words::four_at;
 use errors::Checked;
 ghost use mathlib.Core.Path.{_≡_};
 ghost use Prim.Native.Nat.{ℕ, _+_, _*_, _^_, _≤_, _<_};
@@ -88,7 +88,7 @@ fn check_in(
             if !crate::record_rules::opener_right(t, e, byte_of(image, text, e), closer) {
                 return 6;
             }
-            if 32 <= depth {
+            if limits::DEPTH <= depth {
                 return 7;
             }
             let inside = check_in(image, records, text, all, t, k + 1, e.skip - 2, depth + 1);

@@ -4,7 +4,7 @@ use Prim.Native.Nat.{_≤_, _<_}
 use native.Mathlib.Numerals.{add-one}
 use native.Mathlib.Omega.{arith}
 use Rattle.definition.specs.Prelude.{ℕ, zero, suc, _+_, _-_, Bool, true, false, _&&_, not, List, eqb}
-use Rattle.definition.specs.Basics.{Result, ok, _>>=_, placed, if_then_else_}
+use Rattle.definition.specs.Basics.{Result, ok, _>>=_, withPlaces, if_then_else_}
 use Rattle.definition.specs.Image.{Unparsed, counts, componentCount}
 use Rattle.errors.specs.Refused.{resultOf, refusedAs}
 use Rattle.errors.specs.declared.Checked.{Checked}
@@ -47,8 +47,8 @@ is-passed s h rest = rw h
 pub is-refused : (s : Checked) (q : Refusal) → s ≡ C.Refused q → (rest : Result Unit) → andThen (resultOf s) rest ≡ resultOf s
 is-refused s q h rest = rw h
 
-pub is-located : (s : Checked) (q r : Refusal) (i j : ℕ) → s ≡ C.Refused q → refusedAs {A = Unit} r ≡ placed i j (refusedAs q)
-    → refusedAs {A = Unit} r ≡ placed i j (resultOf s)
+pub is-located : (s : Checked) (q r : Refusal) (i j : ℕ) → s ≡ C.Refused q → refusedAs {A = Unit} r ≡ withPlaces i j (refusedAs q)
+    → refusedAs {A = Unit} r ≡ withPlaces i j (resultOf s)
 is-located s q r i j h e = rw h e
 
 module _ (image : List ℕ) where
@@ -116,10 +116,10 @@ module _ (image : List ℕ) (second : Bool) where
       at-refused q o = at-is scanned c p (refusedAs q) e (sym (ap (resultIn image (p .place)) o) ∙ h)
 
   pub of-is : (i j m : ℕ) (c : Cursor) (last : Bool) (s r : Checked) → last ≡ (eqb i 0 && eqb m 0) → resultOf s ≡ passed (stageAt image second last c)
-      → resultOf r ≡ placed i j (resultOf s) → resultOf r ≡ passed (stageOf image second i j m c)
+      → resultOf r ≡ withPlaces i j (resultOf s) → resultOf r ≡ passed (stageOf image second i j m c)
   unfolding stageOf
   of-is i j m c last s r l e h =
-      h ∙ ap (placed i j) (e ∙ ap (λ x. passed (stageAt image second x c)) l) ∙ passed-placed i j (stageAt image second (eqb i 0 && eqb m 0) c)
+      h ∙ ap (withPlaces i j) (e ∙ ap (λ x. passed (stageAt image second x c)) l) ∙ passed-placed i j (stageAt image second (eqb i 0 && eqb m 0) c)
 
   all-is : (h : Counts) (s : Checked) → countsOf h ≡ counts image → resultOf s ≡ comesFrom 0 firstIn (h .n) (h .c) → resultOf s ≡ passed (stageAll image second)
   unfolding stageAll

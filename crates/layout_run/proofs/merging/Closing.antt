@@ -12,7 +12,7 @@ use Rattle.definition.specs.Image.{Placed, padded, bytesFor}
 use Rattle.definition.specs.Tree.{u32, packed}
 use Rattle.definition.specs.Ranges.{val}
 use Rattle.definition.specs.Component.{Component, literal}
-use Rattle.definition.specs.Concatenation.{bitsOf, fixedLiteral}
+use Rattle.definition.specs.Concatenation.{bitsOf, wholeLiteral}
 use Rattle.definition.specs.Answer.{componentBytes, usbBytes}
 use Rattle.laws.specs.Tests.{by-test}
 use Rattle.laws.specs.Lists.{length-tab}
@@ -27,8 +27,8 @@ use Rattle.answer.specs.literal_bits.Put.{bitOf, bitsFrom}
 use Rattle.answer.specs.literal_bits.Packing.{bits-append}
 use Rattle.answer.specs.declared.Kind.{Kind}
 use Rattle.answer.specs.declared.Kind.the-variants as K
-use Rattle.answer.specs.Kinds.{HasKind}
-use Rattle.answer.proofs.Blocks.{u32-mod}
+use Rattle.answer.specs.Blocks.{componentBlock}
+use Rattle.answer.specs.Laws.{u32-mod, component-is}
 use Rattle.layout_run.specs.declared.merging.Writing.{Writing}
 use Rattle.layout_run.specs.declared.merging.merging.Merging.{Merging}
 use Rattle.answer_facts.specs.merge.Runs.{runBits, literalOf, longer}
@@ -126,16 +126,15 @@ block-put entry after m w next bytes offset long put next-is bytes-is offset-is 
     (put (omega arith) (omega arith) ∙ ap (λ (x : List ℕ). sets x (w .at) (componentBytes (w .offset) m)) e, cc (a, b))
 
 pub finished : (entry after : List ℕ) (base : ℕ) (kind : Kind) (range : Usbr) (count : ℕ) (w : Writing) (next bytes offset : ℕ) → length entry < 2 ^ 64
-    → ((image : List ℕ) (text : ℕ) (c : Component) → HasKind image text kind (c .c-type) → c .range ≡ usbrOf image text range
-    → after ≡ sets entry (w .at) (componentBytes (w .offset % 2 ^ 32) (record { base = base; value = c })))
+    → after ≡ sets entry (w .at) (componentBlock base (w .offset % 2 ^ 32) kind range)
     → next ≡ (w .at + 72) % 2 ^ 64 → bytes ≡ bytesFor count → offset ≡ (w .offset + bytes) % 2 ^ 64
     → FinishIs base kind range count w (record { at = next; literals = w .literals; offset = offset }) entry after
 finished entry after base kind range count w next bytes offset long put next-is bytes-is offset-is image text k c hk hr same len =
     block-put entry after (record { base = base; value = c }) w next bytes offset long
     (λ _ low. let o : w .offset % 2 ^ 32 ≡ w .offset = omega arith in
-    put image text k hk hr
-    ∙ ap (λ (x : ℕ). sets entry (w .at) (componentBytes x (record { base = base; value = k }))) o
-    ∙ ap (sets entry (w .at)) same)
+    put
+    ∙ ap (λ (x : ℕ). sets entry (w .at) (componentBlock base x kind range)) o
+    ∙ ap (sets entry (w .at)) (sym (component-is image text base kind range (w .offset) k hk hr) ∙ same))
     next-is (bytes-is ∙ ap bytesFor (sym len)) offset-is
 
 -- what is left behind a block
@@ -151,7 +150,7 @@ block-first base w m ms after v room p q =
 abbrev shown : ℕ → Component
 shown n = record { c-type = literal (replicate (n % 2 ^ 32) 0); range = fixedRange n }
 
-shown-as : (at : ℕ) (bits : List ℕ) → componentBytes at (record { base = 0; value = shown (length bits) }) ≡ componentBytes at (record { base = 0; value = fixedLiteral bits })
+shown-as : (at : ℕ) (bits : List ℕ) → componentBytes at (record { base = 0; value = shown (length bits) }) ≡ componentBytes at (record { base = 0; value = wholeLiteral bits })
 shown-as at bits =
     let n : ℕ = length bits in
     ap (λ (x : List ℕ). u32 1 ++ u32 0 ++ u32 0 ++ x ++ u32 at ++ u32 1 ++ usbBytes 0 (val (pos 0)) ++ usbBytes 0 (val (pos n)))
@@ -175,6 +174,6 @@ pub close-some : (s : Merging) (entry after : List ℕ) (range : Usbr) (w : Writ
     → CloseIs s (record { w = w; running = false; bits = 0 }) entry after
 close-some s entry after range w t fixed fin =
     close-block s entry after w t
-    (λ b l base ms e room. fin [] 0 (shown (s .bits)) (fixedLiteral (b .value)) (replicate (s .bits % 2 ^ 32) 0, refl, length-replicate (s .bits % 2 ^ 32) 0)
+    (λ b l base ms e room. fin [] 0 (shown (s .bits)) (wholeLiteral (b .value)) (replicate (s .bits % 2 ^ 32) 0, refl, length-replicate (s .bits % 2 ^ 32) 0)
     (fixed [] 0) (ap (λ (n : ℕ). componentBytes (s .w .offset) (record { base = 0; value = shown n })) (sym l) ∙ shown-as (s .w .offset) (b .value)) l base ms e
     (record { blocks = room .blocks; literal-block = room .literal-block; offsets = room .offsets }))

@@ -4,7 +4,7 @@ use Prim.Native.Nat.{_≤_, _<_}
 use native.Mathlib.Numerals.{add-one}
 use native.Mathlib.Omega.{arith}
 use Rattle.definition.specs.Prelude.{ℕ, suc, _+_, _*_, _-_, Bool, _&&_, false, none, List, [], _∷_, eqb}
-use Rattle.definition.specs.Basics.{ok, _>>=_, placed, joined}
+use Rattle.definition.specs.Basics.{ok, _>>=_, withPlaces, joined}
 use Rattle.definition.specs.Limits.{sizes}
 use Rattle.definition.specs.Image.{Placed}
 use Rattle.definition.specs.Component.{Component}
@@ -51,9 +51,9 @@ module _ (image : List ℕ) (i : ℕ) where
 
   parted : (j : ℕ) (c : Cursor) (m : ℕ) (left : List (Placed Component)) → readIn image i j c (suc m) ≡ ok left → Parted j c m left
   unfolding readIn
-  parted j c m left h = go (bind-ok (placed i j (readAt image (eqb i 0 && eqb m 0) c)) _ h)
+  parted j c m left h = go (bind-ok (withPlaces i j (readAt image (eqb i 0 && eqb m 0) c)) _ h)
     where
-      two : (d : Placed Component) → placed i j (readAt image (eqb i 0 && eqb m 0) c) ≡ ok d
+      two : (d : Placed Component) → withPlaces i j (readAt image (eqb i 0 && eqb m 0) c) ≡ ok d
           → (ds : List (Placed Component)) × (readIn image i (suc j) (nextIn image c) m ≡ ok ds) × (ok (d ∷ ds) ≡ ok left) → Parted j c m left
       two d p (ds, q, e) =
           record {
@@ -64,7 +64,7 @@ module _ (image : List ℕ) (i : ℕ) where
             others = q;
           }
 
-      go : (d : Placed Component) × (placed i j (readAt image (eqb i 0 && eqb m 0) c) ≡ ok d)
+      go : (d : Placed Component) × (withPlaces i j (readAt image (eqb i 0 && eqb m 0) c) ≡ ok d)
           × ((readIn image i (suc j) (nextIn image c) m >>= λ ds. ok (d ∷ ds)) ≡ ok left)
           → Parted j c m left
       go (d, p, q) = two d p (bind-ok (readIn image i (suc j) (nextIn image c) m) _ q)

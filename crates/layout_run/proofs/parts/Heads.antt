@@ -13,7 +13,9 @@ use Rattle.definition.specs.Concatenation.{Concatenation, alignNumber, merged}
 use Rattle.definition.specs.Answer.{concatenationBytes}
 use Rattle.laws.specs.Lists.{joined-append}
 use Rattle.numbers.specs.Value.{optionUsize}
+use Rattle.answer.specs.Blocks.{concatenationBlock}
 use Rattle.answer.specs.Heads.{IsConcatenation}
+use Rattle.answer.specs.Laws.{concatenation-is}
 use Rattle.answer.specs.Sizes.{length-concatenation}
 use Rattle.answer.specs.Writing.{and-then}
 use Rattle.concatenation.specs.Align.{alignOf}
@@ -66,17 +68,24 @@ block-next before entry after at i l c len o p =
     and-then before at (20 * i) (blocks l) (concatenationBytes (merged c)) o (length-blocks l ∙ ap (λ x. 20 * x) len) p
     ∙ ap (λ x. sets before at x) (sym (blocks-more l c))
 
--- its numbers and flags are its summary's
-pub is-block : (c : Concatenation) (s : Summary) (size align : ℕ) → HasSummary c s → mergedSize c ≡ size → align ≡ alignNumber (alignOf (s .align))
-    → IsConcatenation size align (s .deterministic) (s .nonzero) (optionUsize (s .width)) (merged c)
-is-block c s size align h e f =
-    record {
-      size = e;
-      align = ap alignNumber (sym (h .align-is)) ∙ sym f;
-      deterministic = sym (h .deterministic-is);
-      nonzero = sym (h .nonzero-is);
-      width = sym (h .width-is);
-    }
+-- the block of a summary
+abbrev block : Summary → ℕ → ℕ → List ℕ
+block s size align = concatenationBlock size align (s .deterministic) (s .nonzero) (optionUsize (s .width))
+
+-- a merged concatenation's bytes are the block of its summary
+is-block : (c : Concatenation) (s : Summary) (size align : ℕ) → HasSummary c s → mergedSize c ≡ size → align ≡ alignNumber (alignOf (s .align))
+    → concatenationBytes (merged c) ≡ block s size align
+is-block c s size align h e f = concatenation-is size align (s .deterministic) (s .nonzero) (optionUsize (s .width)) (merged c) has
+  where
+    has : IsConcatenation size align (s .deterministic) (s .nonzero) (optionUsize (s .width)) (merged c)
+    has =
+        record {
+          size = e;
+          align = ap alignNumber (sym (h .align-is)) ∙ sym f;
+          deterministic = sym (h .deterministic-is);
+          nonzero = sym (h .nonzero-is);
+          width = sym (h .width-is);
+        }
 
 -- the array, of which the first n count
 module _ (cs : List Summary) (ns : List ℕ) (n : ℕ) (few : n ≤ 16) (full : length cs ≡ 16) (l : List Concatenation) (h : Summarised l (take n cs))
@@ -100,15 +109,15 @@ module _ (cs : List Summary) (ns : List ℕ) (n : ℕ) (few : n ≤ 16) (full : 
   -- the turn of i
   pub heads-next : (before entry after : List ℕ) (i : ℕ) (s₀ : Summary) (size align : ℕ) → i < n → size ≡ getD ns i 0 → align ≡ alignNumber (alignOf ((getD cs i s₀) .align))
       → entry ≡ sets before 32 (blocks (take i l))
-      → ((c : Concatenation) → IsConcatenation size align ((getD cs i s₀) .deterministic) ((getD cs i s₀) .nonzero) (optionUsize ((getD cs i s₀) .width)) c
-      → after ≡ sets entry (32 + 20 * i) (concatenationBytes c))
+      → after ≡ sets entry (32 + 20 * i) (block (getD cs i s₀) size align)
       → after ≡ sets before 32 (blocks (take (i + 1) l))
   heads-next before entry after i s₀ size align k e f o p = go (turn-at i s₀ k)
     where
       go : At l i (getD cs i s₀) (getD ns i 0) → after ≡ sets before 32 (blocks (take (i + 1) l))
       go t =
           let len : length (take i l) ≡ i = length-take-le i l (omega (arith, count-is)) in
-          block-next before entry after 32 i (take i l) (t .c) len o (p (merged (t .c)) (is-block (t .c) (getD cs i s₀) size align (t .has) (t .is-size ∙ sym e) f))
+          let same = is-block (t .c) (getD cs i s₀) size align (t .has) (t .is-size ∙ sym e) f in
+          block-next before entry after 32 i (take i l) (t .c) len o (p ∙ ap (sets entry (32 + 20 * i)) (sym same))
           ∙ ap (λ x. sets before 32 x) (ap blocks (sym (t .here) ∙ ap (λ x. take x l) (sym (add-one i))))
 
   pub heads-end : (before after : List ℕ) (i : ℕ) → n ≤ i → after ≡ sets before 32 (blocks (take i l)) → after ≡ sets before 32 (blocks l)

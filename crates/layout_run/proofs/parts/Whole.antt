@@ -14,7 +14,9 @@ use Rattle.definition.specs.Concatenation.{Concatenation, alignNumber, stage3, 
 use Rattle.definition.specs.Answer.{Answer, components, headBytes, concatenationBytes, componentsBytes, answerBytes}
 use Rattle.laws.specs.Lists.{length-joined}
 use Rattle.numbers.specs.Value.{optionUsize}
+use Rattle.answer.specs.Blocks.{headBlock}
 use Rattle.answer.specs.Heads.{initOf, IsHead}
+use Rattle.answer.specs.Laws.{head-is}
 use Rattle.answer.specs.Sizes.{length-head}
 use Rattle.answer.specs.Writing.{four-blocks}
 use Rattle.answer.specs.declared.Init.{Init}
@@ -85,7 +87,7 @@ module _ (image : List ℕ) (count n : ℕ) (cs : List Summary) (ns : List ℕ) 
         let s = fit .merged in
         omega arith
 
-    pub is-head : (align : ℕ) → align ≡ alignNumber (alignOf (o .align))
+    is-head : (align : ℕ) → align ≡ alignNumber (alignOf (o .align))
         → IsHead count total align (o .deterministic) (o .nonzero) (optionUsize (o .width)) (initOf image text init) a
     is-head align e =
         record {
@@ -97,6 +99,15 @@ module _ (image : List ℕ) (count n : ℕ) (cs : List Summary) (ns : List ℕ) 
           width = refl;
           init = refl;
         }
+
+    -- the block of these numbers is the answer's head
+    pub head-put : (before after : List ℕ) (align : ℕ) → align ≡ alignNumber (alignOf (o .align))
+        → after ≡ sets before 0 (headBlock count total align (o .deterministic) (o .nonzero) (optionUsize (o .width)) init)
+        → after ≡ sets before 0 (headBytes a)
+    head-put before after align e p =
+        p
+        ∙ ap (sets before 0)
+        (sym (head-is image text count total align (o .deterministic) (o .nonzero) (optionUsize (o .width)) init a (is-head align e)))
 
     pub long-merged : length ms ≡ total
     long-merged = ap length (sym are-read) ∙ total-is

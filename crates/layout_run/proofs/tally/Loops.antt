@@ -4,7 +4,7 @@ use Prim.Native.Nat.{_≤_, _<_}
 use native.Mathlib.Numerals.{add-one}
 use native.Mathlib.Omega.{arith}
 use Rattle.definition.specs.Prelude.{ℕ, suc, _+_, _-_, Bool, true, false, _&&_, List, eqb}
-use Rattle.definition.specs.Basics.{Result, ok, _>>=_, placed}
+use Rattle.definition.specs.Basics.{Result, ok, _>>=_, withPlaces}
 use Rattle.definition.specs.Component.{Component}
 use Rattle.definition.specs.Concatenation.{isStaticLiteral}
 use Rattle.laws.specs.Results.{bind-ok}
@@ -37,7 +37,7 @@ module _ (image : List ℕ) (i : ℕ) where
   pub turn-merged : (j m : ℕ) (c : Cursor) (t u : Tally) → turnOf image i j m c t ≡ ok u → u .merged ≤ t .merged + 1
   unfolding turnOf
   turn-merged j m c t u h =
-      let a = bind-ok (placed i j (readAt image (eqb i 0 && eqb m 0) c)) (λ p. stepTally i j (eqb j 0) (eqb m 0) (p .value) t) h in
+      let a = bind-ok (withPlaces i j (readAt image (eqb i 0 && eqb m 0) c)) (λ p. stepTally i j (eqb j 0) (eqb m 0) (p .value) t) h in
       step-merged i j (eqb j 0) (eqb m 0) (a .0 .value) t u (a .2)
 
   pub walk-start : (c : Cursor) (n : ℕ) (t : Tally) → t ≡ noTally → walk image i 0 c n noTally ≡ walk image i 0 c (n - 0) t

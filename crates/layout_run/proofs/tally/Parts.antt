@@ -19,8 +19,8 @@ use Rattle.component.specs.declared.types.values.Component.{Component}
 use Rattle.component.specs.declared.types.values.ComponentType.{ComponentType}
 use Rattle.component.specs.declared.types.values.ComponentType.the-variants as T
 use Rattle.concatenation.specs.Overall.{placeOf}
-use Rattle.concatenation.specs.declared.overall.Place.{Place}
-use Rattle.concatenation.specs.declared.overall.Place.the-variants as P
+use Rattle.concatenation.specs.declared.overall.OptionPlace.{OptionPlace}
+use Rattle.concatenation.specs.declared.overall.OptionPlace.the-variants as P
 use Rattle.layout_run.specs.tally.Count.{oneMore}
 use Rattle.layout_run.specs.tally.Tally.{Tally, Total, firstOf, tallied, KindIs, EndIs, FillerIs}
 
@@ -55,11 +55,11 @@ module _ (c : Component) where
 
 -- ---- what is found
 
-pub first-not : (p : Place) (t : Bool) (j : ℕ) → t ≡ false → placeOf p ≡ firstOf (placeOf p) t j
+pub first-not : (p : OptionPlace) (t : Bool) (j : ℕ) → t ≡ false → placeOf p ≡ firstOf (placeOf p) t j
 first-not (P.At k) t j h = refl
 first-not P.None t j h = rw h
 
-module _ (p : Place) (t : Bool) (j : ℕ) where
+module _ (p : OptionPlace) (t : Bool) (j : ℕ) where
   pub first-kept : (k : ℕ) → p ≡ P.At k → some k ≡ firstOf (placeOf p) t j
   first-kept k h = rw h
 

@@ -2,7 +2,7 @@
 use mathlib.Core.Path.{_≡_, sym, ap, _∙_}
 use native.Mathlib.Omega.{arith}
 use Rattle.definition.specs.Prelude.{ℕ, Bool, _&&_, List, eqb}
-use Rattle.definition.specs.Basics.{Result, ok, refused, _>>=_, placed}
+use Rattle.definition.specs.Basics.{Result, ok, refused, _>>=_, withPlaces}
 use Rattle.definition.specs.Image.{Placed}
 use Rattle.definition.specs.Component as Def
 use Rattle.definition.specs.Concatenation.{Running}
@@ -20,7 +20,7 @@ use Rattle.component.specs.types.Values.{stage2Component}
 use Rattle.layout_run.specs.cursor.Read.{readAt}
 use Rattle.layout_run.specs.declared.cursor.Cursor.{Cursor}
 use Rattle.layout_run.specs.declared.cursor.Spot.{Spot}
-use Rattle.concatenation.specs.Running.{keptOf, verdictOf}
+use Rattle.concatenation.specs.Running.{keptOf, verdictOf, settledOf}
 use Rattle.layout_run.specs.tally.Tally.{Tally, stepTally}
 use Rattle.layout_run.specs.tally.Walk.{turnOf}
 
@@ -33,7 +33,13 @@ kept-refused : (m : Result Running) (n i k : ℕ) → refused n i k ≡ verdictO
 kept-refused (ok x) n i k e = let z : _≡_ {A = ℕ} 0 1 = cc in absurd (omega arith)
 kept-refused (refused n₁ i₁ k₁) n i k e = cc
 
-module _ (m : Result Running) (r r′ : Running) (s : Checked) (kept : r′ ≡ keptOf r m) (verdict : resultOf s ≡ verdictOf m) (tl : Running → Tally) where
+module _ (m : Result Running) (r r′ : Running) (s : Checked) (said : (r′, resultOf s) ≡ settledOf r m) (tl : Running → Tally) where
+  kept : r′ ≡ keptOf r m
+  kept = ap (λ x. x .0) said
+
+  verdict : resultOf s ≡ verdictOf m
+  verdict = ap (λ x. x .1) said
+
   pub step-on : (x : Tally) → s ≡ C.Passed → x ≡ tl r′ → ok x ≡ (m >>= λ a. ok (tl a))
   step-on x h e = rw (kept-ok m r r′ kept (sym (ap resultOf h) ∙ verdict), e)
 
@@ -42,7 +48,7 @@ module _ (m : Result Running) (r r′ : Running) (s : Checked) (kept : r′ ≡ 
 
 -- a component with its text start
 abbrev reads-then : ℕ → ℕ → ℕ → Result Def.Component → (Def.Component → Result Tally) → Result Tally
-reads-then i j base u f = placed i j (u >>= λ b. ok (record { base = base; value = b })) >>= λ (p : Placed Def.Component). f (p .value)
+reads-then i j base u f = withPlaces i j (u >>= λ b. ok (record { base = base; value = b })) >>= λ (p : Placed Def.Component). f (p .value)
 
 module _ (image : List ℕ) (i j m : ℕ) (at : Cursor) (t : Tally) where
   turn-is : (spot : Spot) (last : Bool) → spot ≡ spotIn image at → last ≡ (eqb i 0 && eqb m 0)
@@ -60,7 +66,7 @@ module _ (image : List ℕ) (i j m : ℕ) (at : Cursor) (t : Tally) where
         ∙ ap (λ u. reads-then i j (spot .base) u (λ c. stepTally i j (eqb j 0) (eqb m 0) c t)) (sym (ap (resultIn image (spot .place)) o) ∙ r)
         ∙ turn-is spot last e h
 
-    pub turn-off : (q w : Refusal) → s ≡ R.Refused q → refusedAs {A = Unit} w ≡ placed i j (refusedAs q) → refusedAs w ≡ turnOf image i j m at t
+    pub turn-off : (q w : Refusal) → s ≡ R.Refused q → refusedAs {A = Unit} w ≡ withPlaces i j (refusedAs q) → refusedAs w ≡ turnOf image i j m at t
     turn-off q w o g =
         at-places g
         ∙ ap (λ u. reads-then i j (spot .base) u (λ c. stepTally i j (eqb j 0) (eqb m 0) c t)) (sym (ap (resultIn image (spot .place)) o) ∙ r)

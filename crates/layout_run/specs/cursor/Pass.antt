@@ -4,7 +4,7 @@ use Prim.Native.Nat.{_≤_, _<_}
 use native.Mathlib.Nat.{zero-add, suc-add}
 use native.Mathlib.Omega.{arith}
 use Rattle.definition.specs.Prelude.{ℕ, zero, suc, _+_, _-_, Bool, true, _&&_, List, [], drop, eqb}
-use Rattle.definition.specs.Basics.{Result, ok, refused, _>>=_, placed, tab}
+use Rattle.definition.specs.Basics.{Result, ok, refused, _>>=_, withPlaces, tab}
 use Rattle.definition.specs.Image.{Placed, Unparsed, parts}
 use Rattle.definition.specs.Component.{eachIn, each}
 use Rattle.layout_run.specs.declared.cursor.Cursor.{Cursor}
@@ -30,7 +30,7 @@ passed-first (ok a) (ok r) = refl
 passed-first (ok a) (refused n i k) = refl
 passed-first (refused n i k) rest = refl
 
-pub passed-placed : {A : Type 0} (i k : ℕ) (m : Result A) → placed i k (passed m) ≡ passed (placed i k m)
+pub passed-placed : {A : Type 0} (i k : ℕ) (m : Result A) → withPlaces i k (passed m) ≡ passed (withPlaces i k m)
 passed-placed i k (ok a) = refl
 passed-placed i k (refused n i₀ k₀) = refl
 
@@ -57,7 +57,7 @@ at-most (suc m) (suc n) = omega (arith, at-most m n)
 -- a stage of n components of concatenation i from component j of it; f is told which is the most significant of concatenation 0
 unfoldable pub walkIn : {B : Type 0} → (Bool → Cursor → Result B) → List ℕ → ℕ → ℕ → Cursor → ℕ → Result (List B)
 walkIn f image i j c zero = ok []
-walkIn f image i j c (suc n) = oneThen (placed i j (f (eqb i 0 && eqb n 0) c)) (walkIn f image i (suc j) (nextIn image c) n)
+walkIn f image i j c (suc n) = oneThen (withPlaces i j (f (eqb i 0 && eqb n 0) c)) (walkIn f image i (suc j) (nextIn image c) n)
 
 -- m concatenations from concatenation i, of these sizes, while n components are left
 unfoldable pub walkAll : {B : Type 0} → (Bool → Cursor → Result B) → (ℕ → ℕ) → List ℕ → ℕ → Cursor → ℕ → ℕ → Result (List (List B))

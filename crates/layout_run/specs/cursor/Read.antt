@@ -1,6 +1,6 @@
 -- Stages 1 and 2 of each component in order, as the code walks them: the components, or the first refusal with its places.
 use Rattle.definition.specs.Prelude.{ℕ, zero, suc, _-_, Bool, _&&_, Option, none, List, [], _∷_, eqb}
-use Rattle.definition.specs.Basics.{Result, ok, _>>=_, placed, if_then_else_}
+use Rattle.definition.specs.Basics.{Result, ok, _>>=_, withPlaces, if_then_else_}
 use Rattle.definition.specs.Image.{Unparsed, Placed, counts, componentCount}
 use Rattle.definition.specs.Text.{Part}
 use Rattle.definition.specs.Component.{Component, keepBase, startingValue}
@@ -24,7 +24,7 @@ readAt image scanned c = keepBase stage2Component scanned (unparsedAt image (spo
 -- n components of concatenation i from component j of it; the last of concatenation 0 is scanned for a starting value
 unfoldable pub readIn : List ℕ → ℕ → ℕ → Cursor → ℕ → Result (List (Placed Component))
 readIn image i j c zero = ok []
-readIn image i j c (suc n) = oneThen (placed i j (readAt image (eqb i 0 && eqb n 0) c)) (readIn image i (suc j) (nextIn image c) n)
+readIn image i j c (suc n) = oneThen (withPlaces i j (readAt image (eqb i 0 && eqb n 0) c)) (readIn image i (suc j) (nextIn image c) n)
 
 -- m concatenations from concatenation i, while n components are left
 unfoldable pub readFrom : List ℕ → ℕ → Cursor → ℕ → ℕ → Result (List (List (Placed Component)))

@@ -4,7 +4,7 @@ use Prim.Native.Nat.{_≤_, _<_}
 use native.Mathlib.Nat.{zero-add, add-zero}
 use native.Mathlib.Omega.{arith}
 use Rattle.definition.specs.Prelude.{ℕ, zero, suc, _+_, _-_, true, _&&_, none, List, [], _∷_, eqb}
-use Rattle.definition.specs.Basics.{ok, placed, if_then_else_, tab}
+use Rattle.definition.specs.Basics.{ok, withPlaces, if_then_else_, tab}
 use Rattle.definition.specs.Image.{counts, componentCount, parts, treeOf}
 use Rattle.definition.specs.Component.{keepBase, each, startingValue, source}
 use Rattle.laws.specs.Tests.{eqb-false}
@@ -23,7 +23,7 @@ module _ (image : List ℕ) where
   read-in : (i j : ℕ) (c : Cursor) (n : ℕ) → readIn image i j c n ≡ stageIn image true i j c n
   unfolding readIn readAt stageIn walkIn stageAt
   read-in i j c zero = refl
-  read-in i j c (suc n) = ap (oneThen (placed i j (readAt image (eqb i 0 && eqb n 0) c))) (read-in i (suc j) (nextIn image c) n)
+  read-in i j c (suc n) = ap (oneThen (withPlaces i j (readAt image (eqb i 0 && eqb n 0) c))) (read-in i (suc j) (nextIn image c) n)
 
   read-from : (i : ℕ) (c : Cursor) (n m : ℕ) → readFrom image i c n m ≡ stageFrom image true i c n m
   unfolding readFrom stageFrom walkAll stageIn

@@ -2,7 +2,7 @@
 use mathlib.Core.Path.{_≡_, refl, ap}
 use Prim.Native.Nat.{_<_}
 use Rattle.definition.specs.Prelude.{ℕ, suc, _-_, Bool, true, false, _&&_, List, eqb}
-use Rattle.definition.specs.Basics.{Result, ok, placed}
+use Rattle.definition.specs.Basics.{Result, ok, withPlaces}
 use Rattle.definition.specs.Image.{counts, componentCount, Unparsed, Placed, treeOf}
 use Rattle.definition.specs.Component.{Component, stage1Component, keepBase, each}
 use Rattle.component.specs.types.Places.{unparsed-in, reachable}
@@ -24,7 +24,7 @@ stageAt image second scanned c = keepBase (stageBy second) scanned (unparsedAt i
 
 -- with its places, where m components of concatenation i come after it
 unfoldable pub stageOf : List ℕ → Bool → ℕ → ℕ → ℕ → Cursor → Result (Placed Component)
-stageOf image second i j m c = placed i j (stageAt image second (eqb i 0 && eqb m 0) c)
+stageOf image second i j m c = withPlaces i j (stageAt image second (eqb i 0 && eqb m 0) c)
 
 -- of n components of concatenation i from component j of it
 unfoldable pub stageIn : List ℕ → Bool → ℕ → ℕ → Cursor → ℕ → Result (List (Placed Component))

@@ -2,7 +2,7 @@
 use mathlib.Core.Path.{_≡_, refl, sym, ap, _∙_}
 use native.Mathlib.Omega.{arith}
 use Rattle.definition.specs.Prelude.{ℕ, zero, suc, _+_, _-_, Bool, List, [], _∷_, _&&_, _++_, length, take, drop, eqb}
-use Rattle.definition.specs.Basics.{Result, ok, _>>=_, placed, isEmpty, tab}
+use Rattle.definition.specs.Basics.{Result, ok, _>>=_, withPlaces, isEmpty, tab}
 use Rattle.definition.specs.Image.{counts, tables, startAt, recsFrom, bitsAt, componentCount, recordCount, literalWidth, bytesFor, Placed, Unparsed, componentsFrom, parts, treeOf}
 use Rattle.definition.specs.Component.{eachIn, each}
 use Rattle.laws.specs.Tests.{eqb-false}
@@ -106,7 +106,7 @@ module _ {B : Type 0} (f : Bool → Placed Unparsed → Result B) (image : List 
 
   -- one component, and the rest of its concatenation
   pub each-in-head : (i j k r l n : ℕ) → eachIn f i j (componentsFrom image k r l (suc n))
-      ≡ oneThen (placed i j (f (eqb i 0 && eqb n 0) (componentAt image k r l)))
+      ≡ oneThen (withPlaces i j (f (eqb i 0 && eqb n 0) (componentAt image k r l)))
       (eachIn f i (suc j) (componentsFrom image (suc k) (r + recordsOf image k) (l + literalOf image k) n))
   unfolding eachIn
   each-in-head i j k r l n = rw (components-head, is-last)

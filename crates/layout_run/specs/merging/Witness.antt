@@ -9,7 +9,7 @@ use Rattle.definition.specs.Image.{Placed, kinds}
 use Rattle.definition.specs.Tree.{Tree, end, word, group, imageOf}
 use Rattle.definition.specs.Ranges.{val}
 use Rattle.definition.specs.Component.{Component, variable}
-use Rattle.definition.specs.Concatenation.{fixedLiteral, merge}
+use Rattle.definition.specs.Concatenation.{wholeLiteral, merge}
 use Rattle.definition.specs.Compute.{computed}
 use Rattle.answer_facts.specs.fits.Fixed.{AllFixed, none-left, one-more}
 use Rattle.layout_run.specs.cursor.Cursor.{firstIn, nextIn, standingIn, spotIn}
@@ -32,9 +32,9 @@ tree =
 
 unfoldable components : List (Placed Component)
 components =
-    record { base = 0; value = fixedLiteral (1 ∷ 0 ∷ 1 ∷ 0 ∷ []) }
-    ∷ record { base = 3; value = fixedLiteral (0 ∷ 1 ∷ 0 ∷ 1 ∷ []) }
-    ∷ record { base = 7; value = fixedLiteral (1 ∷ 0 ∷ []) }
+    record { base = 0; value = wholeLiteral (1 ∷ 0 ∷ 1 ∷ 0 ∷ []) }
+    ∷ record { base = 3; value = wholeLiteral (0 ∷ 1 ∷ 0 ∷ 1 ∷ []) }
+    ∷ record { base = 7; value = wholeLiteral (1 ∷ 0 ∷ []) }
     ∷ record {
       base = 10;
       value = record {

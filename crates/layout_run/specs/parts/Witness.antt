@@ -9,13 +9,13 @@ use Rattle.definition.specs.Image.{Placed, kinds}
 use Rattle.definition.specs.Tree.{Tree, end, word, group, imageOf}
 use Rattle.definition.specs.Ranges.{val}
 use Rattle.definition.specs.Component.{Component, variable}
-use Rattle.definition.specs.Concatenation.{Concatenation, align-none, fixedLiteral}
+use Rattle.definition.specs.Concatenation.{Concatenation, align-none, wholeLiteral}
 use Rattle.definition.specs.Compute.{computed}
 use Rattle.answer_facts.specs.fits.Fixed.{AllFixed, none-left, one-more}
 use Rattle.numbers.specs.declared.OptionUsize.the-variants as U
 use Rattle.concatenation.specs.Overall as S
 use Rattle.concatenation.specs.declared.alignment.align.FillerAlign.the-variants as A
-use Rattle.concatenation.specs.declared.overall.Place.the-variants as P
+use Rattle.concatenation.specs.declared.overall.OptionPlace.the-variants as P
 use Rattle.concatenation.specs.declared.overall.Summary.{Summary}
 use Rattle.layout_run.specs.cursor.Chain.{atMost}
 use Rattle.layout_run.specs.cursor.Cursor.{nextIn, standingIn, spotIn}
@@ -38,7 +38,7 @@ tree =
     ∷ []
 
 unfoldable source : List (Placed Component)
-source = record { base = 0; value = fixedLiteral (1 ∷ 0 ∷ 1 ∷ 0 ∷ []) } ∷ record { base = 3; value = fixedLiteral (0 ∷ 1 ∷ 0 ∷ 1 ∷ []) } ∷ []
+source = record { base = 0; value = wholeLiteral (1 ∷ 0 ∷ 1 ∷ 0 ∷ []) } ∷ record { base = 3; value = wholeLiteral (0 ∷ 1 ∷ 0 ∷ 1 ∷ []) } ∷ []
 
 unfoldable sink : List (Placed Component)
 sink =

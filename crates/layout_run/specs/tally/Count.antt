@@ -5,7 +5,7 @@ use Rattle.definition.specs.Prelude.{ℕ, suc, _+_, Bool, true, false, _&&_, Li
 use Rattle.definition.specs.Basics.{if_then_else_}
 use Rattle.definition.specs.Image.{Placed}
 use Rattle.definition.specs.Component.{Component}
-use Rattle.definition.specs.Concatenation.{isStaticLiteral, bitsOf, fixedLiteral, merge, mergeOnto}
+use Rattle.definition.specs.Concatenation.{isStaticLiteral, bitsOf, wholeLiteral, merge, mergeOnto}
 
 -- a component counts unless it and the one before it are static literals
 abbrev pub oneMore : Bool → Bool → ℕ
@@ -28,7 +28,7 @@ onto-length c [] = by-static (isStaticLiteral (c .value))
     by-static : (s : Bool) → 1 ≡ oneMore s false + 0
     by-static true = refl
     by-static false = refl
-onto-length c (d ∷ m) = by-both (isStaticLiteral (c .value) && isStaticLiteral (d .value)) (record { base = c .base; value = fixedLiteral (bitsOf (c .value) ++ bitsOf (d .value)) })
+onto-length c (d ∷ m) = by-both (isStaticLiteral (c .value) && isStaticLiteral (d .value)) (record { base = c .base; value = wholeLiteral (bitsOf (c .value) ++ bitsOf (d .value)) })
   where
     by-both : (t : Bool) (e : Placed Component) → length (if t then e ∷ m else c ∷ d ∷ m) ≡ (if t then 0 else 1) + suc (length m)
     by-both true e = omega arith
@@ -39,7 +39,7 @@ onto-static c [] = refl
 onto-static c (d ∷ m) = by-static (isStaticLiteral (c .value)) (isStaticLiteral (d .value)) refl
   where
     by-static : (s t : Bool) → isStaticLiteral (c .value) ≡ s
-        → beginsStatic (if s && t then record { base = c .base; value = fixedLiteral (bitsOf (c .value) ++ bitsOf (d .value)) } ∷ m else c ∷ d ∷ m) ≡ s
+        → beginsStatic (if s && t then record { base = c .base; value = wholeLiteral (bitsOf (c .value) ++ bitsOf (d .value)) } ∷ m else c ∷ d ∷ m) ≡ s
     by-static true true e = refl
     by-static true false e = e
     by-static false t e = e

@@ -4,7 +4,7 @@ use Rattle.definition.specs.Prelude.{ℕ, _+_, Bool, false, Option, none, some,
 use Rattle.definition.specs.Basics.{Result, ok, _>>=_, if_then_else_}
 use Rattle.definition.specs.Ranges.{orElse}
 use Rattle.definition.specs.Component.{Component, hasEnd}
-use Rattle.definition.specs.Concatenation.{Running, running, isStaticLiteral, isUnboundedFiller}
+use Rattle.definition.specs.Concatenation.{Running, unchecked, isStaticLiteral, isUnboundedFiller}
 use Rattle.definition.specs.Overall.{isFiller}
 use Rattle.errors.specs.Refused.{refusedAs}
 use Rattle.numbers.specs.Value.{optionUsize}
@@ -35,7 +35,7 @@ pub record Tally : Type 0 where
   pub literal : Bool
 
 abbrev pub noTally : Tally
-noTally = record { running = running; filler = none; unbounded = none; merged = 0; literal = false }
+noTally = record { running = unchecked; filler = none; unbounded = none; merged = 0; literal = false }
 
 -- the place that was found before, else this one if it passes a test
 abbrev pub firstOf : Option ℕ → Bool → ℕ → Option ℕ

@@ -2,7 +2,7 @@
 use mathlib.Core.Path.{_≡_, refl, sym, _∙_, ap}
 use native.Mathlib.Omega.{arith}
 use Rattle.definition.specs.Prelude.{ℕ, zero, suc, Bool, false, _&&_, List, [], _∷_, eqb}
-use Rattle.definition.specs.Basics.{Result, ok, refused, _>>=_, placed, isEmpty}
+use Rattle.definition.specs.Basics.{Result, ok, refused, _>>=_, withPlaces, isEmpty}
 use Rattle.definition.specs.Image.{Placed}
 use Rattle.definition.specs.Component.{Component}
 use Rattle.laws.specs.Results.{bind-ok}
@@ -15,7 +15,7 @@ use Rattle.layout_run.specs.tally.Tally.{Tally, Total, stepTally, endOf}
 
 -- component j, where m others of concatenation i come after it
 unfoldable pub turnOf : List ℕ → ℕ → ℕ → ℕ → Cursor → Tally → Result Tally
-turnOf image i j m c t = placed i j (readAt image (eqb i 0 && eqb m 0) c) >>= λ p. stepTally i j (eqb j 0) (eqb m 0) (p .value) t
+turnOf image i j m c t = withPlaces i j (readAt image (eqb i 0 && eqb m 0) c) >>= λ p. stepTally i j (eqb j 0) (eqb m 0) (p .value) t
 
 -- n components from component j
 unfoldable pub walk : List ℕ → ℕ → ℕ → Cursor → ℕ → Tally → Result Total
@@ -55,9 +55,9 @@ module _ (image : List ℕ) (i : ℕ) where
 
   -- what is read of suc n components
   first-read : (j : ℕ) (c : Cursor) (n : ℕ) (cs : List (Placed Component)) → readIn image i j c (suc n) ≡ ok cs
-      → OneRead (placed i j (readAt image (eqb i 0 && eqb n 0) c)) (readIn image i (suc j) (nextIn image c) n) cs
+      → OneRead (withPlaces i j (readAt image (eqb i 0 && eqb n 0) c)) (readIn image i (suc j) (nextIn image c) n) cs
   unfolding readIn
-  first-read j c n cs h = one-then (placed i j (readAt image (eqb i 0 && eqb n 0) c)) (readIn image i (suc j) (nextIn image c) n) cs h
+  first-read j c n cs h = one-then (withPlaces i j (readAt image (eqb i 0 && eqb n 0) c)) (readIn image i (suc j) (nextIn image c) n) cs h
 
   none-read : (j : ℕ) (c : Cursor) (cs : List (Placed Component)) → readIn image i j c 0 ≡ ok cs → cs ≡ []
   unfolding readIn
@@ -68,7 +68,7 @@ module _ (image : List ℕ) (i : ℕ) where
   read-empty j c (suc n) cs h = rw ((first-read j c n cs h) .parts, eqb-false (suc n) 0 λ z. omega arith)
 
   walk-one : (j : ℕ) (c : Cursor) (n : ℕ) (t : Tally) (cs : List (Placed Component))
-      → (r : OneRead (placed i j (readAt image (eqb i 0 && eqb n 0) c)) (readIn image i (suc j) (nextIn image c) n) cs)
+      → (r : OneRead (withPlaces i j (readAt image (eqb i 0 && eqb n 0) c)) (readIn image i (suc j) (nextIn image c) n) cs)
       → ((u : Tally) → walk image i (suc j) (nextIn image c) n u ≡ overFrom i (suc j) false (r .more) u)
       → walk image i j c (suc n) t ≡ overFrom i j (eqb j 0) cs t
   unfolding walk turnOf overFrom
@@ -87,13 +87,13 @@ module _ (image : List ℕ) (i : ℕ) where
       ∙ ap (λ b. overFrom i (suc j) b (r .more) u) (eqb-false (suc j) 0 λ z. omega arith)
 
   turn-read : (j : ℕ) (c : Cursor) (n : ℕ) (t u : Tally) → turnOf image i j n c t ≡ ok u
-      → (p : Placed Component) × (placed i j (readAt image (eqb i 0 && eqb n 0) c) ≡ ok p)
+      → (p : Placed Component) × (withPlaces i j (readAt image (eqb i 0 && eqb n 0) c) ≡ ok p)
   unfolding turnOf
   turn-read j c n t u h =
-      let a = bind-ok (placed i j (readAt image (eqb i 0 && eqb n 0) c)) (λ p. stepTally i j (eqb j 0) (eqb n 0) (p .value) t) h in (a .0, a .1)
+      let a = bind-ok (withPlaces i j (readAt image (eqb i 0 && eqb n 0) c)) (λ p. stepTally i j (eqb j 0) (eqb n 0) (p .value) t) h in (a .0, a .1)
 
   more-read : (j : ℕ) (c : Cursor) (n : ℕ) (p : Placed Component) (cs : List (Placed Component))
-      → placed i j (readAt image (eqb i 0 && eqb n 0) c) ≡ ok p → readIn image i (suc j) (nextIn image c) n ≡ ok cs → readIn image i j c (suc n) ≡ ok (p ∷ cs)
+      → withPlaces i j (readAt image (eqb i 0 && eqb n 0) c) ≡ ok p → readIn image i (suc j) (nextIn image c) n ≡ ok cs → readIn image i j c (suc n) ≡ ok (p ∷ cs)
   unfolding readIn
   more-read j c n p cs a b = rw (a, b)
 

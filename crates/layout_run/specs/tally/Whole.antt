@@ -2,11 +2,11 @@
 use mathlib.Core.Path.{_≡_, refl, sym, _∙_, ap}
 use native.Mathlib.Omega.{arith}
 use Rattle.definition.specs.Prelude.{ℕ, suc, _+_, Bool, true, false, not, Option, none, some, List, [], _∷_, eqb}
-use Rattle.definition.specs.Basics.{Result, ok, refused, _>>=_, placed, if_then_else_, isEmpty}
+use Rattle.definition.specs.Basics.{Result, ok, refused, _>>=_, withPlaces, if_then_else_, isEmpty}
 use Rattle.definition.specs.Image.{Placed}
 use Rattle.definition.specs.Ranges.{orElse}
 use Rattle.definition.specs.Component.{Component}
-use Rattle.definition.specs.Concatenation.{Running, running, Concatenation, addWidth, checkType, checkFrom, check, isStaticLiteral, isUnboundedFiller}
+use Rattle.definition.specs.Concatenation.{Running, unchecked, Concatenation, addWidth, checkType, checkFrom, check, isStaticLiteral, isUnboundedFiller}
 use Rattle.definition.specs.Overall.{placeFrom, isFiller}
 use Rattle.concatenation.specs.Running.{finishOf}
 use Rattle.layout_run.specs.cursor.Read.{readIn}
@@ -95,7 +95,7 @@ over-is : (i j : ℕ) (first : Bool) (cs : List (Placed Component)) (t : Tally) 
 unfolding overFrom checkFrom
 over-is i j first [] t = ap (λ x. finishOf i (t .running) >>= λ _. ok x) (total-none j t)
 over-is i j first (c ∷ cs) t =
-    step-then (placed i 0 (addWidth (c .value) (t .running))) (λ r. placed i j (checkType (not (eqb i 0)) first (isEmpty cs) (c .value) r))
+    step-then (withPlaces i 0 (addWidth (c .value) (t .running))) (λ r. withPlaces i j (checkType (not (eqb i 0)) first (isEmpty cs) (c .value) r))
     (tallied j (c .value) t) (λ u. overFrom i (suc j) false cs u) (λ r. checkFrom i (suc j) false cs r)
     (λ r. finishOf i r >>= λ _. ok (totalFrom j (c ∷ cs) t r))
     λ r₀. over-is i (suc j) false cs (tallied j (c .value) t r₀)
@@ -139,7 +139,7 @@ answers cs (refused n i k) fin (R.Refused q) h = same-refusal h
 module _ (image : List ℕ) (i : ℕ) (c : Cursor) (n : ℕ) where
   checks-is : (cs : List (Placed Component)) (r : CheckResult) → answerOf r ≡ wholeFrom i 0 true cs noTally → Checks (check i cs) r
   unfolding check
-  checks-is cs r h = answers cs (checkFrom i 0 true cs running) (finishOf i) r h
+  checks-is cs r h = answers cs (checkFrom i 0 true cs unchecked) (finishOf i) r h
 
   read-by : (r : CheckResult) → answerOf r ≡ walk image i 0 c n noTally → ReadBy (readIn image i 0 c n) r
   read-by (R.Ok f) h = walk-read image i 0 c n noTally (foundOf f) (sym h)

@@ -4,13 +4,13 @@ use super::Writing;
 use super::bits::append_bits;
 use super::bits::bytes_for;
 use super::span::kind_of;
-use super::span::least;
 use super::span::span_of;
 use crate::cursor::Spot;
 use answer::Kind;
 use component::types::Bits;
 use component::types::Component;
 use numbers::I128;
+use numbers::least;
 use ranges::OptionUsb;
 use ranges::Part;
 use ranges::Usb;
@@ -82,7 +82,7 @@ fn finish(area: &mut [u8], base: u32, kind: Kind, range: Usbr, bits: usize, w: W
         range,
     );
     Writing {
-        at: std::num::wrapping_add_usize(w.at, 72),
+        at: std::num::wrapping_add_usize(w.at, limits::COMPONENT_SIZE),
         literals: w.literals,
         offset: std::num::wrapping_add_usize(w.offset, bytes_for(bits)),
     }

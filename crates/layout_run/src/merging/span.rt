@@ -3,18 +3,12 @@ use answer::Kind;
 use component::types::Bits;
 use component::types::ComponentType;
 use component::types::Place;
-ghost use mathlib.Core.Path.{_≡_};
+use numbers::least;
 ghost use mathlib.Core.List.{List};
-ghost use Prim.Native.Nat.{ℕ, min};
+ghost use Prim.Native.Nat.{ℕ};
 ghost use Rattle.answer.specs.Kinds.{HasKind};
 ghost use Rattle.component.specs.types.Values.{bitsOf, typeOf};
 ghost use Rattle.layout_run.specs.merging.Literals.{Span, typeBits};
-
-pub(crate) fn least(a: usize, b: usize) -> usize
-    ensures { λ r. ⌜ r ≡ min a b ⌝ }
-{
-    if a < b { a } else { b }
-}
 
 // A literal's bits, their places in order and no further than its width.
 fn span(place: Place, b: Bits) -> Bits

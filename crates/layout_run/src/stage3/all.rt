@@ -3,7 +3,7 @@ use crate::parts::Stage3;
 use crate::stage3::check;
 use crate::tally::CheckResult;
 use concatenation::alignment::FillerAlign;
-use concatenation::overall::Place;
+use concatenation::overall::OptionPlace;
 use concatenation::overall::Summary;
 use errors::Checked;
 use numbers::OptionUsize;
@@ -17,8 +17,8 @@ fn blank() -> Summary {
         width: OptionUsize::None,
         deterministic: false,
         nonzero: false,
-        filler: Place::None,
-        unbounded: Place::None,
+        filler: OptionPlace::None,
+        unbounded: OptionPlace::None,
     }
 }
 

@@ -22,7 +22,7 @@ fn put_concatenations(area: &mut [u8], cs: [Summary; 16], sizes: [u32; 16], coun
         let width = s.width;
         answer::put_concatenation(
             area,
-            32 + 20 * (i as usize),
+            limits::HEAD_SIZE + limits::CONCATENATION_SIZE * (i as usize),
             size,
             align_number(align),
             s.deterministic,
@@ -80,10 +80,10 @@ pub(crate) fn write_answer(
         init,
     );
     put_concatenations(area, cs, sizes, most);
-    let at = 32 + 20 * (most as usize);
+    let at = limits::HEAD_SIZE + limits::CONCATENATION_SIZE * (most as usize);
     let from = Writing {
         at,
-        literals: at + 72 * (t.merged as usize),
+        literals: at + limits::COMPONENT_SIZE * (t.merged as usize),
         offset: 0,
     };
     let w = put_components(area, image, most, n, from);

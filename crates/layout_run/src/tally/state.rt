@@ -2,7 +2,7 @@
 use super::shape::is_filler;
 use component::types::Component;
 use concatenation::alignment::FillerAlign;
-use concatenation::overall::Place;
+use concatenation::overall::OptionPlace;
 use concatenation::running_check::Running;
 use errors::Refusal;
 use numbers::OptionUsize;
@@ -16,8 +16,8 @@ ghost use Rattle.layout_run.specs.tally.Tally.{firstOf, tallyOf, noTally
 // merging; and whether the last of them is a static literal.
 pub struct State {
     pub running: Running,
-    pub filler: Place,
-    pub unbounded: Place,
+    pub filler: OptionPlace,
+    pub unbounded: OptionPlace,
     pub merged: u32,
     pub literal: bool,
 }
@@ -38,23 +38,23 @@ pub(crate) fn start() -> State
     };
     State {
         running,
-        filler: Place::None,
-        unbounded: Place::None,
+        filler: OptionPlace::None,
+        unbounded: OptionPlace::None,
         merged: 0,
         literal: false,
     }
 }
 
 // The place that was found before, else this one if it is one.
-fn first_of(p: Place, found: bool, j: u32) -> Place
+fn first_of(p: OptionPlace, found: bool, j: u32) -> OptionPlace
     ensures { λ r. ⌜ placeOf r ≡ firstOf (placeOf p) found j ⌝ }
 {
     if !found {
         return p;
     }
     match p {
-        Place::At(k) => Place::At(k),
-        Place::None => Place::At(j),
+        OptionPlace::At(k) => OptionPlace::At(k),
+        OptionPlace::None => OptionPlace::At(j),
     }
 }
 

@@ -11,7 +11,7 @@ use component::types::ComponentResult;
 use component::types::Place;
 use errors::Checked;
 ghost use mathlib.Core.Path.{_≡_};
-ghost use Rattle.definition.specs.Basics.{Result, placed, if_then_else_};
+ghost use Rattle.definition.specs.Basics.{Result, withPlaces, if_then_else_};
 ghost use Rattle.component.specs.types.Places.{unparsedIn};
 ghost use Rattle.component.specs.types.Values.{resultIn};
 ghost use Rattle.errors.specs.Refused.{resultOf};
@@ -31,7 +31,7 @@ fn passes(s: Checked) -> bool
 }
 
 fn located(s: Checked, i: u32, j: u32) -> Checked
-    ensures { λ r. ⌜ resultOf r ≡ placed i j (resultOf s) ⌝ }
+    ensures { λ r. ⌜ resultOf r ≡ withPlaces i j (resultOf s) ⌝ }
 {
     match s {
         Checked::Passed => Checked::Passed,

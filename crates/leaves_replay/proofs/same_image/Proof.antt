@@ -3,17 +3,8 @@ use borrow.Author.Needs.{needs}
 use Rattle.leaves_replay.proofs.same_image.Statement.{statement}
 use Rattle.leaves_replay.proofs.same_image.Tie as tie
 
-layout-check-requires : tie.Need-layout-check-requires
-layout-check-requires c κs = search needs
-
-byte-at-requires : tie.Need-byte-at-requires
-byte-at-requires c κs = search needs
-
-cast-result : tie.Need-cast-result
-cast-result c = search needs
-
 returns : tie.Need-returns
-returns c = rw (c .before .layout-check .ensures, c .byte-at .ensures)
+returns c = rw (c .before .number-of .ensures, c .before .before .check-image .ensures, c .byte-at .ensures)
 
 pub same-image-spec : {M : Type 1} → statement M
-same-image-spec = tie.close (tie.spec layout-check-requires byte-at-requires cast-result returns)
+same-image-spec = tie.close (tie.spec (λ c κs. search needs) (λ c κs. search needs) (λ c κs. search needs) (λ c. search needs) returns)

@@ -58,7 +58,7 @@ answer-listing image mode a h e = go (counted image h) (answer-fits image h mode
         let small : length (components a) < 2 ^ 32 = omega (arith, f .merged, k .components-most) in
         let r : ReadLess image a few small = read-lengths image a few small in
         accepted-most image (answerBytes a) (2 * limits .text) (limits .literal-bytes) (
-          omega (arith, r .groups, f .concatenations, k .concatenations),
+          omega (arith, r .concats, f .concatenations, k .concatenations),
           omega (arith, r .fields, f .merged, k .components-most),
           omega (arith, r .text, t, tree-text image h, k .text-most),
           omega (arith, r .literal-bytes, f .literals, k .literals-most),

@@ -5,7 +5,8 @@ use native.Mathlib.Omega.{arith}
 use lib.ListN.{length-append}
 use Rattle.definition.specs.Prelude.{ℕ, suc, _+_, _-_, Bool, true, false, not, Option, none, some, List, [], _∷_, _++_, length, take, drop, eqb, ℤ, pos, _+ℤ_, _-ℤ_}
 use Rattle.definition.specs.Basics.{Result, ok, _>>=_, if_then_else_, isEmpty}
-use Rattle.definition.specs.Numbers.{char, narrow}
+use Rattle.definition.specs.Characters.{char}
+use Rattle.definition.specs.Numbers.{narrow}
 use Rattle.definition.specs.Refusals.{Reason, need, refuse, bound-overflow, not-one-token, empty-range, second-dots}
 use Rattle.definition.specs.Image.{kinds}
 use Rattle.definition.specs.Text.{Part, Item, items, isGroup, isToken, bytesOf, partOf}

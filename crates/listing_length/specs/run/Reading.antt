@@ -12,7 +12,7 @@ use Rattle.definition.specs.Text.{Part, noText}
 use Rattle.definition.specs.Ranges.{Usb}
 use Rattle.definition.specs.Component.{Component, ComponentType, literal, variable, filler}
 use Rattle.definition.specs.Concatenation.{bitsOf}
-use Rattle.definition.specs.Answer.{Answer, components, textBytes, xBytes, usbBytes, componentBytes, componentsBytes, literalBytes, answerBytes, Field, Bound, textAt, boundAt, groupAt, fieldAt, readAnswer}
+use Rattle.definition.specs.Answer.{Answer, components, textBytes, xBytes, usbBytes, componentBytes, componentsBytes, literalBytes, answerBytes, Field, Bound, textAt, boundAt, concatAt, fieldAt, readAnswer}
 use Rattle.laws.specs.Lists.{length-tab, length-joined}
 use Rattle.laws.specs.Padded.{length-padded}
 use Rattle.prepared.specs.Bits.{length-packed}
@@ -124,7 +124,7 @@ module _ (image : List ℕ) (a : Answer) (few : length (a .cc) < 2 ^ 32) (small 
 
   -- the concatenations, components, bytes of text and bytes of literals that are read
   pub record ReadLess : Type 0 where
-    pub groups : length ((readAnswer image s) .groups) ≡ length (a .cc)
+    pub concats : length ((readAnswer image s) .concats) ≡ length (a .cc)
     pub fields : length ((readAnswer image s) .fields) ≡ length (components a)
     pub text : texts (readAnswer image s) ≤ initText (a .init) + total textsOf (components a)
     pub literal-bytes : literals (readAnswer image s) ≤ length (joined (map literalBytes (components a)))
@@ -139,7 +139,7 @@ module _ (image : List ℕ) (a : Answer) (few : length (a .cc) < 2 ^ 32) (small 
       let less = fields-less image s first behind 0 0 (components a) held in
       let same : tab (fieldAt image s) 0 (u32At s 4) ≡ tab (fieldOf image s first behind) 0 n = ap (tab (fieldAt image s) 0) m-is in
       record {
-        groups = length-tab (groupAt s) 0 (u32At s 0) ∙ c-is;
+        concats = length-tab (concatAt s) 0 (u32At s 0) ∙ c-is;
         fields = length-tab (fieldAt image s) 0 (u32At s 4) ∙ m-is;
         text =
             omega (

@@ -4,13 +4,13 @@ use Prim.Native.Nat.{_≤_, zero-le}
 use native.Mathlib.Nat.{le-refl}
 use native.Mathlib.Omega.{arith}
 use Rattle.definition.specs.Prelude.{ℕ, suc, _+_, _*_, Bool, true, false, _&&_, not, Option, none, some, List, [], _∷_, _++_, map, length}
-use Rattle.definition.specs.Basics.{ok, _>>=_, placed, if_then_else_, isEmpty, sum, joined}
+use Rattle.definition.specs.Basics.{ok, _>>=_, withPlaces, if_then_else_, isEmpty, sum, joined}
 use Rattle.definition.specs.Refusals.{need, empty-after-colon}
 use Rattle.definition.specs.Image.{Unparsed, Placed}
 use Rattle.definition.specs.Tree.{textOf}
 use Rattle.definition.specs.Text.{Part, partOf}
 use Rattle.definition.specs.Component.{Component, Prefix, Parsed, prefixOf, startingValue, eachIn, each, keepBase, stage1Component, simplify, stage1, stage2}
-use Rattle.definition.specs.Concatenation.{Concatenation, isStaticLiteral, fixedLiteral, bitsOf, mergeOnto, merge, merged}
+use Rattle.definition.specs.Concatenation.{Concatenation, isStaticLiteral, wholeLiteral, bitsOf, mergeOnto, merge, merged}
 use Rattle.definition.specs.Overall.{stage4}
 use Rattle.definition.specs.Answer.{components}
 use Rattle.definition.specs.Run.{stages}
@@ -46,16 +46,16 @@ first-text k k′ (u ∷ []) = go (prefixOf (u .value)) (reads true u)
     go : (x : Option Prefix)
         → Yields (λ c. elim x [ none ↦ 0 | some p ↦ size (p .before) ] + textsOf c ≤ twice u) (keepBase stage1Component true u)
         → Yields (λ init. Yields (λ cs. initText init + total textsOf cs ≤ twice u + 0)
-        (placed 0 k′ (keepBase stage1Component true u) >>= λ b. ok (b ∷ [])))
+        (withPlaces 0 k′ (keepBase stage1Component true u) >>= λ b. ok (b ∷ [])))
         (elim x [
           | none ↦ ok none
           | some p ↦ do
-            _ ← placed 0 k (need (not (isEmpty (p .after))) empty-after-colon)
+            _ ← withPlaces 0 k (need (not (isEmpty (p .after))) empty-after-colon)
             ok (some (record { base = u .base; value = partOf (p .before) }))
         ])
     go none h = given {a = none} (bound (yields-placed 0 k′ h) λ c l. given {a = c ∷ []} (omega (arith, l)))
     go (some p) h =
-        after (placed 0 k (need (not (isEmpty (p .after))) empty-after-colon)) λ _.
+        after (withPlaces 0 k (need (not (isEmpty (p .after))) empty-after-colon)) λ _.
         given {a = some (record { base = u .base; value = partOf (p .before) })} (bound (yields-placed 0 k′ h) λ c l. given {a = c ∷ []} (omega (arith, l, part-size (p .before))))
 first-text k k′ (u ∷ v ∷ us) =
     yields-map (λ init h. bound (yields-placed 0 k′ (reads false u)) λ c l. bound h λ cs ls. given {a = c ∷ cs} (omega (arith, l, ls))) (first-text (suc k) (suc k′) (v ∷ us))
@@ -104,7 +104,7 @@ onto-short c [] = omega arith
 onto-short c (d ∷ l) = go (isStaticLiteral (c .value) && isStaticLiteral (d .value))
   where
     both : Placed Component
-    both = record { base = c .base; value = fixedLiteral (bitsOf (c .value) ++ bitsOf (d .value)) }
+    both = record { base = c .base; value = wholeLiteral (bitsOf (c .value) ++ bitsOf (d .value)) }
 
     go : (b : Bool) → total textsOf (if b then both ∷ l else c ∷ d ∷ l) ≤ textsOf c + total textsOf (d ∷ l)
     go true = omega arith

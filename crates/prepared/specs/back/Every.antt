@@ -60,11 +60,11 @@ module _ (image : List ℕ) where
   head-of bytes long a b c d e p q r s t = rw (← p, ← q, ← r, ← s, ← t) (singles image bytes 0 10 long)
 
 -- the three conjunctions of tests, over plain numbers
-counts-say : (c n r t b c′ n′ r′ t′ b′ : ℕ) → (within 1 c′ c && within 1 n′ n && within 1 r′ r && within 1 t′ t && leb b b′) ≡ true
+pub counts-say : (c n r t b c′ n′ r′ t′ b′ : ℕ) → (within 1 c′ c && within 1 n′ n && within 1 r′ r && within 1 t′ t && leb b b′) ≡ true
     → (((((1 ≤ c) × (c ≤ c′)) × ((1 ≤ n) × (n ≤ n′))) × ((1 ≤ r) × (r ≤ r′))) × ((1 ≤ t) × (t ≤ t′))) × (b ≤ b′)
 counts-say c n r t b c′ n′ r′ t′ b′ h = simp tested at h
 
-offsets-say : (a b c d e f a′ b′ c′ d′ e′ f′ : ℕ) → (eqb a a′ && eqb b b′ && eqb c c′ && eqb d d′ && eqb e e′ && eqb f f′) ≡ true
+pub offsets-say : (a b c d e f a′ b′ c′ d′ e′ f′ : ℕ) → (eqb a a′ && eqb b b′ && eqb c c′ && eqb d d′ && eqb e e′ && eqb f f′) ≡ true
     → (((((a ≡ a′) × (b ≡ b′)) × (c ≡ c′)) × (d ≡ d′)) × (e ≡ e′)) × (f ≡ f′)
 offsets-say a b c d e f a′ b′ c′ d′ e′ f′ h = simp tested at h
 

@@ -28,7 +28,7 @@ use Rattle.ranges.specs.declared.ResultUsbr.{ResultUsbr}
 use Rattle.ranges.specs.declared.ResultUsbr.the-variants as RR
 use Rattle.ranges.specs.Usb.{usbOf, optionUsbOf, usbrOf, resultUsbr}
 use Rattle.ranges.specs.Checks.{needed, andThen, passes, endNumber, endVal}
-use Rattle.ranges.specs.simplify.Checks.{widthOf, checkedRange, restOf}
+use Rattle.ranges.specs.simplify.Checks.{widthBetween, checkedRange, restOf}
 use Rattle.ranges.specs.literal.Literal.{literalChecks, endOr, IsPlace, cutBetween, bothOf}
 use Rattle.ranges.proofs.Bounds.{end-is}
 use Rattle.ranges.proofs.simplify.Ranges.{ends-pass, range-is}
@@ -48,7 +48,7 @@ gate x false b c d = refl
 
 -- the definition, by start and end
 literal-is : (bits : List ℕ) (r : D.Usbr) → let e : D.Usb = endOr (length bits) (r .«end») in
-    andThen (literalChecks (pos (length bits)) (staticVal (r .start)) (endVal (r .«end»)) (widthOf (r .start) e)) (ok (cutBetween bits (r .start) e)) ≡ simplifyLiteral bits r
+    andThen (literalChecks (pos (length bits)) (staticVal (r .start)) (endVal (r .«end»)) (widthBetween (r .start) e)) (ok (cutBetween bits (r .start) e)) ≡ simplifyLiteral bits r
 unfolding simplifyLiteral
 literal-is bits r =
     let w : ℤ = pos (length bits) in
@@ -90,11 +90,11 @@ same-checks w q r o = rw (q, r, o)
 -- the code's tests of a literal of w bits, whose end is e
 module _ (image : List ℕ) (at w : ℕ) (small : w < 2 ^ 64) (r : Usbr) (e : Usb) (ends : usbOf image at e ≡ endOr w (optionUsbOf image at (r .«end»)))
     (a b k : OptionI128) (pa : optionOf a ≡ staticVal (usbOf image at (r .start))) (pb : optionOf b ≡ endNumber (r .«end»))
-    (pk : optionOf k ≡ widthOf (usbOf image at (r .start)) (usbOf image at e)) (ch : Checked)
+    (pk : optionOf k ≡ widthBetween (usbOf image at (r .start)) (usbOf image at e)) (ch : Checked)
     (told : resultOf ch ≡ literalChecks (pos w) (optionOf a) (optionOf b) (optionOf k)) (bits : List ℕ) (len : length bits ≡ w) where
   tests : let s = usbOf image at (r .start) in let o = optionUsbOf image at (r .«end») in
-      resultOf ch ≡ literalChecks (pos w) (staticVal s) (endVal o) (widthOf s (endOr w o))
-  tests = told ∙ same-checks (pos w) pa (pb ∙ sym (end-is image at (r .«end»))) (pk ∙ ap (widthOf (usbOf image at (r .start))) ends)
+      resultOf ch ≡ literalChecks (pos w) (staticVal s) (endVal o) (widthBetween s (endOr w o))
+  tests = told ∙ same-checks (pos w) pa (pb ∙ sym (end-is image at (r .«end»))) (pk ∙ ap (widthBetween (usbOf image at (r .start))) ends)
 
   whole : andThen (resultOf ch) (ok (cutBetween bits (usbOf image at (r .start)) (endOr w (optionUsbOf image at (r .«end»))))) ≡ simplifyLiteral bits (usbrOf image at r)
   whole = rw tests (rw (← len) (literal-is bits (usbrOf image at r)))
@@ -108,7 +108,7 @@ module _ (image : List ℕ) (at w : ℕ) (small : w < 2 ^ 64) (r : Usbr) (e : Us
   literal-ok q n h =
       let s = usbOf image at (r .start) in
       let o = optionUsbOf image at (r .«end») in
-      let f = checks-pass (pos w) (staticVal s) (endVal o) (widthOf s (endOr w o)) (sym tests ∙ ap resultOf q) in
+      let f = checks-pass (pos w) (staticVal s) (endVal o) (widthBetween s (endOr w o)) (sym tests ∙ ap resultOf q) in
       let start : IsPlace (staticVal s) = start-place w (staticVal s) small n (f .0) in
       let stop : IsPlace (staticVal (usbOf image at e)) = subst (λ (u : D.Usb). IsPlace (staticVal u)) (sym ends) (end-place w o small (f .1) (f .2)) in
       ap ok (h start stop ∙ ap (cutBetween bits s) ends) ∙ (rw q at whole)

@@ -3,7 +3,7 @@ use mathlib.Core.Path.{_≡_, refl, sym, ap, _∙_}
 use mathlib.Core.List.{append-assoc, append-nil}
 use Rattle.definition.specs.Prelude.{Bool, true, false, _&&_, Option, none, some, List, [], _∷_, _++_}
 use Rattle.definition.specs.Basics.{if_then_else_}
-use Rattle.definition.specs.Numbers.{char}
+use Rattle.definition.specs.Characters.{char}
 use Rattle.definition.specs.Text.{Item, isToken}
 use Rattle.definition.specs.Ranges.{Cut, behind, cutLast, cutPair, orElse}
 

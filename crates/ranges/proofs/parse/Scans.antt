@@ -34,7 +34,7 @@ HeldBy image text run cur (S.Refused r) = Unit
 pub record Scanning (image : List ℕ) (text : ℕ) (run cur : Run) (s : Scan) : Type 0 where
   pub walked : Walked image text run cur
   pub held : Held image text run cur s
-  pub result : Ranges.scan (itemsOf image text run) ≡ scanFrom (count image text run cur) (itemsOf image text cur) (scanOf image text run s)
+  pub result : Ranges.scanDots (itemsOf image text run) ≡ scanFrom (count image text run cur) (itemsOf image text cur) (scanOf image text run s)
 
 pub ok-scan : {d e : ℕ} {f g : Option (ℕ × ℕ)} {b : Bool} → d ≡ e → f ≡ g
     → _≡_ {A = Result Ranges.Scan} (ok (record { dots = d; found = f; inclusive = b })) (ok (record { dots = e; found = g; inclusive = b }))

@@ -52,7 +52,7 @@ step-by n i st p q e f = rw (← e, ← f)
 -- ---- at the end
 
 module _ (image : List ℕ) (text : ℕ) (run cur : Run) (s : Scan) (h : Scanning image text run cur s) (z : cur .left ≡ 0) where
-  at-end : Ranges.scan (itemsOf image text run) ≡ scanFrom (count image text run cur) [] (scanOf image text run s)
+  at-end : Ranges.scanDots (itemsOf image text run) ≡ scanFrom (count image text run cur) [] (scanOf image text run s)
   at-end =
       h .result
       ∙ ap (λ is. scanFrom (count image text run cur) is (scanOf image text run s)) (ap (itemsAt image text (cur .at) (cur .r)) z ∙ items-none image text (cur .at) (cur .r))
@@ -130,7 +130,7 @@ module _ (image : List ℕ) (text : ℕ) (run cur : Run) (i : Item) (next : Run)
   step-held : HeldBy image text run next (scannedBy s i cur next)
   step-held = by-test (tokenOf 46 i) (λ e. rw e dotted-held) (λ e. rw e (undotted-held (tokenOf 61 i)))
 
-  on : Ranges.scan (itemsOf image text run)
+  on : Ranges.scanDots (itemsOf image text run)
       ≡ (resultScan image text run (scannedBy s i cur next) >>= scanFrom (suc (count image text run cur)) (itemsOf image text next))
   on =
       h .result

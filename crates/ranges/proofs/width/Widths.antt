@@ -13,15 +13,15 @@ use Rattle.ranges.specs.declared.Usb.{Usb}
 use Rattle.ranges.specs.declared.Usbr.{Usbr}
 use Rattle.ranges.specs.declared.OptionUsb.the-variants as O
 use Rattle.ranges.specs.Usb.{bytesOf, usbOf, usbrOf}
-use Rattle.ranges.specs.width.Width.{widthOf}
+use Rattle.ranges.specs.width.Width.{widthBetween}
 
 module _ (image : List ℕ) (at : ℕ) where
   module _ (a b : Usb) (t : Bool) (told : t ≡ sameBytes (bytesOf image at (a .s)) (bytesOf image at (b .s))) where
-    pub width-known : {x : Option ℤ} → t ≡ true → x ≡ narrow (valueOf (b .x) -ℤ valueOf (a .x)) → x ≡ widthOf (usbOf image at a) (usbOf image at b)
+    pub width-known : {x : Option ℤ} → t ≡ true → x ≡ narrow (valueOf (b .x) -ℤ valueOf (a .x)) → x ≡ widthBetween (usbOf image at a) (usbOf image at b)
     width-known e h = h ∙ sym (rw (sym told ∙ e))
 
-    pub width-unknown : t ≡ false → none ≡ widthOf (usbOf image at a) (usbOf image at b)
+    pub width-unknown : t ≡ false → none ≡ widthBetween (usbOf image at a) (usbOf image at b)
     width-unknown e = sym (rw (sym told ∙ e))
 
-  pub width-told : (r : Usbr) (e : Usb) {x : Option ℤ} → r .«end» ≡ O.Some e → x ≡ widthOf (usbOf image at (r .start)) (usbOf image at e) → x ≡ staticWidth (usbrOf image at r)
+  pub width-told : (r : Usbr) (e : Usb) {x : Option ℤ} → r .«end» ≡ O.Some e → x ≡ widthBetween (usbOf image at (r .start)) (usbOf image at e) → x ≡ staticWidth (usbrOf image at r)
   width-told r e p h = rw p h

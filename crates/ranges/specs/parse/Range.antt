@@ -5,7 +5,7 @@ use Rattle.definition.specs.Basics.{Result, ok, _>>=_, if_then_else_}
 use Rattle.definition.specs.Refusals.{bound-overflow}
 use Rattle.definition.specs.Text as Text
 use Rattle.definition.specs.Ranges as Ranges
-use Rattle.definition.specs.Ranges.{withX, parseStart, parseEnd, parseRange, scan}
+use Rattle.definition.specs.Ranges.{withX, parseStart, parseEnd, parseRange, scanDots}
 use Rattle.errors.specs.Refused.{refusedAs}
 use Rattle.image.specs.items.Run.{itemsOf}
 use Rattle.image.specs.declared.items.Run.{Run}
@@ -37,7 +37,7 @@ abbrev pub scannedAs : List Text.Item → Ranges.Scan → Result (Option Ranges.
 scannedAs is st = elim (st .found) [ none ↦ ok none | some f ↦ rangeOf (st .inclusive) (take (f .0) is) (drop (f .1) is) ]
 
 abbrev pub scannedRange : List Text.Item → Result (Option Ranges.Usbr)
-scannedRange is = scan is >>= scannedAs is
+scannedRange is = scanDots is >>= scannedAs is
 
 -- it is the definition's
 pub range-some : (i : Text.Item) (is : List Text.Item) → parseRange (i ∷ is) ≡ scannedRange (i ∷ is)

@@ -2,7 +2,7 @@
 use mathlib.Core.Path.{_≡_}
 use Rattle.definition.specs.Prelude.{ℕ, Bool, true, false, none, some, List, length, eqb}
 use Rattle.definition.specs.Basics.{Result, ok, if_then_else_}
-use Rattle.definition.specs.Numbers.{char}
+use Rattle.definition.specs.Characters.{char}
 use Rattle.definition.specs.Ranges as Ranges
 use Rattle.errors.specs.Refused.{refusedAs}
 use Rattle.image.specs.items.Run.{itemsOf, tokenOf}
@@ -52,5 +52,5 @@ Places image text run (S.Going s) = (s .found ≡ true) → Walked image text ru
 Places image text run (S.Refused r) = Unit
 
 pub record ScanIs (image : List ℕ) (text : ℕ) (run : Run) (q : Scanned) : Type 0 where
-  pub result : resultScan image text run q ≡ Ranges.scan (itemsOf image text run)
+  pub result : resultScan image text run q ≡ Ranges.scanDots (itemsOf image text run)
   pub places : Places image text run q

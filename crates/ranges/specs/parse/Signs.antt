@@ -2,7 +2,7 @@
 use mathlib.Core.Path.{_≡_}
 use Rattle.definition.specs.Prelude.{ℕ, _+_, List}
 use Rattle.definition.specs.Basics.{if_then_else_}
-use Rattle.definition.specs.Numbers.{char}
+use Rattle.definition.specs.Characters.{char}
 use Rattle.definition.specs.Ranges.{orElse, cutBound}
 use Rattle.image.specs.items.Run.{itemsOf, lengthOf}
 use Rattle.image.specs.declared.items.Run.{Run}

@@ -2,7 +2,7 @@
 use mathlib.Core.Path.{_≡_, refl}
 use Rattle.definition.specs.Prelude.{Bool, Option, none, some, _∷_, ℤ, pos, _+ℤ_, _-ℤ_}
 use Rattle.definition.specs.Basics.{Result, ok, _>>=_, if_then_else_}
-use Rattle.definition.specs.Numbers.{char}
+use Rattle.definition.specs.Characters.{char}
 use Rattle.definition.specs.Refusals.{refuse, bound-overflow}
 use Rattle.definition.specs.Text.{Part, isToken, partOf}
 use Rattle.definition.specs.Ranges.{Usb, Cut, text, withX, numberIn, side, joinSides}

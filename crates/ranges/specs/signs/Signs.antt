@@ -1,7 +1,7 @@
 -- The signs of a bound: the last plus, the first of the leftmost pair of minuses, and the last minus.
 use Rattle.definition.specs.Prelude.{ℕ, _+_, Bool, true, false, _&&_, not, eqb}
 use Rattle.definition.specs.Basics.{if_then_else_}
-use Rattle.definition.specs.Numbers.{char}
+use Rattle.definition.specs.Characters.{char}
 use Rattle.image.specs.items.Run.{tokenOf}
 use Rattle.image.specs.declared.items.Item.{Item}
 use Rattle.image.specs.declared.items.Run.{Run}

@@ -9,7 +9,7 @@ use Rattle.errors.specs.Refused.{refusedAs}
 use Rattle.ranges.specs.declared.OptionUsb.{OptionUsb}
 use Rattle.ranges.specs.declared.OptionUsb.the-variants as O
 use Rattle.ranges.specs.Usb.{optionUsbOf}
-pub use Rattle.ranges.specs.width.Width.{widthOf}
+pub use Rattle.ranges.specs.width.Width.{widthBetween}
 use Rattle.ranges.specs.Checks.{needed, andThen, passes, endVal}
 use Rattle.ranges.specs.declared.simplify.ResultEnd.{ResultEnd}
 use Rattle.ranges.specs.declared.simplify.ResultEnd.the-variants as R

@@ -2,10 +2,10 @@
 use mathlib.Core.Path.{_≡_, refl, sym, _∙_, ap}
 use borrow.Author.Tests.{eq-eqb, ne-eqb}
 use Rattle.definition.specs.Prelude.{ℕ, Option, none, some, Bool, true, false, not, _&&_, _||_, List, [], _∷_, eqb}
-use Rattle.definition.specs.Basics.{Result, ok, refused, _>>=_, placed, if_then_else_}
+use Rattle.definition.specs.Basics.{Result, ok, refused, _>>=_, withPlaces, if_then_else_}
 use Rattle.definition.specs.Refusals.{need, refuse, middle-filler, unequal-widths, filler-without-start, numberOf}
 use Rattle.definition.specs.Concatenation.{Concatenation, isAlign, align-mid}
-use Rattle.definition.specs.Overall.{Overall, joinWidth, checkSource, overall, joinAlign, isSided}
+use Rattle.definition.specs.Overall.{Overall, joinWidth, checkSource, overallStart, joinAlign, isSided}
 use Rattle.numbers.specs.Value.{optionUsize}
 use Rattle.stages.specs.concatenation.alignment.Align.{alignOf}
 use Rattle.stages.specs.declared.concatenation.alignment.align.FillerAlign.{FillerAlign as Align}
@@ -33,7 +33,7 @@ joins c s h at w o d n e f = rw (e, f, h .align-is, h .deterministic-is, h .nonz
 
 -- checkSource by the place of the first filler
 abbrev sourceAs : Bool → ℕ → Option ℕ → Result Unit
-sourceAs bare i p = elim p [ none ↦ ok tt | some k ↦ placed 0 k (need (not (bare && eqb i 0)) filler-without-start) ]
+sourceAs bare i p = elim p [ none ↦ ok tt | some k ↦ withPlaces 0 k (need (not (bare && eqb i 0)) filler-without-start) ]
 
 module _ (bare : Bool) (i : ℕ) (c : Concatenation) where
   -- where it counts, and where it does not
@@ -58,22 +58,22 @@ pub turn-off : (bare : Bool) (i : ℕ) (c : Concatenation) (o : Overall) (n a b 
 turn-off bare i c o n a b e = rw (sym e)
 
 -- what the loop starts with
-pub starts-none : (l : List Concatenation) (n : ℕ) (s : Summary) → StartsAs l n s → n ≡ 0 → overall [] ≡ overall l
+pub starts-none : (l : List Concatenation) (n : ℕ) (s : Summary) → StartsAs l n s → n ≡ 0 → overallStart [] ≡ overallStart l
 starts-none [] n s h e = refl
 starts-none (c ∷ l) n s h e = absurd (h .1 e)
 
 pub starts-some :
     (l : List Concatenation) (n : ℕ) (s : Summary) → StartsAs l n s → (n ≡ 0 → ⊥)
-    → record { align = alignOf (s .align); width = optionUsize (s .width); known = 0; deterministic = s .deterministic; nonzero = false } ≡ overall l
+    → record { align = alignOf (s .align); width = optionUsize (s .width); known = 0; deterministic = s .deterministic; nonzero = false } ≡ overallStart l
 starts-some [] n s h e = absurd (e h)
 starts-some (c ∷ l) n s h e = rw (h .0 .align-is, h .0 .width-is, h .0 .deterministic-is)
 
 -- 44 of one concatenation
 module _ (i : ℕ) (c : Concatenation) where
   pub middle-here : isAlign (c .align) align-mid ≡ true → (p : Option ℕ) → p ≡ unboundedIn c → refusedBy (numberOf middle-filler) i p ≡ middleAt i c
-  middle-here t p e = rw t (go p ∙ ap (λ (q : Option ℕ). elim q [ none ↦ ok tt | some k ↦ placed i k (refuse middle-filler) ]) e)
+  middle-here t p e = rw t (go p ∙ ap (λ (q : Option ℕ). elim q [ none ↦ ok tt | some k ↦ withPlaces i k (refuse middle-filler) ]) e)
     where
-      go : (p : Option ℕ) → refusedBy (numberOf middle-filler) i p ≡ elim p [ none ↦ ok tt | some k ↦ placed i k (refuse middle-filler) ]
+      go : (p : Option ℕ) → refusedBy (numberOf middle-filler) i p ≡ elim p [ none ↦ ok tt | some k ↦ withPlaces i k (refuse middle-filler) ]
       go none = refl
       go (some k) = refl
 

@@ -3,7 +3,7 @@ use mathlib.Core.Path.{_≡_}
 use Prim.Native.Nat.{_≤_, _<_}
 use lib.Seq.{sets}
 use Rattle.definition.specs.Prelude.{ℕ, zero, suc, _+_, _*_, _/_, _^_, Bool, true, false, Option, none, some, List, [], _∷_, length, take, eqb, leb}
-use Rattle.definition.specs.Basics.{Result, ok, refused, _>>=_, placed, if_then_else_, joined}
+use Rattle.definition.specs.Basics.{Result, ok, refused, _>>=_, withPlaces, if_then_else_, joined}
 use Rattle.definition.specs.Image.{Unparsed, Placed, bytesFor, treeOf}
 use Rattle.definition.specs.Tree.{Node, recsOf, allRecs, literalsOf}
 use Rattle.definition.specs.Component as Def
@@ -99,9 +99,9 @@ pub record TurnIs (image : List ℕ) (i j : ℕ) (scanned : Bool) (s : ℕ) (n :
   pub l : r .l ≡ w .l + bytesFor (length (n .bits))
   pub long : length words′ ≡ length words
   pub before : take (11 * w .k .0) words′ ≡ take (11 * w .k .0) words
-  pub first : resultOf (r .first) ≡ placed i j (verdict (stage1Component scanned (nodeOf n)))
+  pub first : resultOf (r .first) ≡ withPlaces i j (verdict (stage1Component scanned (nodeOf n)))
   pub second : (d : Def.Component) → stage1Component scanned (nodeOf n) ≡ ok d
-      → resultOf (r .second) ≡ (resultOf (w .second) >>= λ _. placed i j (verdict (simplify d)))
+      → resultOf (r .second) ≡ (resultOf (w .second) >>= λ _. withPlaces i j (verdict (simplify d)))
   pub kept : (d : Def.Component) → (stage1Component scanned (nodeOf n) >>= simplify) ≡ ok d
       → (row : Row) × RowIs image row (record { base = s; value = d }) × (words′ ≡ sets words (11 * w .k .0) (fieldsOf row))
 

@@ -3,7 +3,7 @@ use mathlib.Core.Path.{_≡_}
 use mathlib.Core.Logic.{_⊎_}
 use Prim.Native.Nat.{_≤_, _<_}
 use Rattle.definition.specs.Prelude.{ℕ, zero, suc, _+_, _*_, _-_, _^_, Bool, true, false, _&&_, not, Option, none, some, List, [], _∷_, length, eqb}
-use Rattle.definition.specs.Basics.{Result, ok, _>>=_, placed, if_then_else_, isEmpty, sum, joined, tab}
+use Rattle.definition.specs.Basics.{Result, ok, _>>=_, withPlaces, if_then_else_, isEmpty, sum, joined, tab}
 use Rattle.definition.specs.Refusals.{need, empty-after-colon}
 use Rattle.definition.specs.Image.{Placed, u32At, treeOf, componentCount}
 use Rattle.definition.specs.Tree as Tree
@@ -55,7 +55,7 @@ pub record ColonAt (image : List ℕ) (t : Table) (r colon to : ℕ) : Type 0 wh
 abbrev pub prefixValue : ℕ → ℕ → Option Prefix → Result (Option (Placed Text.Part))
 prefixValue base k none = ok none
 prefixValue base k (some p) = do
-  _ ← placed 0 k (need (not (isEmpty (p .after))) empty-after-colon)
+  _ ← withPlaces 0 k (need (not (isEmpty (p .after))) empty-after-colon)
   ok (some (record { base = base; value = Text.partOf (p .before) }))
 
 -- in code: none where no record stands behind a colon

@@ -1,7 +1,7 @@
 -- What stage 4 reads of a concatenation, its answer in code, and its steps.
 use Rattle.definition.specs.Prelude.{ℕ, suc, Bool, true, false, not, _&&_, _||_, Option, none, some, List, [], _∷_, length, eqb}
 use mathlib.Core.Path.{_≡_}
-use Rattle.definition.specs.Basics.{Result, ok, refused, _>>=_, placed, if_then_else_}
+use Rattle.definition.specs.Basics.{Result, ok, refused, _>>=_, withPlaces, if_then_else_}
 use Rattle.definition.specs.Refusals.{need, refuse, no-common-width, only-source, middle-filler, opposite-fillers}
 use Rattle.definition.specs.Image.{Placed}
 use Rattle.definition.specs.Component.{Component}
@@ -65,14 +65,14 @@ turn bare i c o = joinWidth i c o >>= λ o′. checkSource bare i c >>= λ _. ok
 
 -- what middleFrom says of one concatenation
 abbrev pub middleAt : ℕ → Concatenation → Result Unit
-middleAt i c = if isAlign (c .align) align-mid then elim (unboundedIn c) [ none ↦ ok tt | some k ↦ placed i k (refuse middle-filler) ] else ok tt
+middleAt i c = if isAlign (c .align) align-mid then elim (unboundedIn c) [ none ↦ ok tt | some k ↦ withPlaces i k (refuse middle-filler) ] else ok tt
 
 abbrev pub isOpposite : Concatenation → Concatenation → Bool
 isOpposite c d = isSided (c .align) && isSided (d .align) && not (isAlign (c .align) (d .align))
 
 -- what oppositeFrom says of concatenation i and the place of the first after it that is opposite to it
 abbrev pub oppositeAs : ℕ → Option ℕ → Result Unit
-oppositeAs i p = elim p [ none ↦ ok tt | some j ↦ placed i j (refuse opposite-fillers) ]
+oppositeAs i p = elim p [ none ↦ ok tt | some j ↦ withPlaces i j (refuse opposite-fillers) ]
 
 -- the same of a concatenation and those after it
 abbrev pub oppositeAt : ℕ → Concatenation → List Concatenation → Result Unit

@@ -4,7 +4,7 @@ use Prim.Native.Nat.{_≤_, _<_}
 use Rattle.definition.specs.Prelude.{ℕ, suc, _+_, _-_, Bool, true, false, Option, none, some, List, length, take, drop, eqb}
 use Rattle.definition.specs.Basics.{Result, ok, refused, _>>=_, if_then_else_}
 use Rattle.definition.specs.Text.{Item}
-use Rattle.definition.specs.Ranges.{Usb, Usbr, Scan, scan, parseStart, parseEnd}
+use Rattle.definition.specs.Ranges.{Usb, Usbr, Scan, scanDots, parseStart, parseEnd}
 use Rattle.stages.specs.token_tree.Table.{startIn, RecordFits}
 use Rattle.stages.specs.token_tree.Laid.{Laid, Runs, placeOf}
 use Rattle.stages.specs.ranges.Values.{RangeReads}
@@ -66,7 +66,7 @@ dotsResult image t r n (refused m i k) = refusedDots m
 
 -- what `dots_in` gives: the definition's scan of the items
 abbrev pub dotsIn : List ℕ → Tree → ℕ → List Item → Dots
-dotsIn image t r is = dotsResult image t r (length is) (scan is)
+dotsIn image t r is = dotsResult image t r (length is) (scanDots is)
 
 -- ---- the range of a run whose dots were found from item lo up to item hi
 

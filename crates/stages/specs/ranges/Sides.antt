@@ -3,7 +3,8 @@ use mathlib.Core.Path.{_≡_, refl}
 use Prim.Native.Nat.{_≤_, _<_}
 use Rattle.definition.specs.Prelude.{ℕ, _+_, Bool, Option, none, some, List, _∷_, length, eqb, getD, ℤ, pos, _+ℤ_, _-ℤ_}
 use Rattle.definition.specs.Basics.{Result, ok, _>>=_, if_then_else_}
-use Rattle.definition.specs.Numbers.{char, narrow}
+use Rattle.definition.specs.Characters.{char}
+use Rattle.definition.specs.Numbers.{narrow}
 use Rattle.definition.specs.Refusals.{refuse, bound-overflow, overflow}
 use Rattle.definition.specs.Image.{bytesAt}
 use Rattle.definition.specs.Text.{Part, Item, noText, isToken, partOf}

@@ -1,7 +1,7 @@
 -- The signs of a bound in code, and the definition's cuts: a cut by the record of its sign, 0 for none.
 use Rattle.definition.specs.Prelude.{ℕ, _+_, Option, none, some, List, length, eqb}
 use Rattle.definition.specs.Basics.{if_then_else_}
-use Rattle.definition.specs.Numbers.{char}
+use Rattle.definition.specs.Characters.{char}
 use Rattle.definition.specs.Text.{Item, isToken}
 use Rattle.definition.specs.Ranges.{Cut, cutLast, cutPair, cutBound}
 use Rattle.stages.specs.token_tree.Laid.{placeOf}

@@ -8,7 +8,7 @@ use numbers::OptionUsize;
 ghost use mathlib.Core.Path.{_≡_};
 ghost use mathlib.Core.List.{List};
 ghost use Rattle.definition.specs.Concatenation.{Concatenation};
-ghost use Rattle.definition.specs.Overall.{joinWidth, overall};
+ghost use Rattle.definition.specs.Overall.{joinWidth, overallStart};
 ghost use Rattle.errors.specs.Refused.{resultOf};
 ghost use Rattle.numbers.specs.Value.{optionUsize};
 ghost use Rattle.stages.specs.concatenation.Overall.{overallOf, answerOf, HasSummary, StartsAs, joined as joinedOf, andThen, placeOf, oppositeAs};
@@ -93,7 +93,7 @@ pub(crate) fn after(a: Checked, r: OverallResult) -> OverallResult
 
 // What the loop starts with: concatenation 0, if there is one.
 pub(crate) fn start(n: usize, s: Summary) -> Overall
-    ensures { λ q. ⌜ ((l : List Concatenation) → StartsAs l n s → overallOf q ≡ overall l) ⌝ }
+    ensures { λ q. ⌜ ((l : List Concatenation) → StartsAs l n s → overallOf q ≡ overallStart l) ⌝ }
 {
     let align = s.align;
     let width = s.width;

@@ -25,7 +25,7 @@ ghost use Rattle.definition.specs.Basics.{refused};
 ghost use Rattle.definition.specs.Image.{Placed};
 ghost use Rattle.definition.specs.Component.{Component};
 ghost use Rattle.definition.specs.Concatenation as Def;
-ghost use Rattle.definition.specs.Overall.{checkSource, overallFrom, overall, middleFrom, oppositeFrom, placeFrom, stage4 as stage4Of};
+ghost use Rattle.definition.specs.Overall.{checkSource, overallFrom, overallStart, middleFrom, oppositeFrom, placeFrom, stage4 as stage4Of};
 ghost use Rattle.errors.specs.Refused.{resultOf};
 ghost use Rattle.numbers.specs.Value.{optionUsize};
 ghost use Rattle.stages.specs.component.Kept.{KeptFrom};
@@ -87,7 +87,7 @@ fn joined_at(bare: bool, heads: &[u64], words: &[u64], n: u32, i: u32, o: Overal
 fn overall_of(bare: bool, heads: &[u64], words: &[u64], image: &[u8], c: u32) -> OverallResult
     requires { ⌜ ((cc : List (List (Placed Component))) × CountsFit (now image) cc c (length (now words)) (length (now heads))) ⌝ }
     ensures { λ q. ⌜ ((ds : List Def.Concatenation) → Judged (now (image .entry)) (now (words .entry)) (now (heads .entry)) c ds
-        → answerOf q ≡ overallFrom bare 0 ds (overall ds)) ⌝ }
+        → answerOf q ≡ overallFrom bare 0 ds (overallStart ds)) ⌝ }
 {
     let n = components_of(image, 0);
     let mut o = start(c as usize, summary_at(heads, 0));

@@ -5,14 +5,14 @@ use Prim.Native.Nat.{_%_, _^_}
 use lib.Seq.{sets}
 use borrow.Author.Needs.{needs}
 use Rattle.definition.specs.Tree.{u32}
-use Rattle.definition.specs.Answer.{textBytes}
+use Rattle.answer.specs.Blocks.{textBlock}
 use Rattle.answer.specs.words.Writing.{sets-out, and-then}
 use Rattle.answer.proofs.words.Blocks.{text-of}
 use Rattle.answer.proofs.words.put_text.Statement.{statement}
 use Rattle.answer.proofs.words.put_text.Tie as tie
 
 returns : tie.Need-returns
-returns c = λ d _ _. sets-out _ _ (textBytes (c .before .before .args .base) d) (c .if1 .taken)
+returns c = let a = c .before .before .args in sets-out _ _ (textBlock (a .base) (a .p)) (c .if1 .taken)
 
 returns-2 : tie.Need-returns-2
 returns-2 c =
@@ -20,8 +20,8 @@ returns-2 c =
     let p1 = p2 .before .before .before .before .before in
     let a = p1 .before .before .before .before .before .args in
     let r = p1 .before .text-start in
-    λ d p q. and-then (a .area .now) (a .at) 4 (u32 (r .result)) (u32 (a .p .len % 2 ^ 32)) (p1 .put-u32 .ensures) refl (p2 .put-u322 .ensures)
-    ∙ ap (sets (a .area .now) (a .at)) (text-of (a .base) d (r .ensures) p q)
+    and-then (a .area .now) (a .at) 4 (u32 (r .result)) (u32 (a .p .len % 2 ^ 32)) (p1 .put-u32 .ensures) refl (p2 .put-u322 .ensures)
+    ∙ ap (sets (a .area .now) (a .at)) (text-of (a .base) (a .p) (r .ensures))
 
 pub put-text-spec : {M : Type 1} → statement M
 put-text-spec =

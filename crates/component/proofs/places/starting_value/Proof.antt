@@ -1,6 +1,6 @@
 use mathlib.Core.Path.{_≡_, ap, _∙_}
 use borrow.Author.Needs.{needs}
-use Rattle.definition.specs.Basics.{placed}
+use Rattle.definition.specs.Basics.{withPlaces}
 use Rattle.component.proofs.Starts.{start-none, start-refused, start-part}
 use Rattle.component.proofs.places.starting_value.Statement.{statement}
 use Rattle.component.proofs.places.starting_value.Tie as tie
@@ -20,7 +20,7 @@ returns-2 c =
     let v = c .before .before .before .before .before .p .given in
     let t = c .before .before .before .is-empty in
     λ base. start-refused (a .image .now) (a .k) (a .place) (s .result) (o .result) (s .ensures) (o .ensures) base (v .0 .0) (v .0 .1 .0) (v .1) (t .result)
-    (t .ensures (a .image .now)) (c .placed-at .result) (c .placed-at .ensures ∙ ap (placed 0 (a .k)) (c .before .refuse .ensures))
+    (t .ensures (a .image .now)) (c .placed-at .result) (c .placed-at .ensures ∙ ap (withPlaces 0 (a .k)) (c .before .refuse .ensures))
     (c .before .before .if1 .taken)
 
 returns-3 : tie.Need-returns-3

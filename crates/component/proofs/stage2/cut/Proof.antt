@@ -5,10 +5,10 @@ use Rattle.component.proofs.stage2.cut.Statement.{statement}
 use Rattle.component.proofs.stage2.cut.Tie as tie
 
 add-t6 : tie.Need-add-t6
-add-t6 c = let l = c .before .least .ensures .second in omega arith
+add-t6 c = omega (arith, c .before .least .ensures)
 
 add-t8 : tie.Need-add-t8
-add-t8 c = let l = c .before .least2 .ensures .second in omega arith
+add-t8 c = omega (arith, c .before .least2 .ensures)
 
 returns : tie.Need-returns
 returns c =

@@ -2,7 +2,7 @@
 -- Assumes nothing.
 use mathlib.Core.Path.{sym, _∙_, ap}
 use borrow.Author.Needs.{needs}
-use Rattle.concatenation.specs.Overall.{placeOf}
+use Rattle.concatenation.specs.Overall.{placeOf, summaryOf}
 use Rattle.concatenation.proofs.Summaries.{source-none, source-bad, source-good}
 use Rattle.concatenation.proofs.overall.check_source.Statement.{statement}
 use Rattle.concatenation.proofs.overall.check_source.Tie as tie
@@ -16,7 +16,7 @@ enum-told c = search needs
 returns : tie.Need-returns
 returns c =
     let p = c .before .before .args in
-    λ d h. source-none (p .bare) (p .i) d (p .s) h (ap placeOf (c .enum-told .given .1))
+    source-none (p .bare) (p .i) (summaryOf (p .s)) (ap placeOf (c .enum-told .given .1))
 
 both-requires : tie.Need-both-requires
 both-requires c κs = search needs
@@ -24,13 +24,13 @@ both-requires c κs = search needs
 returns-2 : tie.Need-returns-2
 returns-2 c =
     let p = c .before .before .before .before .before .args in
-    λ d h. source-bad (p .bare) (p .i) d (p .s) h (c .before .before .before .filler .given .0 .0) (ap placeOf (c .before .before .before
+    source-bad (p .bare) (p .i) (summaryOf (p .s)) (c .before .before .before .filler .given .0 .0) (ap placeOf (c .before .before .before
     .filler .given .1)) (sym (c .before .both .ensures) ∙ c .if1 .taken)
 
 returns-3 : tie.Need-returns-3
 returns-3 c =
     let p = c .before .before .before .before .before .args in
-    λ d h. source-good (p .bare) (p .i) d (p .s) h (c .before .before .before .filler .given .0 .0) (ap placeOf (c .before .before .before
+    source-good (p .bare) (p .i) (summaryOf (p .s)) (c .before .before .before .filler .given .0 .0) (ap placeOf (c .before .before .before
     .filler .given .1)) (sym (c .before .both .ensures) ∙ c .if1 .left)
 
 pub check-source-spec : {M : Type 1} → statement M

@@ -3,7 +3,8 @@
 use mathlib.Core.Path.{sym, _∙_, ap}
 use borrow.Author.Needs.{needs}
 use Rattle.definition.specs.Basics.{Result, ok}
-use Rattle.concatenation.specs.Overall.{overallOf, answerOf, andThen}
+use Rattle.concatenation.specs.Overall.{summaryOf, overallOf, answerOf}
+use Rattle.concatenation.specs.Summaries.{andThen}
 use Rattle.concatenation.proofs.Summaries.{turn-on, turn-off}
 use Rattle.concatenation.proofs.overall.join.Statement.{statement}
 use Rattle.concatenation.proofs.overall.join.Tie as tie
@@ -26,15 +27,17 @@ enum-known-e c = search needs
 returns : tie.Need-returns
 returns c =
     let p = c .before .before .before .before .before .before .args in
-    λ d h. c .after .ensures ∙ ap (λ (a : Result Unit). andThen a (ok (overallOf (c .before .before .before .p .given .0 .0)))) (c .before
-    .check-source .ensures d h) ∙ turn-on (p .bare) (p .i) d (overallOf (p .o)) (overallOf (c .before .before .before .p .given .0 .0))
-    (sym (ap answerOf (c .before .before .before .p .given .1)) ∙ c .before .before .before .before .before .join-width .ensures d h)
+    let o = overallOf (c .before .before .before .p .given .0 .0) in
+    c .after .ensures ∙ ap (λ (a : Result Unit). andThen a (ok o)) (c .before .check-source .ensures)
+    ∙ turn-on (p .bare) (p .i) (summaryOf (p .s)) (overallOf (p .o)) o
+    (sym (ap answerOf (c .before .before .before .p .given .1)) ∙ c .before .before .before .before .before .join-width .ensures)
 
 returns-2 : tie.Need-returns-2
 returns-2 c =
     let p = c .before .before .before .before .args in
-    λ d h. turn-off (p .bare) (p .i) d (overallOf (p .o)) (c .before .e .given .0 .0 .number) (c .before .e .given .0 .0 .concatenation) (c
-    .before .e .given .0 .0 .component) (sym (ap answerOf (c .before .e .given .1)) ∙ c .before .before .before .join-width .ensures d h)
+    let e = c .before .e .given .0 .0 in
+    turn-off (p .bare) (p .i) (summaryOf (p .s)) (overallOf (p .o)) (e .number) (e .concatenation) (e .component)
+    (sym (ap answerOf (c .before .e .given .1)) ∙ c .before .before .before .join-width .ensures)
 
 pub join-spec : {M : Type 1} → statement M
 join-spec =

@@ -4,7 +4,7 @@ use mathlib.Core.Path.{sym, _∙_, ap}
 use borrow.Author.Needs.{needs}
 use Rattle.definition.specs.Basics.{ok}
 use Rattle.numbers.specs.Value.{optionUsize}
-use Rattle.concatenation.specs.Overall.{overallOf}
+use Rattle.concatenation.specs.Overall.{summaryOf, overallOf}
 use Rattle.concatenation.proofs.Summaries.{width-unknown, width-first, width-same, width-differs}
 use Rattle.concatenation.proofs.overall.join_width.Statement.{statement}
 use Rattle.concatenation.proofs.overall.join_width.Tie as tie
@@ -21,8 +21,7 @@ joined-requires c κs = search needs
 returns : tie.Need-returns
 returns c =
     let p = c .before .before .before .args in
-    λ d h. ap ok (c .joined .ensures d h) ∙ sym (width-unknown (p .i) d (overallOf (p .o)) (sym (h .width-is) ∙ ap optionUsize (c .before
-    .enum-told .given .1)))
+    ap ok (c .joined .ensures) ∙ sym (width-unknown (p .i) (summaryOf (p .s)) (overallOf (p .o)) (ap optionUsize (c .before .enum-told .given .1)))
 
 enum-known-so-far : tie.Need-enum-known-so-far
 enum-known-so-far c = search needs
@@ -36,9 +35,9 @@ joined-requires-2 c κs = search needs
 returns-2 : tie.Need-returns-2
 returns-2 c =
     let p = c .before .before .before .before .before .before .args in
-    λ d h. ap ok (c .joined2 .ensures d h) ∙ sym (width-first (p .i) d (overallOf (p .o)) (c .before .before .before .before .width .given
-    .0 .0) (sym (h .width-is) ∙ ap optionUsize (c .before .before .before .before .width .given .1)) (ap optionUsize (c .before .enum-told2
-    .given .1)))
+    let w = c .before .before .before .before .width .given in
+    ap ok (c .joined2 .ensures) ∙ sym (width-first (p .i) (summaryOf (p .s)) (overallOf (p .o)) (w .0 .0) (ap optionUsize (w .1))
+    (ap optionUsize (c .before .enum-told2 .given .1)))
 
 joined-requires-3 : tie.Need-joined-requires-3
 joined-requires-3 c κs = search needs
@@ -46,16 +45,17 @@ joined-requires-3 c κs = search needs
 returns-3 : tie.Need-returns-3
 returns-3 c =
     let p = c .before .before .before .before .before .before .before .before .args in
-    λ d h. ap ok (c .joined3 .ensures d h) ∙ sym (width-same (p .i) d (overallOf (p .o)) (c .before .before .before .before .before .before
-    .width .given .0 .0) (c .before .before .before .so-far .given .0 .0) (sym (h .width-is) ∙ ap optionUsize (c .before .before .before
-    .before .before .before .width .given .1)) (ap optionUsize (c .before .before .before .so-far .given .1)) (c .before .if1 .taken))
+    let w = c .before .before .before .before .before .before .width .given in
+    let v = c .before .before .before .so-far .given in
+    ap ok (c .joined3 .ensures)
+    ∙ sym (width-same (p .i) (summaryOf (p .s)) (overallOf (p .o)) (w .0 .0) (v .0 .0) (ap optionUsize (w .1)) (ap optionUsize (v .1)) (c .before .if1 .taken))
 
 returns-4 : tie.Need-returns-4
 returns-4 c =
     let p = c .before .before .before .before .before .before .before .args in
-    λ d h. sym (width-differs (p .i) d (overallOf (p .o)) (c .before .before .before .before .before .width .given .0 .0) (c .before
-    .before .so-far .given .0 .0) (sym (h .width-is) ∙ ap optionUsize (c .before .before .before .before .before .width .given .1)) (ap
-    optionUsize (c .before .before .so-far .given .1)) (c .if1 .left))
+    let w = c .before .before .before .before .before .width .given in
+    let v = c .before .before .so-far .given in
+    sym (width-differs (p .i) (summaryOf (p .s)) (overallOf (p .o)) (w .0 .0) (v .0 .0) (ap optionUsize (w .1)) (ap optionUsize (v .1)) (c .if1 .left))
 
 pub join-width-spec : {M : Type 1} → statement M
 join-width-spec =

@@ -6,7 +6,7 @@ use Rattle.concatenation.proofs.stage4.check_opposite.Statement.{statem
 use Rattle.concatenation.proofs.stage4.check_opposite.Tie as tie
 
 returns : tie.Need-returns
-returns c = λ l h. rw (c .if1 .taken)
+returns c = rw (c .if1 .taken)
 
 is-align-requires : tie.Need-is-align-requires
 is-align-requires c κs = search needs
@@ -16,11 +16,10 @@ opposite-of-requires c κs = search needs
 
 returns-2 : tie.Need-returns-2
 returns-2 c =
-    λ l h. rw (c .before .before .before .if1 .left, sym (c .before .before .is-align .ensures) ∙ c .before .if2 .taken) (c .opposite-of
-    .ensures l h)
+    rw (c .before .before .before .if1 .left, sym (c .before .before .is-align .ensures) ∙ c .before .if2 .taken) (c .opposite-of .ensures)
 
 returns-3 : tie.Need-returns-3
-returns-3 c = λ l h. rw (c .before .before .if1 .left, sym (c .before .is-align .ensures) ∙ c .if2 .left)
+returns-3 c = rw (c .before .before .if1 .left, sym (c .before .is-align .ensures) ∙ c .if2 .left)
 
 pub check-opposite-spec : {M : Type 1} → statement M
 check-opposite-spec =

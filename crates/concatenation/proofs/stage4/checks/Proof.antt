@@ -32,21 +32,18 @@ after-requires-4 c κs = search needs
 
 returns : tie.Need-returns
 returns c =
-    let p = c .before .before .before .before .before .before .before .before .args in
-    λ l h. rw (
+    let checked = c .before .before .before .before in
+    let start = checked .before .before .before .before in
+    rw (
       c .after4 .ensures,
       c .before .after3 .ensures,
       c .before .before .after2 .ensures,
-      c .before .before .before .after
-          .ensures,
-      c .before .before .before .before .before .before .before .check-common .ensures,
-      c .before .before .before .before .before
-          .before .check-only .ensures,
-      c .before .before .before .before .before .check-middle .ensures l h,
-      c .before .before .before .before
-          .check-opposite .ensures l h,
-      count-is (p .cs) (p .n) (omega arith) (c .before .before .before .before .before .before .before .before
-          .good .1 .0 .1 .0 .1) l h,
+      c .before .before .before .after .ensures,
+      checked .before .before .before .check-common .ensures,
+      checked .before .before .check-only .ensures,
+      checked .before .check-middle .ensures,
+      checked .check-opposite .ensures,
+      count-is (start .args .cs) (start .args .n) (omega arith) (start .good .1 .0 .1 .0 .1),
     )
 
 pub checks-spec : {M : Type 1} → statement M

@@ -1,30 +1,28 @@
 -- `concatenation::find_opposite` meets its contract: the search from j on gives what the search from `from` on gives. The measure is what is left.
 -- Assumes nothing.
 use mathlib.Core.Path.{_≡_, refl, sym, _∙_}
-use mathlib.Core.List.{List}
 use Prim.Native.Nat.{_≤_, _-_}
 use native.Mathlib.Omega.{arith}
 use borrow.Author.Needs.{needs}
-use lib.ListN.{take, drop}
-use Rattle.definition.specs.Concatenation.{Concatenation}
+use lib.ListN.{drop}
 use Rattle.definition.specs.Overall.{placeFrom}
 use Rattle.concatenation.specs.alignment.Align.{alignOf}
-use Rattle.concatenation.specs.Overall.{Summarised, isOpposite}
-use Rattle.concatenation.proofs.Summaries.{opposite-is}
-use Rattle.concatenation.proofs.Turns.{turn-at, end-at, place-on, place-here, place-end}
+use Rattle.concatenation.specs.Summaries.{isOpposite}
+use Rattle.concatenation.proofs.Turns.{firsts, turn-at, end-at, place-on, place-here, place-end}
 use Rattle.concatenation.proofs.stage4.find_opposite.Statement.{statement}
 use Rattle.concatenation.proofs.stage4.find_opposite.Tie as tie
 
 abbrev Inv-loop : tie.InvT-loop
 Inv-loop align n from cs j₀ j =
-    (j ≤ n) × ((l : List Concatenation) (c : Concatenation) → Summarised l (take n cs) → alignOf align ≡ c .align → placeFrom (isOpposite
-    c) j (drop j l) ≡ placeFrom (isOpposite c) from (drop from l))
+    (j ≤ n)
+    × (placeFrom (isOpposite (alignOf align)) j (drop j (firsts n cs))
+    ≡ placeFrom (isOpposite (alignOf align)) from (drop from (firsts n cs)))
 
 abbrev μ-loop : tie.MeasureT-loop
 μ-loop align n from cs j₀ j = n - j
 
 loop-holds : tie.Need-loop-holds Inv-loop μ-loop
-loop-holds c = (omega arith, λ l d h e. refl)
+loop-holds c = (omega arith, refl)
 
 mul-s : tie.Need-mul-s Inv-loop μ-loop
 mul-s c = search needs
@@ -40,11 +38,13 @@ cast-t15 c = search needs
 
 returns : tie.Need-returns Inv-loop μ-loop
 returns c =
-    let p = c .before .before .before .before .before .args in
-    let v = c .before .before .before .before .loop in
-    λ l d h e. let a = turn-at (p .t2) (p .n) (omega arith) (c .before .before .before .before .before .good .1 .0 .1 .0 .1) l h (v .j) _
-    (c .before .before .before .loop-test .taken) in place-here (isOpposite d) (v .j) l (a .c) (a .here) (opposite-is (p .align) _ d (a .c)
-    e (a .has) ∙ sym (c .before .is-opposite .ensures) ∙ c .if1 .taken) ∙ v .inv .1 l d h e
+    let t = c .before .before .before in
+    let v = t .before .loop in
+    let s = t .before .before in
+    let p = s .args in
+    place-here (v .j) (firsts (p .n) (p .t2)) _ (turn-at (p .t2) (p .n) (omega arith) (s .good .1 .0 .1 .0 .1) (v .j) _ (t .loop-test .taken))
+    (isOpposite (alignOf (p .align))) (sym (c .before .is-opposite .ensures) ∙ c .if1 .taken)
+    ∙ v .inv .1
 
 add-j : tie.Need-add-j Inv-loop μ-loop
 add-j c = search needs
@@ -54,20 +54,23 @@ loop-less c = search needs
 
 loop-again : tie.Need-loop-again Inv-loop μ-loop
 loop-again c =
-    let p = c .before .before .before .before .before .args in
-    let v = c .before .before .before .before .loop in (
+    let t = c .before .before .before in
+    let v = t .before .loop in
+    let s = t .before .before in
+    let p = s .args in (
       omega arith,
-      λ l d h e. let a = turn-at (p .t2) (p .n) (omega arith) (c .before .before .before .before .before .good .1 .0 .1 .0 .1)
-          l h (v .j) _ (c .before .before .before .loop-test .taken) in place-on (isOpposite d) (v .j) l (a .c) (a .here) (opposite-is (p .align)
-          _ d (a .c) e (a .has) ∙ sym (c .before .is-opposite .ensures) ∙ c .if1 .left) ∙ v .inv .1 l d h e,
+      place-on (v .j) (firsts (p .n) (p .t2)) _ (turn-at (p .t2) (p .n) (omega arith) (s .good .1 .0 .1 .0 .1) (v .j) _ (t .loop-test .taken))
+          (isOpposite (alignOf (p .align))) (sym (c .before .is-opposite .ensures) ∙ c .if1 .left)
+          ∙ v .inv .1,
     )
 
 returns-2 : tie.Need-returns-2 Inv-loop μ-loop
 returns-2 c =
     let p = c .before .before .args in
     let v = c .before .loop in
-    λ l d h e. place-end (isOpposite d) (v .j) l (end-at (p .t2) (p .n) (omega arith) (c .before .before .good .1 .0 .1 .0 .1) l h (v .j)
-    (c .loop-test .left)) ∙ v .inv .1 l d h e
+    place-end (v .j) (firsts (p .n) (p .t2)) (end-at (p .t2) (p .n) (omega arith) (c .before .before .good .1 .0 .1 .0 .1) (v .j) (c .loop-test .left))
+    (isOpposite (alignOf (p .align)))
+    ∙ v .inv .1
 
 pub find-opposite-spec : {M : Type 1} → statement M
 find-opposite-spec =

@@ -2,7 +2,7 @@
 -- Assumes nothing.
 use mathlib.Core.Path.{sym, _∙_, ap}
 use borrow.Author.Needs.{needs}
-use Rattle.concatenation.specs.Overall.{placeOf}
+use Rattle.concatenation.specs.Overall.{placeOf, summaryOf}
 use Rattle.concatenation.proofs.Summaries.{middle-none, middle-some, middle-other}
 use Rattle.concatenation.proofs.stage4.middle_at.Statement.{statement}
 use Rattle.concatenation.proofs.stage4.middle_at.Tie as tie
@@ -19,8 +19,8 @@ enum-told c = search needs
 returns : tie.Need-returns
 returns c =
     let p = c .before .before .before .before .args in
-    λ d h. middle-none (p .i) d (p .s) h (sym (c .before .before .before .is-align .ensures) ∙ c .before .before .if1 .taken) (ap placeOf
-    (c .enum-told .given .1))
+    middle-none (p .i) (summaryOf (p .s)) (sym (c .before .before .before .is-align .ensures) ∙ c .before .before .if1 .taken)
+    (ap placeOf (c .enum-told .given .1))
 
 refused-at-requires : tie.Need-refused-at-requires
 refused-at-requires c κs = search needs
@@ -28,14 +28,15 @@ refused-at-requires c κs = search needs
 returns-2 : tie.Need-returns-2
 returns-2 c =
     let p = c .before .before .before .before .before .before .args in
-    λ d h. c .refused-at .ensures ∙ middle-some (p .i) d (p .s) h (sym (c .before .before .before .before .before .is-align .ensures) ∙ c
-    .before .before .before .before .if1 .taken) (c .before .before .unbounded .given .0 .0) (ap placeOf (c .before .before .unbounded
-    .given .1))
+    let u = c .before .before in
+    c .refused-at .ensures
+    ∙ middle-some (p .i) (summaryOf (p .s)) (sym (u .before .before .before .is-align .ensures) ∙ u .before .before .if1 .taken)
+    (u .unbounded .given .0 .0) (ap placeOf (u .unbounded .given .1))
 
 returns-3 : tie.Need-returns-3
 returns-3 c =
     let p = c .before .before .args in
-    λ d h. middle-other (p .i) d (p .s) h (sym (c .before .is-align .ensures) ∙ c .if1 .left)
+    middle-other (p .i) (summaryOf (p .s)) (sym (c .before .is-align .ensures) ∙ c .if1 .left)
 
 pub middle-at-spec : {M : Type 1} → statement M
 middle-at-spec =

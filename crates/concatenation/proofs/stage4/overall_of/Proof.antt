@@ -1,23 +1,21 @@
 -- `concatenation::overall_of` meets its contract: what is left of the list, from what was found so far, gives what the whole gives. The measure is what is left.
 -- Assumes nothing.
 use mathlib.Core.Path.{_≡_, sym, _∙_, ap}
-use mathlib.Core.List.{List}
 use Prim.Native.Nat.{_≤_, _-_}
 use native.Mathlib.Omega.{arith}
 use borrow.Author.Needs.{needs}
-use lib.ListN.{take, drop}
-use Rattle.definition.specs.Concatenation.{Concatenation}
-use Rattle.definition.specs.Overall.{overallFrom, overall}
-use Rattle.concatenation.specs.Overall.{answerOf}
-use Rattle.concatenation.specs.Overall.{Summarised, overallOf}
-use Rattle.concatenation.proofs.Turns.{turn-at, end-at, starts-at, over-on, over-off, over-end}
+use lib.ListN.{drop}
+use Rattle.concatenation.specs.Overall.{overallOf, answerOf}
+use Rattle.concatenation.specs.Summaries.{overallFromAs, overallAs}
+use Rattle.concatenation.proofs.Turns.{firsts, turn-at, end-at, starts-at, over-on, over-off, over-end}
 use Rattle.concatenation.proofs.stage4.overall_of.Statement.{statement}
 use Rattle.concatenation.proofs.stage4.overall_of.Tie as tie
 
 abbrev Inv-loop : tie.InvT-loop
 Inv-loop bare n cs o₀ i₀ o i =
-    (i ≤ n) × ((l : List Concatenation) → Summarised l (take n cs) → overallFrom bare i (drop i l) (overallOf o) ≡ overallFrom bare 0 l
-    (overall l))
+    (i ≤ n)
+    × (overallFromAs bare i (drop i (firsts n cs)) (overallOf o)
+    ≡ overallFromAs bare 0 (firsts n cs) (overallAs (firsts n cs)))
 
 abbrev μ-loop : tie.MeasureT-loop
 μ-loop bare n cs o₀ i₀ o i = n - i
@@ -30,8 +28,10 @@ start-requires c κs = search needs
 
 loop-holds : tie.Need-loop-holds Inv-loop μ-loop
 loop-holds c =
-    let p = c .before .before .args in
-    (search needs, λ l h. rw (c .start .ensures l (starts-at (p .t2) (p .n) (omega arith) (c .before .before .good .1 .0 .1 .0 .1) l h _)))
+    let s = c .before .before in
+    let p = s .args in
+    let start = c .start .ensures ∙ starts-at (p .t2) (p .n) (omega arith) (s .good .1 .0 .1 .0 .1) _ in
+    (search needs, ap (overallFromAs (p .bare) 0 (firsts (p .n) (p .t2))) start)
 
 cast-at : tie.Need-cast-at Inv-loop μ-loop
 cast-at c = search needs
@@ -56,13 +56,15 @@ loop-less c = search needs
 
 loop-again : tie.Need-loop-again Inv-loop μ-loop
 loop-again c =
-    let p = c .before .before .before .before .before .before .before .before .before .args in
-    let v = c .before .before .before .before .before .before .loop in (
+    let t = c .before .before .before .before .before in
+    let v = t .before .loop in
+    let s = t .before .before .before .before in
+    let p = s .args in (
       omega arith,
-      λ l h. let a = turn-at (p .t2) (p .n) (omega arith) (c .before .before .before .before .before .before .before .before
-          .before .good .1 .0 .1 .0 .1) l h (v .i) _ (c .before .before .before .before .before .loop-test .taken) in over-on (p .bare) (v .i) l
-          _ a (overallOf (v .o)) (overallOf (c .before .p .given .0 .0)) (sym (c .before .before .before .join .ensures (a .c) (a .has)) ∙ ap
-          answerOf (c .before .p .given .1)) ∙ v .inv .1 l h,
+      over-on (v .i) (firsts (p .n) (p .t2)) _ (turn-at (p .t2) (p .n) (omega arith) (s .good .1 .0 .1 .0 .1) (v .i) _ (t .loop-test .taken))
+          (p .bare) (overallOf (v .o)) (overallOf (c .before .p .given .0 .0))
+          (sym (c .before .before .before .join .ensures) ∙ ap answerOf (c .before .p .given .1))
+          ∙ v .inv .1,
     )
 
 enum-known-e : tie.Need-enum-known-e Inv-loop μ-loop
@@ -70,18 +72,22 @@ enum-known-e c = search needs
 
 returns : tie.Need-returns Inv-loop μ-loop
 returns c =
-    let p = c .before .before .before .before .before .before .before .before .before .args in
-    let v = c .before .before .before .before .before .before .loop in
-    λ l h. let a = turn-at (p .t2) (p .n) (omega arith) (c .before .before .before .before .before .before .before .before .before .good .1
-    .0 .1 .0 .1) l h (v .i) _ (c .before .before .before .before .before .loop-test .taken) in over-off (p .bare) (v .i) l _ a (overallOf
-    (v .o)) _ _ _ (sym (c .before .before .before .join .ensures (a .c) (a .has)) ∙ ap answerOf (c .before .e .given .1)) ∙ v .inv .1 l h
+    let t = c .before .before .before .before .before in
+    let v = t .before .loop in
+    let s = t .before .before .before .before in
+    let p = s .args in
+    over-off (v .i) (firsts (p .n) (p .t2)) _ (turn-at (p .t2) (p .n) (omega arith) (s .good .1 .0 .1 .0 .1) (v .i) _ (t .loop-test .taken))
+    (p .bare) (overallOf (v .o)) _ _ _ (sym (c .before .before .before .join .ensures) ∙ ap answerOf (c .before .e .given .1))
+    ∙ v .inv .1
 
 returns-2 : tie.Need-returns-2 Inv-loop μ-loop
 returns-2 c =
-    let p = c .before .before .before .before .args in
+    let s = c .before .before .before .before in
+    let p = s .args in
     let v = c .before .loop in
-    λ l h. over-end (p .bare) (v .i) l (overallOf (v .o)) (end-at (p .t2) (p .n) (omega arith) (c .before .before .before .before .good .1
-    .0 .1 .0 .1) l h (v .i) (c .loop-test .left)) ∙ v .inv .1 l h
+    over-end (v .i) (firsts (p .n) (p .t2)) (end-at (p .t2) (p .n) (omega arith) (s .good .1 .0 .1 .0 .1) (v .i) (c .loop-test .left))
+    (p .bare) (overallOf (v .o))
+    ∙ v .inv .1
 
 pub overall-of-spec : {M : Type 1} → statement M
 overall-of-spec =

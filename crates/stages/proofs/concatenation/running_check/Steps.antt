@@ -2,7 +2,7 @@
 use mathlib.Core.Path.{_≡_}
 use borrow.Author.Tests.{eq-eqb, ne-eqb}
 use Rattle.definition.specs.Prelude.{ℕ, _+_, none, some, Bool, true, false, not, _&&_, eqb, ℤ, natAbs}
-use Rattle.definition.specs.Basics.{ok, refused, placed, if_then_else_}
+use Rattle.definition.specs.Basics.{ok, refused, withPlaces, if_then_else_}
 use Rattle.definition.specs.Refusals.{refuse, lone-filler-sink, second-filler, sum-overflow}
 use Rattle.definition.specs.Concatenation.{Running, isAlign, align-none, alignOf as placedAlign}
 use Rattle.numbers.specs.Value.{optionOf}
@@ -47,9 +47,9 @@ module _ (kind : ℕ) (ends full sink first last : Bool) (r : Running) where
 
 -- the width, then the type
 module _ (i k : ℕ) (first last : Bool) (s : Shape) (r : Running) where
-  pub step-on : (r₁ : Running) → placed i 0 (addAs (optionOf (s .width)) r) ≡ ok r₁
-      → stepAs i k first last s r ≡ placed i k (checkAs (s .kind) (s .«has_end») (s .full) (not (eqb i 0)) first last r₁)
+  pub step-on : (r₁ : Running) → withPlaces i 0 (addAs (optionOf (s .width)) r) ≡ ok r₁
+      → stepAs i k first last s r ≡ withPlaces i k (checkAs (s .kind) (s .«has_end») (s .full) (not (eqb i 0)) first last r₁)
   step-on r₁ e = rw e
 
-  pub step-off : (n a b : ℕ) → placed i 0 (addAs (optionOf (s .width)) r) ≡ refused n a b → stepAs i k first last s r ≡ refused n a b
+  pub step-off : (n a b : ℕ) → withPlaces i 0 (addAs (optionOf (s .width)) r) ≡ refused n a b → stepAs i k first last s r ≡ refused n a b
   step-off n a b e = rw e

@@ -1,7 +1,7 @@
 -- A step of the running check over a component's shape is the step over the component.
 use mathlib.Core.Path.{_≡_, refl, ap, _∙_}
 use Rattle.definition.specs.Prelude.{ℕ, Bool, true, false, not, eqb}
-use Rattle.definition.specs.Basics.{Result, ok, refused, _>>=_, placed}
+use Rattle.definition.specs.Basics.{Result, ok, refused, _>>=_, withPlaces}
 use Rattle.definition.specs.Component.{Component, ComponentType, literal, variable, filler, hasEnd}
 use Rattle.definition.specs.Concatenation.{Running, addWidth, checkType, hasFullRange}
 use Rattle.numbers.specs.Value.{optionOf}
@@ -29,12 +29,12 @@ module _ (c : Component) (s : Shape) (h : HasShape c s) where
 
   module _ (i k : ℕ) (first last : Bool) (r : Running) where
     pub step-as : stepOf i k first last c r ≡ stepAs i k first last s r
-    step-as = ap (λ m. placed i 0 m >>= λ r₁. placed i k (checkType (not (eqb i 0)) first last c r₁)) (add-as r) ∙ by-width (placed i 0 (addAs (optionOf (s .width)) r))
+    step-as = ap (λ m. withPlaces i 0 m >>= λ r₁. withPlaces i k (checkType (not (eqb i 0)) first last c r₁)) (add-as r) ∙ by-width (withPlaces i 0 (addAs (optionOf (s .width)) r))
       where
         by-width : (m : Result Running)
-            → (m >>= λ r₁. placed i k (checkType (not (eqb i 0)) first last c r₁))
-            ≡ (m >>= λ r₁. placed i k (checkAs (s .kind) (s .«has_end») (s .full) (not (eqb i 0)) first last r₁))
-        by-width (ok r₁) = ap (placed i k) (check-as (not (eqb i 0)) first last r₁)
+            → (m >>= λ r₁. withPlaces i k (checkType (not (eqb i 0)) first last c r₁))
+            ≡ (m >>= λ r₁. withPlaces i k (checkAs (s .kind) (s .«has_end») (s .full) (not (eqb i 0)) first last r₁))
+        by-width (ok r₁) = ap (withPlaces i k) (check-as (not (eqb i 0)) first last r₁)
         by-width (refused n a b) = refl
 
     pub advanced-as : settledOf r (stepOf i k first last c r) ≡ advancedAs i k first last s r

@@ -12,7 +12,7 @@ ghost use mathlib.Core.Path.{_≡_};
 ghost use mathlib.Core.Bool.{not};
 ghost use mathlib.Core.Option.{some};
 ghost use lib.Dec.{eqb};
-ghost use Rattle.definition.specs.Basics.{placed, refused as refusedDef};
+ghost use Rattle.definition.specs.Basics.{withPlaces, refused as refusedDef};
 ghost use Rattle.errors.specs.Refused.{resultOf};
 ghost use Rattle.numbers.specs.Value.{valueOf, optionOf};
 ghost use Rattle.stages.specs.concatenation.running_check.Running.{runningOf, steppedOf, finishOf, addAs, checkLiteral, withFull, checkOpen, checkAs, stepAs, settledOf, advancedAs};
@@ -50,7 +50,7 @@ fn refused(number: u32, i: u32, k: u32) -> Stepped
 
 // A component of known width: 34 has the places i and 0.
 fn add_known(i: u32, x: I128, r: Running) -> Stepped
-    ensures { λ q. ⌜ steppedOf q ≡ placed i 0 (addAs (some (valueOf x)) (runningOf r)) ⌝ }
+    ensures { λ q. ⌜ steppedOf q ≡ withPlaces i 0 (addAs (some (valueOf x)) (runningOf r)) ⌝ }
 {
     let align = r.align;
     let so_far = r.width;
@@ -74,7 +74,7 @@ fn add_known(i: u32, x: I128, r: Running) -> Stepped
 }
 
 fn add_width(i: u32, width: OptionI128, r: Running) -> Stepped
-    ensures { λ q. ⌜ steppedOf q ≡ placed i 0 (addAs (optionOf width) (runningOf r)) ⌝ }
+    ensures { λ q. ⌜ steppedOf q ≡ withPlaces i 0 (addAs (optionOf width) (runningOf r)) ⌝ }
 {
     let align = r.align;
     match width {
@@ -90,7 +90,7 @@ fn add_width(i: u32, width: OptionI128, r: Running) -> Stepped
 
 // An unbounded filler: 31, then 32.
 fn check_open(i: u32, k: u32, first: bool, last: bool, r: Running) -> Stepped
-    ensures { λ q. ⌜ steppedOf q ≡ placed i k (checkOpen (not (eqb i 0)) first last (runningOf r)) ⌝ }
+    ensures { λ q. ⌜ steppedOf q ≡ withPlaces i k (checkOpen (not (eqb i 0)) first last (runningOf r)) ⌝ }
 {
     let align = r.align;
     let width = r.width;
@@ -110,7 +110,7 @@ fn check_open(i: u32, k: u32, first: bool, last: bool, r: Running) -> Stepped
 }
 
 fn check_literal(i: u32, k: u32, r: Running) -> Stepped
-    ensures { λ q. ⌜ steppedOf q ≡ placed i k (checkLiteral (not (eqb i 0)) (runningOf r)) ⌝ }
+    ensures { λ q. ⌜ steppedOf q ≡ withPlaces i k (checkLiteral (not (eqb i 0)) (runningOf r)) ⌝ }
 {
     if i != 0 {
         return refused(30, i, k);
@@ -132,7 +132,7 @@ fn check_variable(full: bool, r: Running) -> Running
 }
 
 fn check_type(i: u32, k: u32, first: bool, last: bool, shape: Shape, r: Running) -> Stepped
-    ensures { λ q. ⌜ steppedOf q ≡ placed i k (checkAs (shape .kind) (shape .«has_end») (shape .full) (not (eqb i 0)) first last (runningOf r)) ⌝ }
+    ensures { λ q. ⌜ steppedOf q ≡ withPlaces i k (checkAs (shape .kind) (shape .«has_end») (shape .full) (not (eqb i 0)) first last (runningOf r)) ⌝ }
 {
     if shape.kind == 1 {
         return check_literal(i, k, r);

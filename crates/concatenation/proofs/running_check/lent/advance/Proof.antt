@@ -1,7 +1,7 @@
 -- `concatenation::running_check::advance` meets its contract: a walk of its MIR, by hand. The borrow is opened, the struct is copied and handed to
 -- `advance_value`, what comes back is stored, and the borrow is closed at it. All that is known of `advance_value` is its contract.
 -- Assumes nothing.
-use mathlib.Core.Path.{refl, ap}
+use mathlib.Core.Path.{_≡_, refl, ap}
 use Prim.Native.Nat.{ℕ, _<_, _^_}
 use mathlib.Core.Bool.{Bool}
 use mathlib.Core.List.{[], _∷_, List}
@@ -44,7 +44,7 @@ use denote.Exit.{yes}
 use Rattle.errors.specs.Refused.{resultOf}
 use Rattle.errors.proofs.Checked as E
 use Rattle.errors.proofs.Checked.Laws as E′
-use Rattle.concatenation.specs.running_check.Running.{runningOf, Advances}
+use Rattle.concatenation.specs.running_check.Running.{runningOf, advancedAs}
 use Rattle.concatenation.specs.declared.running_check.running.Running.{Running}
 use Rattle.concatenation.specs.declared.running_check.running.Shape.{Shape}
 use Rattle.concatenation.specs.declared.running_check.running.Advanced.{Advanced}
@@ -108,7 +108,7 @@ module _ {M : Type 1} (𝓤 : URA M) (H : Heap 𝓤) (A : Atoms 𝓤) (W : Given
   Post = walkOf 𝓤 H A f.ended stayed (f.clauses 𝓤 H A at-mem run) .post (((κ, tt), (q, tt), tt, x, at), tt)
 
   abbrev Says : Advanced → Type 0
-  Says a = Advances i k first last s (runningOf h) (runningOf (a .running)) (resultOf (a .checked))
+  Says a = (runningOf (a .running), resultOf (a .checked)) ≡ advancedAs i k first last s (runningOf h)
 
   abbrev checked-low : Advanced → Val
   checked-low a = EL.val E.the-type E′.the-laws (a .checked)

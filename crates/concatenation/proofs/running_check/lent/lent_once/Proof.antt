@@ -1,7 +1,7 @@
 -- `concatenation::running_check::lent_once` meets its contract: a walk of its MIR, by hand. A local is lent to `advance` for a lifetime that is made
 -- for the call, taken back at its last value, and returned with the answer. All that is known of `advance` is its contract.
 -- Assumes nothing.
-use mathlib.Core.Path.{refl, ap}
+use mathlib.Core.Path.{_≡_, refl, ap}
 use Prim.Native.Nat.{ℕ, _<_, _^_}
 use mathlib.Core.Bool.{Bool}
 use mathlib.Core.List.{[], _∷_, List}
@@ -46,7 +46,7 @@ use Rattle.errors.specs.Refused.{resultOf}
 use Rattle.errors.specs.declared.Checked.{Checked}
 use Rattle.errors.proofs.Checked as E
 use Rattle.errors.proofs.Checked.Laws as E′
-use Rattle.concatenation.specs.running_check.Running.{runningOf, Advances}
+use Rattle.concatenation.specs.running_check.Running.{runningOf, advancedAs}
 use Rattle.concatenation.specs.declared.running_check.running.Running.{Running}
 use Rattle.concatenation.specs.declared.running_check.running.Shape.{Shape}
 use Rattle.concatenation.specs.declared.running_check.running.Advanced.{Advanced}
@@ -125,7 +125,7 @@ module _ {M : Type 1} (𝓤 : URA M) (H : Heap 𝓤) (A : Atoms 𝓤) (W : Given
   Post = walkOf 𝓤 H A f.ended stayed (f.clauses 𝓤 H A at-mem run) .post ((tt, tt, tt, (h, rest), at), tt)
 
   abbrev Says : Running → Checked → Type 0
-  Says z c = Advances i k first last s (runningOf h) (runningOf z) (resultOf c)
+  Says z c = (runningOf z, resultOf c) ≡ advancedAs i k first last s (runningOf h)
 
   abbrev both : Running → Checked → Advanced
   both z c = record { running = z; checked = c }

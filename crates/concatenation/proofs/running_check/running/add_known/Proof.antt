@@ -2,7 +2,7 @@
 -- Assumes nothing.
 use mathlib.Core.Path.{sym, _∙_, ap}
 use borrow.Author.Needs.{needs}
-use Rattle.definition.specs.Basics.{placed}
+use Rattle.definition.specs.Basics.{withPlaces}
 use Rattle.numbers.specs.Value.{valueOf, optionUsize}
 use Rattle.concatenation.specs.running_check.Running.{runningOf}
 use Rattle.concatenation.proofs.running_check.Steps.{add-unknown, add-fits, add-exceeds}
@@ -18,7 +18,7 @@ enum-told c = search needs
 returns : tie.Need-returns
 returns c =
     let p = c .before .before .args in
-    ap (placed (p .i) 0) (sym (add-unknown (valueOf (p .x)) (runningOf (p .r)) (ap optionUsize (c .enum-told .given .1))))
+    ap (withPlaces (p .i) 0) (sym (add-unknown (valueOf (p .x)) (runningOf (p .r)) (ap optionUsize (c .enum-told .given .1))))
 
 sum-requires : tie.Need-sum-requires
 sum-requires c κs = search needs
@@ -35,14 +35,14 @@ refused-requires c κs = search needs
 returns-2 : tie.Need-returns-2
 returns-2 c =
     let p = c .before .before .before .before .before .before .before .args in
-    ap (placed (p .i) 0) (sym (add-fits (c .before .before .before .before .before .so-far .given .0 .0) (c .before .w .given .0 .0)
+    ap (withPlaces (p .i) 0) (sym (add-fits (c .before .before .before .before .before .so-far .given .0 .0) (c .before .w .given .0 .0)
     (valueOf (p .x)) (runningOf (p .r)) (ap optionUsize (c .before .before .before .before .before .so-far .given .1)) (sym (c .before
     .before .before .sum .ensures) ∙ ap optionUsize (c .before .w .given .1))))
 
 returns-3 : tie.Need-returns-3
 returns-3 c =
     let p = c .before .before .before .before .before .before .before .args in
-    c .refused .ensures ∙ ap (placed (p .i) 0) (sym (add-exceeds (c .before .before .before .before .before .so-far .given .0 .0) (valueOf
+    c .refused .ensures ∙ ap (withPlaces (p .i) 0) (sym (add-exceeds (c .before .before .before .before .before .so-far .given .0 .0) (valueOf
     (p .x)) (runningOf (p .r)) (ap optionUsize (c .before .before .before .before .before .so-far .given .1)) (sym (c .before .before
     .before .sum .ensures) ∙ ap optionUsize (c .before .enum-told2 .given .1))))
 

@@ -2,7 +2,7 @@
 -- Assumes nothing.
 use mathlib.Core.Path.{_∙_, ap}
 use borrow.Author.Needs.{needs}
-use Rattle.concatenation.specs.running_check.Running.{runningOf, keptOf, verdictOf}
+use Rattle.concatenation.specs.running_check.Running.{runningOf, settledOf}
 use Rattle.concatenation.proofs.running_check.running.advance_value.Statement.{statement}
 use Rattle.concatenation.proofs.running_check.running.advance_value.Tie as tie
 
@@ -13,12 +13,7 @@ settle-requires : tie.Need-settle-requires
 settle-requires c κs = search needs
 
 returns : tie.Need-returns
-returns c =
-    λ d h. (
-      c .settle .ensures .0 ∙ ap (keptOf (runningOf (c .before .before .args .r))) (c .before .step .ensures d h),
-      c .settle .ensures
-          .1 ∙ ap verdictOf (c .before .step .ensures d h),
-    )
+returns c = c .settle .ensures ∙ ap (settledOf (runningOf (c .before .before .args .r))) (c .before .step .ensures)
 
 pub advance-value-spec : {M : Type 1} → statement M
 advance-value-spec = tie.close (tie.spec step-requires settle-requires returns)

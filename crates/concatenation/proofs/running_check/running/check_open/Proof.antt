@@ -4,7 +4,7 @@ use mathlib.Core.Path.{sym, _∙_, ap}
 use mathlib.Core.Bool.{Bool, not, _&&_}
 use borrow.Author.Needs.{needs}
 use lib.Dec.{eqb}
-use Rattle.definition.specs.Basics.{placed}
+use Rattle.definition.specs.Basics.{withPlaces}
 use Rattle.concatenation.specs.running_check.Running.{runningOf}
 use Rattle.concatenation.proofs.running_check.Steps.{open-lone, open-second, open-ok}
 use Rattle.concatenation.proofs.running_check.running.check_open.Statement.{statement}
@@ -22,7 +22,7 @@ refused-requires c κs = search needs
 returns : tie.Need-returns
 returns c =
     let p = c .before .before .before .before .args in
-    c .refused .ensures ∙ ap (placed (p .i) (p .k)) (sym (open-lone (not (eqb (p .i) 0)) (p .first) (p .last) (runningOf (p .r)) (ap (λ (t
+    c .refused .ensures ∙ ap (withPlaces (p .i) (p .k)) (sym (open-lone (not (eqb (p .i) 0)) (p .first) (p .last) (runningOf (p .r)) (ap (λ (t
     : Bool). t && (p .last)) (sym (c .before .before .before .both .ensures)) ∙ sym (c .before .before .both2 .ensures) ∙ c .before .if1
     .taken)))
 
@@ -35,7 +35,7 @@ filler-align-requires c κs = search needs
 returns-2 : tie.Need-returns-2
 returns-2 c =
     let p = c .before .before .before .before .before .before .args in
-    rw (c .filler-align .ensures) (ap (placed (p .i) (p .k)) (sym (open-ok (not (eqb (p .i) 0)) (p .first) (p .last) (runningOf (p .r)) (ap
+    rw (c .filler-align .ensures) (ap (withPlaces (p .i) (p .k)) (sym (open-ok (not (eqb (p .i) 0)) (p .first) (p .last) (runningOf (p .r)) (ap
     (λ (t : Bool). t && (p .last)) (sym (c .before .before .before .before .before .both .ensures)) ∙ sym (c .before .before .before
     .before .both2 .ensures) ∙ c .before .before .before .if1 .left) (sym (c .before .before .is-align .ensures) ∙ c .before .if2
     .taken))))
@@ -46,7 +46,7 @@ refused-requires-2 c κs = search needs
 returns-3 : tie.Need-returns-3
 returns-3 c =
     let p = c .before .before .before .before .before .before .args in
-    c .refused2 .ensures ∙ ap (placed (p .i) (p .k)) (sym (open-second (not (eqb (p .i) 0)) (p .first) (p .last) (runningOf (p .r)) (ap (λ
+    c .refused2 .ensures ∙ ap (withPlaces (p .i) (p .k)) (sym (open-second (not (eqb (p .i) 0)) (p .first) (p .last) (runningOf (p .r)) (ap (λ
     (t : Bool). t && (p .last)) (sym (c .before .before .before .before .before .both .ensures)) ∙ sym (c .before .before .before .before
     .both2 .ensures) ∙ c .before .before .before .if1 .left) (sym (c .before .before .is-align .ensures) ∙ c .before .if2 .left)))
 

@@ -4,7 +4,7 @@ use mathlib.Core.Path.{sym, _∙_, ap}
 use mathlib.Core.Bool.{not}
 use borrow.Author.Needs.{needs}
 use lib.Dec.{eqb}
-use Rattle.definition.specs.Basics.{placed}
+use Rattle.definition.specs.Basics.{withPlaces}
 use Rattle.concatenation.specs.running_check.Running.{runningOf}
 use Rattle.concatenation.proofs.running_check.Steps.{as-literal, as-variable, as-filler}
 use Rattle.concatenation.proofs.running_check.running.check_type.Statement.{statement}
@@ -16,7 +16,7 @@ check-literal-requires c κs = search needs
 returns : tie.Need-returns
 returns c =
     let p = c .before .before .before .args in
-    c .check-literal .ensures ∙ ap (placed (p .i) (p .k)) (sym (as-literal ((p .shape) .kind) ((p .shape) .«has_end») ((p .shape) .full)
+    c .check-literal .ensures ∙ ap (withPlaces (p .i) (p .k)) (sym (as-literal ((p .shape) .kind) ((p .shape) .«has_end») ((p .shape) .full)
     (not (eqb (p .i) 0)) (p .first) (p .last) (runningOf (p .r)) (c .before .if1 .taken)))
 
 check-variable-requires : tie.Need-check-variable-requires
@@ -25,7 +25,7 @@ check-variable-requires c κs = search needs
 returns-2 : tie.Need-returns-2
 returns-2 c =
     let p = c .before .before .before .before .before .args in
-    rw (c .check-variable .ensures) (ap (placed (p .i) (p .k)) (sym (as-variable ((p .shape) .kind) ((p .shape) .«has_end») ((p .shape)
+    rw (c .check-variable .ensures) (ap (withPlaces (p .i) (p .k)) (sym (as-variable ((p .shape) .kind) ((p .shape) .«has_end») ((p .shape)
     .full) (not (eqb (p .i) 0)) (p .first) (p .last) (runningOf (p .r)) (c .before .if2 .taken))))
 
 returns-3 : tie.Need-returns-3

@@ -11,10 +11,10 @@ enum-known-q-2 : tie.Need-enum-known-q-2
 enum-known-q-2 c = search needs
 
 returns : tie.Need-returns
-returns c = (rw (c .before .q .given .1), rw (c .before .q .given .1))
+returns c = rw (c .before .q .given .1)
 
 returns-2 : tie.Need-returns-2
-returns-2 c = (rw (c .before .q2 .given .1), rw (c .before .q2 .given .1))
+returns-2 c = rw (c .before .q2 .given .1)
 
 pub settle-spec : {M : Type 1} → statement M
 settle-spec = tie.close (tie.spec enum-known-q enum-known-q-2 returns returns-2)

@@ -1,4 +1,4 @@
--- `concatenation::running_check::step` meets its contract: the width, then the type, over what the shape says of a component.
+-- `concatenation::running_check::step` meets its contract: the width, then the type, over what the shape says.
 -- Assumes nothing.
 use mathlib.Core.Path.{sym, _∙_, ap}
 use borrow.Author.Needs.{needs}
@@ -22,14 +22,14 @@ enum-known-e c = search needs
 returns : tie.Need-returns
 returns c =
     let p = c .before .before .before .before .before .args in
-    λ d h. c .check-type .ensures ∙ sym (step-on (p .i) (p .k) (p .first) (p .last) d (p .shape) h (runningOf (p .r)) (runningOf (c .before
+    c .check-type .ensures ∙ sym (step-on (p .i) (p .k) (p .first) (p .last) (p .shape) (runningOf (p .r)) (runningOf (c .before
     .before .s .given .0 .0)) (sym (c .before .before .before .before .add-width .ensures) ∙ ap steppedOf (c .before .before .s .given
     .1)))
 
 returns-2 : tie.Need-returns-2
 returns-2 c =
     let p = c .before .before .before .before .args in
-    λ d h. sym (step-off (p .i) (p .k) (p .first) (p .last) d (p .shape) h (runningOf (p .r)) (c .before .e .given .0 .0 .number) (c
+    sym (step-off (p .i) (p .k) (p .first) (p .last) (p .shape) (runningOf (p .r)) (c .before .e .given .0 .0 .number) (c
     .before .e .given .0 .0 .concatenation) (c .before .e .given .0 .0 .component) (sym (c .before .before .before .add-width .ensures) ∙
     ap steppedOf (c .before .e .given .1)))
 

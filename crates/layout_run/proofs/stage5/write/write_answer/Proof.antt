@@ -5,7 +5,7 @@ use Prim.Native.Nat.{ℕ}
 use lib.ListN.{length}
 use Rattle.layout_run.specs.parts.Written.{WriteIs}
 use Rattle.layout_run.proofs.parts.Reading.{all-of}
-use Rattle.layout_run.proofs.parts.Whole.{is-head, written}
+use Rattle.layout_run.proofs.parts.Whole.{head-put, written}
 use Rattle.layout_run.proofs.stage5.write.write_answer.Statement.{statement}
 use Rattle.layout_run.proofs.stage5.write.write_answer.Tie as tie
 
@@ -21,10 +21,12 @@ returns c =
     λ few.
     subst (λ (x : ℕ). WriteIs (a .image .now) x (a .n) (a .t) (a .o) (a .init) (c .wrapping-add-usize .result) (a .area .now) (p .last .0))
     (most .ensures .0 ∙ all-of (a .count) 16 few) (λ f text fixed fit.
-    let is = is-head (a .image .now) m (a .n) (a .t .cs) (a .t .sizes) (a .t .merged) f (a .o) (a .init) text fixed (length (a .area .now)) fit (k .result) (k .ensures) in
+    let head =
+    head-put (a .image .now) m (a .n) (a .t .cs) (a .t .sizes) (a .t .merged) f (a .o) (a .init) text fixed (length (a .area .now)) fit
+    (a .area .now) (h .last .0) (k .result) (k .ensures) (h .ensures) in
     written (a .image .now) m (a .n) (a .t .cs) (a .t .sizes) (a .t .merged) f (a .o) (a .init) text fixed (length (a .area .now)) fit
     (a .area .now) (h .last .0) (b .last .0) (p .last .0) (p .result) (c .wrapping-add-usize .result) (most .ensures .1) refl
-    (h .ensures (a .image .now) text _ is) (b .ensures) (p .ensures) (c .wrapping-add-usize .ensures))
+    head (b .ensures) (p .ensures) (c .wrapping-add-usize .ensures))
 
 pub write-answer-spec : {M : Type 1} → statement M
 write-answer-spec =
