@@ -2,4 +2,6 @@
 pub mod Chunks
 pub mod Forests
 pub mod Places
+pub mod Roots
+pub mod Trees
 pub mod Walks
