@@ -1,6 +1,7 @@
 -- How the items of a run stand in the record table.
 pub mod Chunks
 pub mod Forests
+pub mod Insides
 pub mod Lasts
 pub mod Made
 pub mod Places

@@ -1,11 +1,11 @@
 -- The items of a sound forest stand in the table that its records are written to, and so do those inside its groups.
 use mathlib.Core.Path.{_≡_, refl, sym, ap, subst, _∙_}
-use mathlib.Core.List.{append-assoc, append-nil}
+use mathlib.Core.List.{append-assoc}
 use Prim.Native.Nat.{_≤_, _<_}
 use native.Mathlib.Nat.{add-zero, add-assoc}
 use native.Mathlib.Omega.{arith}
 use lib.ListN.{length-append}
-use Rattle.definition.specs.Prelude.{ℕ, zero, suc, _+_, _*_, _-_, _^_, Bool, true, false, _&&_, not, List, [], _∷_, _++_, dropLast, length, getD, ltb}
+use Rattle.definition.specs.Prelude.{ℕ, _+_, _*_, _-_, _^_, Bool, true, false, _&&_, not, List, [], _∷_, _++_, dropLast, length, getD, ltb}
 use Rattle.definition.specs.Basics.{isEmpty, all}
 use Rattle.definition.specs.Image.{Rec, u32At, bytesAt, opens, delimiter}
 use Rattle.definition.specs.Tree.{Forest, end, word, group, flat, textOf, u32, recordBytes, soundForest}
@@ -259,7 +259,8 @@ module _ (image : List ℕ) (t : Tree) (base : ℕ) where
       let sk : skipIn image t e ≡ length (groupChunk k inside) = hd .skip ∙ sym g in
       (
         stands-group stop e s at k inside rest o si (omega (arith, en, n, g)) b (omega (arith, few, n, g)) (omega (arith, small, te, m)) hd
-        (records-before image (t .records + 12 * e) s (groupChunk k inside) (flat rest) hr) (text-before image (t .text + s) (groupChunk k inside) (flat rest) ht),
+        (records-before image (t .records + 12 * e) s (groupChunk k inside) (flat rest) hr)
+        (text-before image (t .text + s) (groupChunk k inside) (flat rest) ht),
         subst (λ x. Laid image t base stop tail (e + x) (s + length (textOf (groupChunk k inside)))
         (itemsOf (at + length (textOf (groupChunk k inside))) (chunksOf rest))) (sym sk)
         (laid-forest rest stop tail (e + length (groupChunk k inside)) (s + length (textOf (groupChunk k inside)))
@@ -280,4 +281,5 @@ module _ (image : List ℕ) (t : Tree) (base : ℕ) where
       let a = h .at in
       let ia = n .inside-at in
       subst (λ r. Laid image t base (e + (skipIn image t e - 1)) (s + (length (i .part .bytes) - 1)) (e + 1) (s + 1) (items (i .inside-at) r)) (sym (n .inside))
-      (planted-laid (n .forest) (e + (skipIn image t e - 1)) (s + (length (i .part .bytes) - 1)) (e + 1) (s + 1) (i .inside-at) (omega (arith, a, ia)) (n .planted))
+      (planted-laid (n .forest) (e + (skipIn image t e - 1)) (s + (length (i .part .bytes) - 1)) (e + 1) (s + 1)
+      (i .inside-at) (omega (arith, a, ia)) (n .planted))

@@ -1,13 +1,13 @@
 -- A component in the rows of its image: where its run ends, and that its items stand there.
-use mathlib.Core.Path.{_≡_, refl, sym, ap, subst, _∙_}
-use Prim.Native.Nat.{_≤_, _<_}
-use native.Mathlib.Nat.{add-zero, add-assoc}
+use mathlib.Core.Path.{_≡_, refl, sym, ap, _∙_}
+use Prim.Native.Nat.{_≤_}
+use native.Mathlib.Nat.{add-zero}
 use native.Mathlib.Omega.{arith}
 use borrow.Author.Tests.{eq-eqb, ne-eqb}
 use lib.ListN.{length-append}
-use Rattle.definition.specs.Prelude.{ℕ, suc, _+_, _*_, _^_, List, [], _∷_, _++_, length, map}
-use Rattle.definition.specs.Basics.{joined}
-use Rattle.definition.specs.Image.{bytesFor}
+use Rattle.definition.specs.Prelude.{ℕ, suc, _+_, _*_, List, [], _∷_, _++_, length}
+use Rattle.definition.specs.Basics.{joined, sum, tab}
+use Rattle.definition.specs.Image.{u32At, bytesFor}
 use Rattle.definition.specs.Tree.{Node, recsOf, allRecs, literalsOf, textOf, packed}
 use Rattle.definition.specs.Text.{items}
 use Rattle.prepared.specs.Bits.{length-packed}
@@ -58,6 +58,17 @@ module _ (image : List ℕ) (t : Tables) where
       moved : (ms : List Node) (k k′ r r′ s s′ l l′ : ℕ) → k ≡ k′ → r ≡ r′ → s ≡ s′ → l ≡ l′ → Rows image t k r s l ms → Rows image t k′ r′ s′ l′ ms
       moved ms k k′ r r′ s s′ l l′ a b c d h = rw (← a, ← b, ← c, ← d) h
 
+  -- their records, counted by their rows
+  pub rows-records : (k r s l : ℕ) (ns ms : List Node) → Rows image t k r s l (ns ++ ms)
+      → sum (tab (λ j. u32At image (t .components + 8 * j)) k (length ns)) ≡ length (allRecs ns)
+  unfolding Rows joined sum tab
+  rows-records k r s l [] ms h = refl
+  rows-records k r s l (n ∷ ns) ms h =
+      let o = rows-records (suc k) (r + length (recsOf n)) (s + length (textOf (recsOf n))) (l + bytesFor (length (n .bits))) ns ms (h .1) in
+      let c = length-append (recsOf n) (allRecs ns) in
+      let z = h .0 .size in
+      omega (arith, o, c, z)
+
   -- a component's items
   pub root-laid : (k r s l : ℕ) (n : Node) → Rooted image t k r s l n
       → Laid image (t .tree) s (r + length (recsOf n)) (s + length (textOf (recsOf n))) r s (items 0 (recsOf n))
@@ -82,7 +93,8 @@ module _ (image : List ℕ) (t : Tables) where
       sym (rows-start (suc k) (r + length (recsOf n)) (s + length (textOf (recsOf n))) (l + bytesFor (length (n .bits))) ns (rows-cons k r s l n ns h .1))
 
   -- what is asked to make its run, and that it is one
-  pub run-fits : (k r s l m x y : ℕ) (n : Node) (ns : List Node) → Rows image t k r s l (n ∷ ns) → TablesFit image t x y m → RunFits image t r (length (recsOf n))
+  pub run-fits : (k r s l m x y : ℕ) (n : Node) (ns : List Node) → Rows image t k r s l (n ∷ ns) → TablesFit image t x y m
+      → RunFits image t r (length (recsOf n))
   run-fits k r s l m x y n ns h f =
       let o = rows-order (suc k) (r + length (recsOf n)) (s + length (textOf (recsOf n))) (l + bytesFor (length (n .bits))) ns (rows-cons k r s l n ns h .1) in
       let a = f .records-fit in

@@ -1,25 +1,23 @@
 -- Every image that passes the check has its components in rows.
 use mathlib.Core.Path.{_≡_, refl, sym, ap, subst, _∙_}
 use Prim.Native.Nat.{_≤_, _<_}
-use native.Mathlib.Nat.{add-zero, add-assoc}
+use native.Mathlib.Nat.{add-assoc}
 use native.Mathlib.Omega.{arith}
 use lib.ListN.{length-append}
 use Rattle.definition.specs.Prelude.{ℕ, suc, _+_, _*_, _^_, true, List, [], _∷_, _++_, map, length, leb}
-use Rattle.definition.specs.Basics.{ok, all, joined}
-use Rattle.definition.specs.Image.{Rec, u32At, bytesFor, tables, tablesFor, counts, treeOf}
-use Rattle.definition.specs.Check.{checkImage}
+use Rattle.definition.specs.Basics.{all, joined}
+use Rattle.definition.specs.Image.{bytesFor, tables, counts}
 use Rattle.definition.specs.Tree.{Tree, Node, recsOf, allRecs, textOf, literalsOf, u32, packed, recordBytes, imageOf, fits, soundNode}
 use Rattle.laws.specs.Tests.{and-iff, leb-iff}
 use Rattle.prepared.specs.Bytes.{Holds, holds-left, holds-right, u32At-next}
 use Rattle.prepared.specs.Bits.{length-packed}
 use Rattle.prepared.specs.Groups.{textOf-append}
-use Rattle.prepared.specs.Components.{Sound, sound-cons}
-use Rattle.prepared.specs.Layout.{Fits, fits-parts, Layout, layout, tablesOf, concatenationRow, componentRow}
+use Rattle.prepared.specs.Components.{sound-cons}
+use Rattle.prepared.specs.Layout.{fits-parts, layout, tablesOf, concatenationRow, componentRow}
 use Rattle.prepared.specs.Prepared.{read-back}
-use Rattle.prepared.specs.Statement.{Bytes}
 use Rattle.prepared.specs.back.Every.{every-image}
 use Rattle.stages.specs.token_tree.Table.{tablesIn}
-use Rattle.stages.specs.token_tree.Rows.{Rooted, Rows, TablesFit, Sizes}
+use Rattle.stages.specs.token_tree.Rows.{Rows, TablesFit, Sizes}
 use Rattle.stages.specs.token_tree.Grown.{Grown, EveryGrown}
 use Rattle.stages.specs.declared.token_tree.types.Tables.{Tables}
 use Rattle.stages.proofs.token_tree.Forests.{records-behind, records-before, text-behind, text-before}
@@ -100,7 +98,8 @@ grown t f =
       count = c;
       nodes = n;
       rows = rows (imageOf t) (tablesIn (imageOf t)) (joined t) 0 0 0 0 (ft .sound) (omega (arith, rc)) (omega (arith, tx))
-          (moved ((tablesOf t) .components) ((tables (imageOf t)) .components + 8 * 0) (joined (map componentRow (joined t))) (ly .components) (omega (arith, c)))
+          (moved ((tablesOf t) .components) ((tables (imageOf t)) .components + 8 * 0) (joined (map componentRow (joined t)))
+          (ly .components) (omega (arith, c)))
           (moved ((tablesOf t) .records) ((tables (imageOf t)) .records + 12 * 0) (recordBytes 0 (allRecs (joined t))) (ly .records) (omega (arith, c, n)))
           (moved ((tablesOf t) .text) ((tables (imageOf t)) .text + 0) (textOf (allRecs (joined t))) (ly .text) (omega (arith, c, n, r)))
           (moved ((tablesOf t) .literals) ((tables (imageOf t)) .literals + 0) (literalsOf (joined t)) (ly .literals) (omega (arith, c, n, r, tb)))

@@ -10,7 +10,8 @@ use Rattle.stages.proofs.token_tree.text.same_text.Tie as tie
 returns : tie.Need-returns
 returns c =
     let a = c .before .before .before .before .args in
-    lengths-apart (a .a .len) (a .b .len) (drop (a .tree .text + a .a .at .0) (now (a .image))) (drop (a .tree .text + a .b .at .0) (now (a .image))) (c .if1 .taken)
+    lengths-apart (a .a .len) (a .b .len) (drop (a .tree .text + a .a .at .0) (now (a .image)))
+    (drop (a .tree .text + a .b .at .0) (now (a .image))) (c .if1 .taken)
 
 returns-2 : tie.Need-returns-2
 returns-2 c =
