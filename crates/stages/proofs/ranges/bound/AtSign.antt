@@ -12,10 +12,18 @@ use Rattle.definition.specs.Ranges.{Cut, cutBound, readBound, joinSides}
 use Rattle.laws.specs.Tests.{and-iff}
 use Rattle.stages.specs.token_tree.Laid.{Stands, Laid, placeOf}
 use Rattle.stages.specs.token_tree.Table.{startIn, skipIn, singleOf}
+use Rattle.stages.specs.token_tree.Parts.{partBy, partOf}
+use Rattle.stages.specs.ranges.Values.{newBy, UsbReads}
 use Rattle.stages.specs.ranges.Signs.{cutPlace}
 use Rattle.stages.specs.ranges.Sides.{joinParts, join-is, textIn, sidesIn}
+use Rattle.stages.specs.declared.token_tree.types.Part.{Part}
 use Rattle.stages.specs.declared.token_tree.types.Tree.{Tree}
+use Rattle.stages.specs.declared.ranges.types.Usb.{Usb}
+use Rattle.stages.specs.declared.ranges.types.UsbResult.{UsbResult}
+use Rattle.stages.specs.declared.ranges.types.UsbResult.the-variants as U
 use Rattle.stages.proofs.token_tree.Places.{place-above, laid-order, laid-split, Split, token-by}
+use Rattle.stages.proofs.ranges.sides.Texts.{part-fits}
+use Rattle.stages.proofs.ranges.sides.Ways.{made-new}
 use Rattle.stages.proofs.ranges.signs.CutParts.{Parts, bound-parts}
 use Rattle.stages.proofs.ranges.bound.Written.{text-laid}
 
@@ -117,3 +125,19 @@ module _ (image : List ℕ) (t : Tree) (base stop tail r s : ℕ) (is : List Ite
           let b = bound-parts is c q in
           let cut = subst (λ l. Laid image t base stop tail r s l) (sign-parts is c b) h in
           split-sign at c q k (sign-long is c b) (laid-split image t base stop tail r s (c .before) (c .sign ∷ c .after) cut)
+
+-- ---- group: what it answers
+
+module _ (image : List ℕ) (t : Tree) (base stop tail r s : ℕ) (is : List Item) (h : Laid image t base stop tail r s is) (one : 1 ≤ r) where
+  pub group-whole : base ≤ s → t .text + tail ≤ length image → (at : ℕ) → at ≡ cutPlace image t r (cutBound is) → at ≡ 0
+      → (part : Part) (u : Usb) → part ≡ partBy s tail → u ≡ newBy part → UsbReads image t base (U.Ok u) (readBound is)
+  group-whole above room at e z part u q w =
+      let o = laid-order image t base stop tail r s is h .1 in
+      made-new image t base part u w (rw q (part-fits image t base s tail record { above = above; order = o; room = room }))
+      (ap (λ y. ok (Ranges.text (partOf image t base y) (pos 0))) q ∙ bound-whole image t base stop tail r s is h one at e z)
+
+  pub group-sign : (at : ℕ) → at ≡ cutPlace image t r (cutBound is) → (at ≡ 0 → ⊥) → (p : ℕ) → p ≡ startIn image t at
+      → (q : UsbResult) → UsbReads image t base q (sidesIn image t base p s tail) → UsbReads image t base q (readBound is)
+  group-sign at e n p k q u =
+      let x = at-sign image t base stop tail r s is h one at e n in
+      subst (λ m. UsbReads image t base q m) (ap (λ y. sidesIn image t base y s tail) k ∙ x .reads) u

@@ -57,6 +57,11 @@ module _ (original before after kept : Text.Part) (negative : Bool) where
   join-kept : numberIn after ≡ none → textKept original before kept ≡ joinParts original before after kept negative
   join-kept e = rw (e, joinParts)
 
+-- where the kept text starts
+pub kept-from : (p e : ℕ) (negative : Bool) (from : ℕ) → p < e → from ≡ (if negative then p else p + 1) → from ≤ e
+kept-from p e true from l q = omega (arith, l, q)
+kept-from p e false from l q = omega (arith, l, q)
+
 module _ (image : List ℕ) (t : Tree) (base : ℕ) where
   -- an answer that holds a text and a number
   pub made : (s : Part) (x : I128) {m : Result Ranges.Usb} → PartFits image t base s → x .low < 2 ^ 64 → x .high < 2 ^ 64
