@@ -159,55 +159,87 @@ module _ (image : List ℕ) (t : Tree) (base stop tail r s : ℕ) (is : List Ite
           }
       go i (j ∷ rest) e st k = absurd (let m = begun image t base stop tail (r + skipIn image t r) (s + length (i .part .bytes)) j rest k in omega (arith, m, z))
 
--- ---- the one item, of a kind
+-- ---- the ways of parse_usb, by what the first record holds
 
 module _ (image : List ℕ) (t : Tree) (base stop tail r s : ℕ) (is : List Item) (l : r < stop) (h : Laid image t base stop tail r s is)
-    (o : One image t base stop tail r s is l h) (kind : ℕ) (ek : kind ≡ kindIn image t r) where
-  kind-is : o .item .kind ≡ kind
-  kind-is = sym (ek ∙ o .stands .kind)
+    (kind start skip : ℕ) (ek : kind ≡ kindIn image t r) (es : start ≡ startIn image t r) (ep : skip ≡ skipIn image t r) where
+  skipped : r + skip ≡ stop → r + skipIn image t r ≡ stop
+  skipped z = ap (λ (x : ℕ). r + x) (sym ep) ∙ z
 
-  pub one-word : kind ≡ 0 → isGroup (o .item) ≡ false
-  one-word z = rw (kind-is ∙ z) refl
+  begins : s ≡ start
+  begins = sym (es ∙ first-start image t base stop tail r s is l h)
 
-  one-group : (kind ≡ 0 → ⊥) → isGroup (o .item) ≡ true
-  one-group n = by-test (isGroup (o .item)) (λ q. q) (λ q. absurd (n (sym kind-is ∙ o .stands .word q)))
+  pub parse-many : (r + skip ≡ stop → ⊥) → UsbReads image t base (U.Refused 15) (parseUsb is)
+  parse-many n = many-refused image t base stop tail r s is l h (λ z. n (ap (λ (x : ℕ). r + x) ep ∙ z))
 
-  pub one-token : (q : UsbResult) → kind ≡ 0 → UsbReads image t base q (readBound (o .item ∷ [])) → UsbReads image t base q (parseUsb is)
-  one-token q z u = subst (λ m. UsbReads image t base q m) (sym (ap parseUsb (o .parts) ∙ usb-token (o .item) (one-word z))) u
+  module _ (z : r + skip ≡ stop) where
+    -- the item that stands there
+    pub lone : One image t base stop tail r s is l h
+    lone = the-one image t base stop tail r s is l h (skipped z)
 
-  pub one-other : (kind ≡ 0 → ⊥) → (kind ≡ 2 → ⊥) → UsbReads image t base (U.Refused 15) (parseUsb is)
-  one-other n m = refused-as image t base is (ap parseUsb (o .parts) ∙ usb-other (o .item) (one-group n) (λ z. m (sym kind-is ∙ z)))
+    kind-is : lone .item .kind ≡ kind
+    kind-is = sym (ek ∙ lone .stands .kind)
 
-  -- what stands in the group
-  abbrev pub inner : List Item
-  inner = items (o .item .inside-at) (o .item .inside)
+    in-parentheses : kind ≡ 2 → isGroup (lone .item) ≡ true
+    in-parentheses k = rw (kind-is ∙ k) refl
 
-  pub one-inside : (q : UsbResult) → kind ≡ 2 → UsbReads image t base q (readBound inner) → UsbReads image t base q (parseUsb is)
-  one-inside q z u = subst (λ m. UsbReads image t base q m) (sym (ap parseUsb (o .parts) ∙ usb-group (o .item) (rw (kind-is ∙ z) refl) (kind-is ∙ z))) u
+    pub parse-token : kind ≡ 0 → (q : UsbResult)
+        → ((base stop r : ℕ) (i : Item) → isGroup i ≡ false → Laid image t base stop tail r start (i ∷ []) → UsbReads image t base q (readBound (i ∷ [])))
+        → UsbReads image t base q (parseUsb is)
+    parse-token k q f =
+        let word : isGroup (lone .item) ≡ false = rw (kind-is ∙ k) refl in
+        subst (λ m. UsbReads image t base q m) (sym (ap parseUsb (lone .parts) ∙ usb-token (lone .item) word))
+        (f base stop r (lone .item) word (subst (λ x. Laid image t base stop tail r x (lone .item ∷ [])) begins (lone .laid)))
 
-  pub inside-at : kind ≡ 2 → r + skipIn image t r ≡ stop → Laid image t base (stop - 1) (tail - 1) (r + 1) (s + 1) inner
-  inside-at z e =
-      let g : isGroup (o .item) ≡ true = rw (kind-is ∙ z) refl in
-      let n = o .stands .group g in
-      let two = n .two in
-      let long = n .long in
-      let te = o .ends in
-      let a : r + (skipIn image t r - 1) ≡ stop - 1 = omega (arith, two, e) in
-      let b : s + (length (o .item .part .bytes) - 1) ≡ tail - 1 = omega (arith, long, te) in
-      subst (λ x. Laid image t base x (tail - 1) (r + 1) (s + 1) inner) a
-      (subst (λ y. Laid image t base (r + (skipIn image t r - 1)) y (r + 1) (s + 1) inner) b (inside-laid image t base stop r s (o .item) (o .stands) g))
+    pub parse-other : (kind ≡ 0 → ⊥) → (kind ≡ 2 → ⊥) → UsbReads image t base (U.Refused 15) (parseUsb is)
+    parse-other n m =
+        let g : isGroup (lone .item) ≡ true = by-test (isGroup (lone .item)) (λ q. q) (λ q. absurd (n (sym kind-is ∙ lone .stands .word q))) in
+        refused-as image t base is (ap parseUsb (lone .parts) ∙ usb-other (lone .item) g (λ k. m (sym kind-is ∙ k)))
 
-pub inside-runs : (image : List ℕ) (t : Tree) (stop tail r s : ℕ) → r < stop → (w : Runs image t stop tail r s)
-    → kindIn image t r ≡ 2 → r + skipIn image t r ≡ stop → Runs image t (stop - 1) (tail - 1) (r + 1) (s + 1)
-inside-runs image t stop tail r s l w z e =
-    let o = the-one image t (w .base) stop tail r s (w .items) l (w .laid) e in
+    pub token-order : start < tail
+    token-order = let e = lone .ends in let n = lone .stands .some in let b = begins in omega (arith, e, n, b)
+
+    module _ (k : kind ≡ 2) where
+      pub group-order : start + 2 ≤ tail
+      group-order = let e = lone .ends in let n = (lone .stands .group (in-parentheses k)) .long in let b = begins in omega (arith, e, n, b)
+
+      abbrev pub inner : List Item
+      inner = items (lone .item .inside-at) (lone .item .inside)
+
+      pub inner-laid : Laid image t base (stop - 1) (tail - 1) (r + 1) (start + 1) inner
+      inner-laid =
+          let g = in-parentheses k in
+          let two = (lone .stands .group g) .two in
+          let long = (lone .stands .group g) .long in
+          let e = lone .ends in
+          let y = skipped z in
+          let a : r + (skipIn image t r - 1) ≡ stop - 1 = omega (arith, two, y) in
+          let b : s + (length (lone .item .part .bytes) - 1) ≡ tail - 1 = omega (arith, long, e) in
+          subst (λ x. Laid image t base (stop - 1) (tail - 1) (r + 1) (x + 1) inner) begins
+          (subst (λ x. Laid image t base x (tail - 1) (r + 1) (s + 1) inner) a
+          (subst (λ x. Laid image t base (r + (skipIn image t r - 1)) x (r + 1) (s + 1) inner) b (inside-laid image t base stop r s (lone .item) (lone .stands) g)))
+
+      pub parse-group : (q : UsbResult)
+          → ((base : ℕ) (is : List Item) → base ≤ start + 1 → Laid image t base (stop - 1) (tail - 1) (r + 1) (start + 1) is → UsbReads image t base q (readBound is))
+          → UsbReads image t base q (parseUsb is)
+      parse-group q f =
+          let a = lone .stands .at in
+          let b = begins in
+          subst (λ m. UsbReads image t base q m) (sym (ap parseUsb (lone .parts) ∙ usb-group (lone .item) (in-parentheses k) (kind-is ∙ k)))
+          (f base inner (omega (arith, a, b)) inner-laid)
+
+-- the run inside the group
+pub inner-runs : (image : List ℕ) (t : Tree) (stop tail r s : ℕ) (l : r < stop) (w : Runs image t stop tail r s)
+    (kind start skip : ℕ) → kind ≡ kindIn image t r → start ≡ startIn image t r → skip ≡ skipIn image t r → r + skip ≡ stop → kind ≡ 2
+    → Runs image t (stop - 1) (tail - 1) (r + 1) (start + 1)
+inner-runs image t stop tail r s l w kind start skip ek es ep z k =
     let f = w .fits in
     let tf = w .text-fits in
     let ts = w .text-small in
     record {
       base = w .base;
-      items = inner image t (w .base) stop tail r s (w .items) l (w .laid) o 2 (sym z);
-      laid = inside-at image t (w .base) stop tail r s (w .items) l (w .laid) o 2 (sym z) refl e;
+      items = inner image t (w .base) stop tail r s (w .items) l (w .laid) kind start skip ek es ep z k;
+      laid = inner-laid image t (w .base) stop tail r s (w .items) l (w .laid) kind start skip ek es ep z k;
       fits = omega (arith, f);
       text-fits = omega (arith, tf);
       small = w .small;

@@ -58,6 +58,13 @@ module _ (original before after kept : Text.Part) (negative : Bool) where
   join-kept e = rw (e, joinParts)
 
 -- where the kept text starts
+module _ (p from : ℕ) (negative : Bool) where
+  pub from-minus : negative ≡ true → from ≡ p → from ≡ (if negative then p else p + 1)
+  from-minus n e = rw n e
+
+  pub from-plus : negative ≡ false → from ≡ p + 1 → from ≡ (if negative then p else p + 1)
+  from-plus n e = rw n e
+
 pub kept-from : (p e : ℕ) (negative : Bool) (from : ℕ) → p < e → from ≡ (if negative then p else p + 1) → from ≤ e
 kept-from p e true from l q = omega (arith, l, q)
 kept-from p e false from l q = omega (arith, l, q)

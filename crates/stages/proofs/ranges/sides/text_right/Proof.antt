@@ -1,21 +1,28 @@
-use mathlib.Core.Path.{_≡_, ap, _∙_}
-use mathlib.Core.Logic.{inl, inr}
-use Prim.Native.Nat.{ℕ, _+_, _≤_, _<_}
+use mathlib.Core.Path.{ap}
+use mathlib.Core.Logic.{⊎-elim}
 use native.Mathlib.Omega.{arith}
 use borrow.Author.Needs.{needs}
-use Rattle.stages.proofs.ranges.sides.Ways.{kept-from, kept-number, kept-whole}
+use Rattle.image.specs.declared.token_tree.PText.{PText}
+use Rattle.stages.proofs.ranges.sides.Ways.{from-minus, from-plus, kept-from, kept-number, kept-whole}
 use Rattle.stages.proofs.ranges.sides.text_right.Statement.{statement}
 use Rattle.stages.proofs.ranges.sides.text_right.Tie as tie
 
 part-of-requires : tie.Need-part-of-requires
-part-of-requires c κs = let a = c .before .before .before .before .args in kept-from (a .p .0) (a .t .0) (a .negative) (c .if1 .part-of .0) (c .before .before .before .before .pre .1) ?
+part-of-requires c κs =
+    let a = c .before .before .before .before .args in
+    kept-from (a .p .0) (a .t .0) (a .negative) (c .if1 .part-of .0) (c .before .before .before .before .pre .1)
+    (⊎-elim (λ w. from-minus (a .p .0) (c .if1 .part-of .0) (a .negative) (w .0 .taken) (ap (λ (x : PText). x .0) (w .1)))
+    (λ w. from-plus (a .p .0) (c .if1 .part-of .0) (a .negative) (w .0 .left) (ap (λ (x : PText). x .0) (w .1))) (c .if1 .came))
 
 returns : tie.Need-returns
 returns c image tree base between n =
     let a = c .before .before .before .before .before .args in
     let l = c .before .before .before .l .given in
-    kept-number image tree base (a .s .0) (a .p .0) (a .t .0) (a .l) (a .negative) between (c .before .before .before .before .before .pre .0) (c .before .before .before .before .before .pre .1) n (c .part-of .result) (l .0 .0) (c .before .if1 .part-of .0) (l .1)
-    (omega arith) (omega arith) ? (c .part-of .ensures)
+    let f = c .before .if1 in
+    kept-number image tree base (a .s .0) (a .p .0) (a .t .0) (a .l) (a .negative) between (c .before .before .before .before .before .pre .0) (c .before .before .before .before .before .pre .1) n (c .part-of .result) (l .0 .0) (f .part-of .0) (l .1)
+    (omega arith) (omega arith)
+    (⊎-elim (λ w. from-minus (a .p .0) (f .part-of .0) (a .negative) (w .0 .taken) (ap (λ (x : PText). x .0) (w .1)))
+    (λ w. from-plus (a .p .0) (f .part-of .0) (a .negative) (w .0 .left) (ap (λ (x : PText). x .0) (w .1))) (f .came)) (c .part-of .ensures)
 
 returns-2 : tie.Need-returns-2
 returns-2 c image tree base between n =
