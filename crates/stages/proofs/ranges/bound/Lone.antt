@@ -87,9 +87,12 @@ module _ (image : List ℕ) (t : Tree) (base stop e r s : ℕ) (i : Item) (h : L
   read-by = lone-by i (eqb b 43) (eqb b 45) (test-is 43 (omega arith)) (test-is 45 (omega arith)) ∙ rw (← text-laid image t base stop e r s (i ∷ []) h) refl
 
   pub lone-sign : (u : Usb) → u ≡ zeroBy → t .text ≤ length image → (b ≡ 43) ⊎ (b ≡ 45) → UsbReads image t base (U.Ok u) (readBound (i ∷ []))
-  lone-sign u q l k = made-new image t base _ u q (none-fits image t base l) (ap (λ p. ok (Ranges.text p (pos 0))) (no-text-is image t base) ∙ sym (read-by ∙ told k))
+  lone-sign u q l k =
+      made-new image t base _ u q (none-fits image t base l)
+      (ap (λ p. ok (Ranges.text p (pos 0))) (no-text-is image t base) ∙ sym (read-by ∙ told k))
     where
-      told : (b ≡ 43) ⊎ (b ≡ 45) → (if eqb b 43 then ok (Ranges.val (pos 0)) else if eqb b 45 then ok (Ranges.val (pos 0)) else ok (Ranges.text (textIn image t base s e) (pos 0)))
+      told : (b ≡ 43) ⊎ (b ≡ 45)
+          → (if eqb b 43 then ok (Ranges.val (pos 0)) else if eqb b 45 then ok (Ranges.val (pos 0)) else ok (Ranges.text (textIn image t base s e) (pos 0)))
           ≡ ok (Ranges.val (pos 0))
       told (inl z) = rw (eq-eqb b 43 z)
       told (inr z) = rw z refl
@@ -157,7 +160,8 @@ module _ (image : List ℕ) (t : Tree) (base stop tail r s : ℕ) (is : List Ite
             stands = st;
             ends = text-ended image t base stop tail (r + skipIn image t r) (s + length (i .part .bytes)) k;
           }
-      go i (j ∷ rest) e st k = absurd (let m = begun image t base stop tail (r + skipIn image t r) (s + length (i .part .bytes)) j rest k in omega (arith, m, z))
+      go i (j ∷ rest) e st k =
+          absurd (let m = begun image t base stop tail (r + skipIn image t r) (s + length (i .part .bytes)) j rest k in omega (arith, m, z))
 
 -- ---- the ways of parse_usb, by what the first record holds
 
@@ -217,10 +221,12 @@ module _ (image : List ℕ) (t : Tree) (base stop tail r s : ℕ) (is : List Ite
           let b : s + (length (lone .item .part .bytes) - 1) ≡ tail - 1 = omega (arith, long, e) in
           subst (λ x. Laid image t base (stop - 1) (tail - 1) (r + 1) (x + 1) inner) begins
           (subst (λ x. Laid image t base x (tail - 1) (r + 1) (s + 1) inner) a
-          (subst (λ x. Laid image t base (r + (skipIn image t r - 1)) x (r + 1) (s + 1) inner) b (inside-laid image t base stop r s (lone .item) (lone .stands) g)))
+          (subst (λ x. Laid image t base (r + (skipIn image t r - 1)) x (r + 1) (s + 1) inner) b
+          (inside-laid image t base stop r s (lone .item) (lone .stands) g)))
 
       pub parse-group : (q : UsbResult)
-          → ((base : ℕ) (is : List Item) → base ≤ start + 1 → Laid image t base (stop - 1) (tail - 1) (r + 1) (start + 1) is → UsbReads image t base q (readBound is))
+          → ((base : ℕ) (is : List Item) → base ≤ start + 1 → Laid image t base (stop - 1) (tail - 1) (r + 1) (start + 1) is
+          → UsbReads image t base q (readBound is))
           → UsbReads image t base q (parseUsb is)
       parse-group q f =
           let a = lone .stands .at in

@@ -35,7 +35,8 @@ module _ (image : List ℕ) (t : Tree) (base : ℕ) where
       let n : ℕ = length (i .part .bytes) in
       let o = laid-order image t base stop tail (r + skipIn image t r) (s + n) is (h .1) .1 in
       let z : tail - s ≡ n + (tail - (s + n)) = omega (arith, o) in
-      rw (z, bytes-add image (t .text + s) n (tail - (s + n)), add-assoc (t .text) s n, h .0 .bytes, bytes-laid stop tail (r + skipIn image t r) (s + n) is (h .1))
+      rw (z, bytes-add image (t .text + s) n (tail - (s + n)), add-assoc (t .text) s n, h .0 .bytes,
+      bytes-laid stop tail (r + skipIn image t r) (s + n) is (h .1))
 
   -- the text of all of them
   pub text-laid : (stop tail r s : ℕ) (is : List Item) → Laid image t base stop tail r s is → textIn image t base s tail ≡ Text.partOf is

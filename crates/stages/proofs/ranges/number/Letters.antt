@@ -4,7 +4,8 @@ use Prim.Native.Nat.{_≤_, _<_}
 use native.Mathlib.Omega.{arith}
 use lib.ListN.{length-drop}
 use borrow.Author.Tests.{ne-eqb, le-ltb, lt-leb}
-use Rattle.definition.specs.Prelude.{ℕ, zero, suc, _+_, _*_, _-_, Bool, true, false, _&&_, Option, none, some, List, [], _∷_, length, getD, take, drop, leb, ltb, eqb}
+use Rattle.definition.specs.Prelude.{ℕ, zero, suc, _+_, _*_, _-_, Bool, true, false, _&&_, Option, none, some, List, [], _∷_}
+use Rattle.definition.specs.Prelude.{length, getD, take, drop, leb, ltb, eqb}
 use Rattle.definition.specs.Basics.{if_then_else_, within}
 use Rattle.definition.specs.Numbers.{digitWorth, digitIn, digitsFrom, inner, unsignedParse, tryParse}
 use Rattle.definition.specs.Image.{padded, bytesAt}

@@ -101,10 +101,12 @@ module _ (image : List ℕ) (t : Tree) (base : ℕ) where
     right-number x h g k =
         let f : PartFits image t base part = rw g (none-fits image t base (let m = b .room in omega (arith, m))) in
         subst (λ m. UsbReads image t base q m)
-        (bound-is (partOf image t base part) Text.noText (optionOf j) (summed negative (valueOf x) (valueOf r)) (ap (partOf image t base) g ∙ no-text-is image t base) k
+        (bound-is (partOf image t base part) Text.noText (optionOf j) (summed negative (valueOf x) (valueOf r))
+        (ap (partOf image t base) g ∙ no-text-is image t base) k
         ∙ ap (λ u. movedBy u negative (valueOf r)) (sym (side-number (textIn image t base s p) (valueOf x) (number-is l x e h)))) (w f)
 
-    pub right-text : (x : I128) → l ≡ I.None → part ≡ partBy s p → x ≡ zeroI → optionOf j ≡ narrow (summed negative (valueOf x) (valueOf r)) → UsbReads image t base q moved
+    pub right-text : (x : I128) → l ≡ I.None → part ≡ partBy s p → x ≡ zeroI
+        → optionOf j ≡ narrow (summed negative (valueOf x) (valueOf r)) → UsbReads image t base q moved
     right-text x h g z k =
         let f : PartFits image t base part = rw g (part-fits image t base s p b) in
         subst (λ m. UsbReads image t base q m)
@@ -119,7 +121,8 @@ module _ (image : List ℕ) (t : Tree) (base : ℕ) where
     abbrev kept : Text.Part
     kept = if negative then textIn image t base p e else textIn image t base (p + 1) e
 
-    pub kept-number : (part : Part) (x : I128) (from : ℕ) → l ≡ I.Some x → x .low < 2 ^ 64 → x .high < 2 ^ 64 → from ≡ (if negative then p else p + 1) → part ≡ partBy from e
+    pub kept-number : (part : Part) (x : I128) (from : ℕ) → l ≡ I.Some x → x .low < 2 ^ 64 → x .high < 2 ^ 64
+        → from ≡ (if negative then p else p + 1) → part ≡ partBy from e
         → UsbReads image t base (U.Ok (record { s = part; x = x })) (textKept (textIn image t base s e) (textIn image t base s p) kept)
     kept-number part x from h low high g d =
         made part x (rw d (part-fits image t base from e (within negative g))) low high
@@ -142,7 +145,8 @@ module _ (image : List ℕ) (t : Tree) (base : ℕ) where
 
   -- ---- sides
 
-  module _ (q : UsbResult) (s p e b : ℕ) (r : OptionI128) (eb : b ≡ getD image (t .text + p) 0) (n : optionOf r ≡ numberIn (textIn image t base (p + 1) e)) where
+  module _ (q : UsbResult) (s p e b : ℕ) (r : OptionI128) (eb : b ≡ getD image (t .text + p) 0)
+      (n : optionOf r ≡ numberIn (textIn image t base (p + 1) e)) where
     abbrev keptBy : Bool → Text.Part
     keptBy negative = if negative then textIn image t base p e else textIn image t base (p + 1) e
 

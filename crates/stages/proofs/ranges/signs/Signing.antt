@@ -76,7 +76,8 @@ signed-pair g at b =
 
 module _ (image : List ℕ) (t : Tree) (e : ℕ) (above : 1 ≤ e) where
   place-some : (n : ℕ) → eqb (placeOf image t e n) 0 ≡ false
-  place-some n = ne-eqb (placeOf image t e n) 0 (λ q. let z : _≡_ {A = ℕ} (placeOf image t e n) 0 = q in let h = place-above image t e n in omega (arith, z, h, above))
+  place-some n =
+      ne-eqb (placeOf image t e n) 0 (λ q. let z : _≡_ {A = ℕ} (placeOf image t e n) 0 = q in let h = place-above image t e n in omega (arith, z, h, above))
 
   -- the pair with a minus at a place
   pair-by : (g : Signs) (at : ℕ) (best prev : Option Cut) → g .pair .0 ≡ cutPlace image t e best → PrevIs image t e g at prev
@@ -90,7 +91,8 @@ module _ (image : List ℕ) (t : Tree) (e : ℕ) (above : 1 ≤ e) where
   pub cut-is : (is : List Item) → cutOf (signsIn image t e is) ≡ cutPlace image t e (cutBound is)
   cut-is is = go (cutLast (isToken 43) is) (cutPair is) (cutLast (isToken 45) is)
     where
-      go : (a b c : Option Cut) → cutOf (signsBy (cutPlace image t e a) (cutPlace image t e b) (cutPlace image t e c)) ≡ cutPlace image t e (orElse a (orElse b c))
+      go : (a b c : Option Cut)
+          → cutOf (signsBy (cutPlace image t e a) (cutPlace image t e b) (cutPlace image t e c)) ≡ cutPlace image t e (orElse a (orElse b c))
       go (some a) b c = rw (place-some (length (a .before))) refl
       go none (some b) c = rw (place-some (length (b .before))) refl
       go none none c = refl
@@ -128,24 +130,29 @@ module _ (image : List ℕ) (t : Tree) (base stop tail e : ℕ) (above : 1 ≤ e
   pub signing-end : (is : List Item) (g : Signs) (at s : ℕ) → Signing image t base stop tail e is g at s → stop ≤ at → g ≡ signsIn image t e is
   signing-end is g at s h l =
       let (z, q) = laid-none image t base stop tail at s (h .rest) l (h .laid) in
-      let a : cutLast (isToken 43) is ≡ h .plus = h .plus-at ∙ ap (λ r. orElse (ahead (h .passed) (cutLast (isToken 43) r)) (h .plus)) z ∙ last-done (isToken 43) (h .passed) (h .plus) in
-      let b : cutLast (isToken 45) is ≡ h .minus = h .minus-at ∙ ap (λ r. orElse (ahead (h .passed) (cutLast (isToken 45) r)) (h .minus)) z ∙ last-done (isToken 45) (h .passed) (h .minus) in
+      let a : cutLast (isToken 43) is ≡ h .plus = h .plus-at
+      ∙ ap (λ r. orElse (ahead (h .passed) (cutLast (isToken 43) r)) (h .plus)) z ∙ last-done (isToken 43) (h .passed) (h .plus) in
+      let b : cutLast (isToken 45) is ≡ h .minus = h .minus-at
+      ∙ ap (λ r. orElse (ahead (h .passed) (cutLast (isToken 45) r)) (h .minus)) z ∙ last-done (isToken 45) (h .passed) (h .minus) in
       let d : cutPair is ≡ h .pair = h .pair-at ∙ ap (λ r. orElse (h .pair) (resume (h .passed) (h .prev) r)) z ∙ pair-done (h .passed) (h .pair) (h .prev) in
-      made (g .plus .0) _ (g .pair .0) _ (g .minus .0) _ (h .plus-is ∙ ap (cutPlace image t e) (sym a)) (h .pair-is ∙ ap (cutPlace image t e) (sym d)) (h .minus-is ∙ ap (cutPlace image t e) (sym b))
+      made (g .plus .0) _ (g .pair .0) _ (g .minus .0) _
+      (h .plus-is ∙ ap (cutPlace image t e) (sym a)) (h .pair-is ∙ ap (cutPlace image t e) (sym d)) (h .minus-is ∙ ap (cutPlace image t e) (sym b))
     where
       made : (a a′ b b′ c c′ : ℕ) → a ≡ a′ → b ≡ b′ → c ≡ c′ → signsBy a b c ≡ signsBy a′ b′ c′
       made a a′ b b′ c c′ p q r = cc
 
   -- after an item: by what it is
   module _ (is : List Item) (g g′ : Signs) (at next s u b : ℕ) (h : Signing image t base stop tail e is g at s) (l : at < stop)
-      (en : next ≡ at + skipIn image t at) (et : u ≡ startOr image t next stop tail) (eb : b ≡ singleOf image (t .text + s) (u - s)) (eg : g′ ≡ signedBy g at b) where
+      (en : next ≡ at + skipIn image t at) (et : u ≡ startOr image t next stop tail)
+      (eb : b ≡ singleOf image (t .text + s) (u - s)) (eg : g′ ≡ signedBy g at b) where
     pub signing-next : Signing image t base stop tail e is g′ next u
     signing-next =
         let f = laid-first image t base stop tail at s (h .rest) l (h .laid) in
         let i : Item = f .item in
         let n : ℕ = length (h .passed) in
         let pn : next ≡ placeOf image t e (suc n) = en ∙ ap (λ (x : ℕ). x + skipIn image t x) (h .here) ∙ sym (place-suc image t e n) in
-        let ld : Laid image t base stop tail next (s + length (i .part .bytes)) (f .rest) = subst (λ x. Laid image t base stop tail x (s + length (i .part .bytes)) (f .rest)) (sym en) (f .laid) in
+        let ld : Laid image t base stop tail next (s + length (i .part .bytes)) (f .rest) =
+        subst (λ x. Laid image t base stop tail x (s + length (i .part .bytes)) (f .rest)) (sym en) (f .laid) in
         let ts : u ≡ s + length (i .part .bytes) = et ∙ sym (laid-start image t base stop tail next (s + length (i .part .bytes)) (f .rest) ld) in
         let lt : Laid image t base stop tail next u (f .rest) = subst (λ x. Laid image t base stop tail next x (f .rest)) (sym ts) ld in
         let plus-token : isToken 43 i ≡ eqb b 43 = token-by image t base 43 at s stop u i (omega arith) (f .stands) ts ∙ ap (λ x. eqb x 43) (sym eb) in
@@ -166,13 +173,17 @@ module _ (image : List ℕ) (t : Tree) (base stop tail e : ℕ) (above : 1 ≤ e
               parts = h .parts ∙ ap (λ r. h .passed ++ r) p ∙ sym (append-assoc (h .passed) (i ∷ []) rest);
               here = rw n pn;
               laid = lt;
-              plus-at = h .plus-at ∙ ap (λ r. orElse (ahead (h .passed) (cutLast (isToken 43) r)) (h .plus)) p ∙ last-step (isToken 43) (h .passed) i rest (h .plus);
-              minus-at = h .minus-at ∙ ap (λ r. orElse (ahead (h .passed) (cutLast (isToken 45) r)) (h .minus)) p ∙ last-step (isToken 45) (h .passed) i rest (h .minus);
+              plus-at = h .plus-at
+                  ∙ ap (λ r. orElse (ahead (h .passed) (cutLast (isToken 43) r)) (h .plus)) p ∙ last-step (isToken 43) (h .passed) i rest (h .plus);
+              minus-at = h .minus-at
+                  ∙ ap (λ r. orElse (ahead (h .passed) (cutLast (isToken 45) r)) (h .minus)) p ∙ last-step (isToken 45) (h .passed) i rest (h .minus);
               pair-at = h .pair-at ∙ ap (λ r. orElse (h .pair) (resume (h .passed) (h .prev) r)) p
                   ∙ pair-step (h .passed) i rest (h .pair) (h .prev) (subst (λ r. Fresh (h .passed) r (h .prev)) p (h .fresh)) (isToken 45 i) refl;
               fresh = fresh-by (isToken 45 i) refl;
-              plus-is = ap (λ (x : Signs). x .plus .0) eg ∙ signed-plus g at b ∙ ap (λ m. if m then at else g .plus .0) (sym pt) ∙ last-by (isToken 43 i) (g .plus .0) (h .plus) (h .plus-is);
-              pair-is = ap (λ (x : Signs). x .pair .0) eg ∙ signed-pair g at b ∙ ap (λ m. if m then pairedBy (g .pair .0) (g .minus .0) at else g .pair .0) (sym mt) ∙ pair-both (isToken 45 i);
+              plus-is = ap (λ (x : Signs). x .plus .0) eg ∙ signed-plus g at b
+                  ∙ ap (λ m. if m then at else g .plus .0) (sym pt) ∙ last-by (isToken 43 i) (g .plus .0) (h .plus) (h .plus-is);
+              pair-is = ap (λ (x : Signs). x .pair .0) eg ∙ signed-pair g at b
+                  ∙ ap (λ m. if m then pairedBy (g .pair .0) (g .minus .0) at else g .pair .0) (sym mt) ∙ pair-both (isToken 45 i);
               minus-is = minus-now ∙ last-by (isToken 45 i) (g .minus .0) (h .minus) (h .minus-is);
               prev-is = prev-by (isToken 45 i) refl;
               low = low-by (isToken 45 i) minus-now;
@@ -186,7 +197,8 @@ module _ (image : List ℕ) (t : Tree) (base stop tail e : ℕ) (above : 1 ≤ e
             last-by true old best q = h .here
             last-by false old best q = q
 
-            pair-both : (m : Bool) → (if m then pairedBy (g .pair .0) (g .minus .0) at else g .pair .0) ≡ cutPlace image t e (orElse (h .pair) (if m then h .prev else none))
+            pair-both : (m : Bool)
+                → (if m then pairedBy (g .pair .0) (g .minus .0) at else g .pair .0) ≡ cutPlace image t e (orElse (h .pair) (if m then h .prev else none))
             pair-both true = pair-by image t e above g at (h .pair) (h .prev) (h .pair-is) (h .prev-is)
             pair-both false = h .pair-is ∙ ap (cutPlace image t e) (sym (or-none (h .pair)))
 

@@ -8,21 +8,26 @@ use Rattle.stages.proofs.ranges.bound.token.Tie as tie
 
 returns : tie.Need-returns
 returns c base stop r i word h =
+    let b = c .before .before .single in
     let a = c .before .before .before .before .args in
-    lone-sign (now (a .image)) (a .tree) base stop (a .end .0) r (a .s .0) i h (c .before .before .single .result) (c .before .before .single .ensures) (c .zero .result) (c .zero .ensures)
+    lone-sign (now (a .image)) (a .tree) base stop (a .end .0) r (a .s .0) i h (b .result) (b .ensures) (c .zero .result) (c .zero .ensures)
     (omega (arith, c .before .before .before .before .pre .1)) (inl (c .before .if1 .taken))
 
 returns-2 : tie.Need-returns-2
 returns-2 c base stop r i word h =
+    let b = c .before .before .before .single in
     let a = c .before .before .before .before .before .args in
-    lone-sign (now (a .image)) (a .tree) base stop (a .end .0) r (a .s .0) i h (c .before .before .before .single .result) (c .before .before .before .single .ensures) (c .zero2 .result) (c .zero2 .ensures)
+    lone-sign (now (a .image)) (a .tree) base stop (a .end .0) r (a .s .0) i h (b .result) (b .ensures) (c .zero2 .result) (c .zero2 .ensures)
     (omega (arith, c .before .before .before .before .before .pre .1)) (inr (c .before .if2 .taken))
 
 returns-3 : tie.Need-returns-3
 returns-3 c base stop r i word h =
+    let part = c .before .part-of in
+    let b = c .before .before .before .before .single in
     let a = c .before .before .before .before .before .before .args in
-    lone-text (now (a .image)) (a .tree) base stop (a .end .0) r (a .s .0) i h (c .before .before .before .before .single .result) (c .before .before .before .before .single .ensures) (c .before .part-of .result) (c .new-s .result)
-    (c .before .part-of .ensures) (c .new-s .ensures) (c .before .before .before .before .before .before .pre .0) (c .before .before .before .before .before .before .pre .1) (c .before .before .before .if1 .left) (c .before .before .if2 .left)
+    let p = c .before .before .before .before .before .before .pre in
+    lone-text (now (a .image)) (a .tree) base stop (a .end .0) r (a .s .0) i h (b .result) (b .ensures) (part .result) (c .new-s .result) (part .ensures)
+    (c .new-s .ensures) (p .0) (p .1) (c .before .before .before .if1 .left) (c .before .before .if2 .left)
 
 pub token-spec : {M : Type 1} → statement M
 token-spec =

@@ -14,8 +14,9 @@ returns c =
 
 returns-2 : tie.Need-returns-2
 returns-2 c =
-    let a = c .before .before .before .before .before .args in
-    c .i128-try-parse .ensures ∙ number-whole (now (a .image)) (a .p) (a .len) (a .p + a .len - a .p) (c .before .before .before .before .before .pre .1) (omega arith)
+    let b = c .before .before .before .before .before in
+    let a = b .args in
+    c .i128-try-parse .ensures ∙ number-whole (now (a .image)) (a .p) (a .len) (a .p + a .len - a .p) (b .pre .1) (omega arith)
 
 pub number-in-spec : {M : Type 1} → statement M
 number-in-spec =

@@ -1,4 +1,3 @@
-use mathlib.Core.Path.{_∙_}
 use borrow.Author.Needs.{needs}
 use Rattle.stages.proofs.ranges.sides.joined.Statement.{statement}
 use Rattle.stages.proofs.ranges.sides.joined.Tie as tie

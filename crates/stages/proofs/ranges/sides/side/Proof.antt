@@ -16,8 +16,10 @@ returns c base =
 
 returns-2 : tie.Need-returns-2
 returns-2 c base =
-    let a = c .before .before .before .before .before .before .before .before .before .args in
-    c .number-in .ensures ∙ number-text (now (a .image)) (a .tree) base (a .s .0) (a .t .0) (omega (arith, c .before .before .before .before .before .before .before .before .before .pre .0, c .before .before .before .before .before .if1 .left))
+    let f = c .before .before .before .before .before in
+    let b = f .before .before .before .before in
+    let a = b .args in
+    c .number-in .ensures ∙ number-text (now (a .image)) (a .tree) base (a .s .0) (a .t .0) (omega (arith, b .pre .0, f .if1 .left))
 
 pub side-spec : {M : Type 1} → statement M
 side-spec =

@@ -35,7 +35,8 @@ loop-holds c =
       runs-start (now (a .image)) (a .tree) (a .stop .0) (a .end .0) (a .r .0) (p .0) _ (p .1) (c .start-or .ensures),
       c .before .before .pre .0,
       λ base s′ is h.
-          signing-start (now (a .image)) (a .tree) base (a .stop .0) (a .end .0) (a .r .0) (c .before .before .pre .0) s′ (c .start-or .result .0) is _ refl (c .start-or .ensures) h,
+          signing-start (now (a .image)) (a .tree) base (a .stop .0) (a .end .0) (a .r .0) (c .before .before .pre .0) s′ (c .start-or .result .0) is _ refl
+          (c .start-or .ensures) h,
     )
 
 behind-requires : tie.Need-behind-requires Inv-loop μ-loop
@@ -50,15 +51,16 @@ start-or-requires-2 : tie.Need-start-or-requires-2 Inv-loop μ-loop
 start-or-requires-2 c κs =
     let a = c .before .before .before .before .before .before .before .args in
     let v = c .before .before .before .before .loop in
-    let n = runs-next (now (a .image)) (a .tree) (a .stop .0) (a .end .0) (v .at .0) (v .s .0) (c .behind .result .0) _ (v .inv .0) (c .before .if1 .taken) (c .behind .ensures) refl in
+    let n = runs-next (now (a .image)) (a .tree) (a .stop .0) (a .end .0) (v .at .0) (v .s .0) (c .behind .result .0) _ (v .inv .0)
+    (c .before .if1 .taken) (c .behind .ensures) refl in
     (n .stop-order, λ l. record { room = omega (arith, l, n .runs .fits); small = n .runs .small })
 
 single-requires : tie.Need-single-requires Inv-loop μ-loop
 single-requires c κs =
     let a = c .before .before .before .before .before .before .before .before .args in
     let v = c .before .before .before .before .before .loop in
-    let n = runs-next (now (a .image)) (a .tree) (a .stop .0) (a .end .0) (v .at .0) (v .s .0) (c .before .behind .result .0) (c .start-or2 .result .0) (v .inv .0) (c .before .before .if1 .taken)
-    (c .before .behind .ensures) (c .start-or2 .ensures) in
+    let n = runs-next (now (a .image)) (a .tree) (a .stop .0) (a .end .0) (v .at .0) (v .s .0) (c .before .behind .result .0)
+    (c .start-or2 .result .0) (v .inv .0) (c .before .before .if1 .taken) (c .before .behind .ensures) (c .start-or2 .ensures) in
     (n .text-order, omega (arith, n .text-fits, n .runs .text-fits))
 
 signed-requires : tie.Need-signed-requires Inv-loop μ-loop
@@ -73,32 +75,40 @@ signed-requires c κs =
 
 loop-less : tie.Need-loop-less Inv-loop μ-loop
 loop-less c =
-    let a = c .before .before .before .before .before .before .before .before .before .before .args in
-    let v = c .before .before .before .before .before .before .before .loop in
-    let n = runs-next (now (a .image)) (a .tree) (a .stop .0) (a .end .0) (v .at .0) (v .s .0) (c .before .before .before .behind .result .0) (c .before .before .start-or2 .result .0) (v .inv .0) (c .before .before .before .before .if1 .taken)
-    (c .before .before .before .behind .ensures) (c .before .before .start-or2 .ensures) in
+    let u = c .before .before .start-or2 in
+    let b = c .before .before .before .behind in
+    let f = c .before .before .before .before in
+    let v = f .before .before .before .loop in
+    let a = f .before .before .before .before .before .before .args in
+    let n = runs-next (now (a .image)) (a .tree) (a .stop .0) (a .end .0) (v .at .0) (v .s .0) (b .result .0) (u .result .0) (v .inv .0) (f .if1 .taken)
+    (b .ensures) (u .ensures) in
     omega (arith, n .order, n .stop-order)
 
 loop-again : tie.Need-loop-again Inv-loop μ-loop
 loop-again c =
-    let a = c .before .before .before .before .before .before .before .before .before .before .args in
-    let v = c .before .before .before .before .before .before .before .loop in
-    let n = runs-next (now (a .image)) (a .tree) (a .stop .0) (a .end .0) (v .at .0) (v .s .0) (c .before .before .before .behind .result .0) (c .before .before .start-or2 .result .0) (v .inv .0) (c .before .before .before .before .if1 .taken)
-    (c .before .before .before .behind .ensures) (c .before .before .start-or2 .ensures) in (
+    let u = c .before .before .start-or2 in
+    let b = c .before .before .before .behind in
+    let f = c .before .before .before .before in
+    let v = f .before .before .before .loop in
+    let a = f .before .before .before .before .before .before .args in
+    let n = runs-next (now (a .image)) (a .tree) (a .stop .0) (a .end .0) (v .at .0) (v .s .0) (b .result .0) (u .result .0) (v .inv .0) (f .if1 .taken)
+    (b .ensures) (u .ensures) in (
       n .runs,
       v .inv .1,
       λ base s′ is h.
-          signing-next (now (a .image)) (a .tree) base (a .stop .0) (a .end .0) (a .r .0) (v .inv .1) is (v .g) (c .signed .result) (v .at .0) (c .before .before .before .behind .result .0) (v .s .0)
-          (c .before .before .start-or2 .result .0) (c .before .single .result) (v .inv .2 base s′ is h) (c .before .before .before .before .if1 .taken) (c .before .before .before .behind .ensures) (c .before .before .start-or2 .ensures)
-          (c .before .single .ensures) (c .signed .ensures),
+          signing-next (now (a .image)) (a .tree) base (a .stop .0) (a .end .0) (a .r .0) (v .inv .1) is (v .g) (c .signed .result) (v .at .0) (b .result .0)
+          (v .s .0) (u .result .0) (c .before .single .result) (v .inv .2 base s′ is h) (f .if1 .taken) (b .ensures) (u .ensures) (c .before .single .ensures)
+          (c .signed .ensures),
     )
 
 returns : tie.Need-returns Inv-loop μ-loop
 returns c base s′ is h =
     let a = c .before .before .before .before .before .before .args in
     let v = c .before .before .before .loop in
-    signing-end (now (a .image)) (a .tree) base (a .stop .0) (a .end .0) (a .r .0) (v .inv .1) is (v .g) (v .at .0) (v .s .0) (v .inv .2 base s′ is h) (c .if1 .left)
+    signing-end (now (a .image)) (a .tree) base (a .stop .0) (a .end .0) (a .r .0) (v .inv .1) is (v .g) (v .at .0) (v .s .0)
+    (v .inv .2 base s′ is h) (c .if1 .left)
 
 pub signs-in-spec : {M : Type 1} → statement M
 signs-in-spec =
-    tie.close (tie.spec Inv-loop μ-loop start-or-requires loop-holds behind-requires start-or-requires-2 single-requires signed-requires loop-less loop-again returns)
+    tie.close
+    (tie.spec Inv-loop μ-loop start-or-requires loop-holds behind-requires start-or-requires-2 single-requires signed-requires loop-less loop-again returns)
