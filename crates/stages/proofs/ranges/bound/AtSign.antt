@@ -3,8 +3,8 @@ use mathlib.Core.Path.{_≡_, refl, sym, ap, subst, _∙_}
 use mathlib.Core.Logic.{_⊎_, inl, inr}
 use Prim.Native.Nat.{_≤_, _<_}
 use native.Mathlib.Omega.{arith}
-use Rattle.definition.specs.Prelude.{ℕ, suc, _+_, _-_, Bool, true, false, _&&_, not, Option, none, some, List, [], _∷_, _++_, length, eqb, getD, pos}
-use Rattle.definition.specs.Basics.{Result, ok, if_then_else_, sameBytes}
+use Rattle.definition.specs.Prelude.{ℕ, _+_, _-_, Bool, true, false, not, Option, none, some, List, [], _∷_, _++_, length, eqb, getD, pos}
+use Rattle.definition.specs.Basics.{ok, if_then_else_, sameBytes}
 use Rattle.definition.specs.Text as Text
 use Rattle.definition.specs.Text.{Item, isGroup, isToken}
 use Rattle.definition.specs.Ranges as Ranges

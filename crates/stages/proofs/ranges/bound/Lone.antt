@@ -4,8 +4,8 @@ use mathlib.Core.Logic.{_⊎_, inl, inr}
 use Prim.Native.Nat.{_≤_, _<_}
 use native.Mathlib.Omega.{arith}
 use borrow.Author.Tests.{eq-eqb, ne-eqb}
-use Rattle.definition.specs.Prelude.{ℕ, suc, _+_, _-_, Bool, true, false, none, some, List, [], _∷_, length, eqb, pos}
-use Rattle.definition.specs.Basics.{Result, ok, refused, if_then_else_}
+use Rattle.definition.specs.Prelude.{ℕ, _+_, _-_, Bool, true, false, none, some, List, [], _∷_, length, eqb, pos}
+use Rattle.definition.specs.Basics.{ok, refused, if_then_else_}
 use Rattle.definition.specs.Numbers.{half128}
 use Rattle.definition.specs.Text as Text
 use Rattle.definition.specs.Text.{Item, isGroup, isToken, items}

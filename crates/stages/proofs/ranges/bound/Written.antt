@@ -1,6 +1,5 @@
 -- The text of items that stand in a run is one part of the text.
-use mathlib.Core.Path.{_≡_, refl, sym, ap, _∙_}
-use Prim.Native.Nat.{_≤_, _<_}
+use mathlib.Core.Path.{_≡_, _∙_}
 use native.Mathlib.Nat.{zero-add, suc-add, add-assoc}
 use native.Mathlib.Omega.{arith}
 use lib.Seq.{drop-nil, drop-drop}
@@ -35,8 +34,13 @@ module _ (image : List ℕ) (t : Tree) (base : ℕ) where
       let n : ℕ = length (i .part .bytes) in
       let o = laid-order image t base stop tail (r + skipIn image t r) (s + n) is (h .1) .1 in
       let z : tail - s ≡ n + (tail - (s + n)) = omega (arith, o) in
-      rw (z, bytes-add image (t .text + s) n (tail - (s + n)), add-assoc (t .text) s n, h .0 .bytes,
-      bytes-laid stop tail (r + skipIn image t r) (s + n) is (h .1))
+      rw (
+        z,
+        bytes-add image (t .text + s) n (tail - (s + n)),
+        add-assoc (t .text) s n,
+        h .0 .bytes,
+        bytes-laid stop tail (r + skipIn image t r) (s + n) is (h .1),
+      )
 
   -- the text of all of them
   pub text-laid : (stop tail r s : ℕ) (is : List Item) → Laid image t base stop tail r s is → textIn image t base s tail ≡ Text.partOf is

@@ -3,8 +3,8 @@ use mathlib.Core.Path.{_≡_, refl, sym, ap, _∙_}
 use Prim.Native.Nat.{_≤_, _<_}
 use native.Mathlib.Omega.{arith}
 use borrow.Author.Tests.{eq-eqb, ne-eqb, eqb-false}
-use Rattle.definition.specs.Prelude.{ℕ, zero, suc, _+_, _-_, true, false, some, List, [], _∷_, length, drop, eqb, pos}
-use Rattle.definition.specs.Basics.{if_then_else_, isEmpty}
+use Rattle.definition.specs.Prelude.{ℕ, zero, suc, _+_, _-_, false, some, List, [], _∷_, length, drop, eqb, pos}
+use Rattle.definition.specs.Basics.{isEmpty}
 use Rattle.definition.specs.Numbers.{tryParse}
 use Rattle.definition.specs.Image.{padded, bytesAt}
 use Rattle.definition.specs.Text as Text

@@ -2,7 +2,7 @@
 use mathlib.Core.Path.{_≡_, refl, sym, ap, subst, _∙_}
 use Prim.Native.Nat.{_≤_, _<_}
 use native.Mathlib.Omega.{arith}
-use Rattle.definition.specs.Prelude.{ℕ, _+_, _^_, Bool, true, false, Option, none, some, List, length, eqb, getD, ℤ, pos}
+use Rattle.definition.specs.Prelude.{ℕ, _+_, _^_, Bool, true, false, Option, none, some, List, eqb, getD, ℤ, pos}
 use Rattle.definition.specs.Basics.{Result, ok, if_then_else_}
 use Rattle.definition.specs.Numbers.{narrow}
 use Rattle.definition.specs.Refusals.{bound-overflow}
@@ -14,7 +14,7 @@ use Rattle.numbers.specs.declared.I128.{I128}
 use Rattle.numbers.specs.declared.OptionI128.{OptionI128}
 use Rattle.numbers.specs.declared.OptionI128.the-variants as I
 use Rattle.stages.specs.token_tree.Parts.{noPart, partBy, partOf, PartFits}
-use Rattle.stages.specs.ranges.Values.{zeroI, newBy, usbOf, UsbFits, UsbReads}
+use Rattle.stages.specs.ranges.Values.{zeroI, newBy, UsbReads}
 use Rattle.stages.specs.ranges.Sides.{boundOf, summed, movedBy, textKept, joinParts, textIn, sidesIn, Between}
 use Rattle.stages.specs.declared.token_tree.types.Part.{Part}
 use Rattle.stages.specs.declared.token_tree.types.Tree.{Tree}

@@ -1,10 +1,9 @@
 -- A cut has the items before its sign, the sign, which is a token of one character, and the items behind it.
-use mathlib.Core.Path.{_≡_, refl, sym, ap, _∙_}
+use mathlib.Core.Path.{_≡_, refl, ap}
 use mathlib.Core.Logic.{_⊎_, inl, inr}
 use native.Mathlib.Omega.{arith}
 use Rattle.definition.specs.Prelude.{ℕ, Bool, true, false, _&&_, Option, none, some, List, [], _∷_, _++_}
 use Rattle.definition.specs.Basics.{if_then_else_}
-use Rattle.definition.specs.Characters.{char}
 use Rattle.definition.specs.Text.{Item, isToken}
 use Rattle.definition.specs.Ranges.{Cut, behind, beginsWith, cutLast, cutPair, cutBound, orElse}
 use Rattle.laws.specs.Tests.{and-iff}

@@ -2,12 +2,12 @@
 use mathlib.Core.Path.{_≡_, refl, sym, ap, subst, _∙_}
 use mathlib.Core.Logic.{_⊎_, inl, inr}
 use mathlib.Core.List.{append-assoc}
-use Prim.Native.Nat.{_≤_, _<_, _^_}
+use Prim.Native.Nat.{_≤_, _<_}
 use native.Mathlib.Numerals.{add-one}
 use native.Mathlib.Omega.{arith}
 use lib.ListN.{length-append}
-use borrow.Author.Tests.{eq-eqb, ne-eqb, eqb-true, eqb-false, not-true}
-use Rattle.definition.specs.Prelude.{ℕ, zero, suc, _+_, _*_, _-_, Bool, true, false, _&&_, not, Option, none, some, List, [], _∷_, _++_, length, eqb}
+use borrow.Author.Tests.{eq-eqb, ne-eqb, eqb-true, not-true}
+use Rattle.definition.specs.Prelude.{ℕ, suc, _+_, _-_, Bool, true, false, not, Option, none, some, List, [], _∷_, _++_, length, eqb}
 use Rattle.definition.specs.Basics.{if_then_else_, sameBytes}
 use Rattle.definition.specs.Text.{Item, isToken, isGroup}
 use Rattle.definition.specs.Ranges.{Cut, cutLast, cutPair, cutBound, orElse}

@@ -45,8 +45,9 @@ returns-2 : tie.Need-returns-2
 returns-2 c base is above h =
     let at = c .before .start-of in
     let cut = c .before .before .before .before .cut-in in
-    let a = c .before .before .before .before .before .before .args in
-    group-sign (now (a .image)) (a .tree) base (a .stop .0) (a .end .0) (a .r .0) (a .s .0) is h (c .before .before .before .before .before .before .pre .0) (cut .result .0)
+    let b = c .before .before .before .before .before .before in
+    let a = b .args in
+    group-sign (now (a .image)) (a .tree) base (a .stop .0) (a .end .0) (a .r .0) (a .s .0) is h (b .pre .0) (cut .result .0)
     (cut .ensures base (a .s .0) is h) (c .before .before .if1 .left) (at .result .0) (at .ensures) (c .sides .result) (c .sides .ensures base above)
 
 pub group-spec : {M : Type 1} → statement M

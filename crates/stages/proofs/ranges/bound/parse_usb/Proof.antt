@@ -28,7 +28,7 @@ token-requires c κs =
     let a = b .args in
     let w = b .pre .1 .1 in (
       token-order (now (a .image)) (a .tree) (w .base) (a .stop .0) (a .end .0) (a .r .0) (b .pre .1 .0) (w .items) (b .pre .0) (w .laid) (e .result .kind)
-      (e .result .start .0) (e .result .skip) (e .ensures .0) (e .ensures .1 .0) (e .ensures .1 .1) (c .before .before .if1 .left),
+          (e .result .start .0) (e .result .skip) (e .ensures .0) (e .ensures .1 .0) (e .ensures .1 .1) (c .before .before .if1 .left),
       w .text-fits,
     )
 
@@ -82,7 +82,7 @@ group-requires c κs =
     let a = b .args in (
       omega arith,
       inner-runs (now (a .image)) (a .tree) (a .stop .0) (a .end .0) (a .r .0) (b .pre .1 .0) (b .pre .0) (b .pre .1 .1) (e .result .kind)
-      (e .result .start .0) (e .result .skip) (e .ensures .0) (e .ensures .1 .0) (e .ensures .1 .1) (f .if1 .left) (g .if3 .left),
+          (e .result .start .0) (e .result .skip) (e .ensures .0) (e .ensures .1 .0) (e .ensures .1 .1) (f .if1 .left) (g .if3 .left),
     )
 
 returns-4 : tie.Need-returns-4

@@ -15,7 +15,8 @@ returns c base above =
     let pre = m .before .before .before .pre in
     sides-number (now (a .image)) (a .tree) base (c .number-right .result) (a .s .0) (a .p .0) (a .t .0) (b .result) (right .result) (b .ensures)
     (right .ensures base) (r .0 .0) (r .1)
-    (c .number-right .ensures (now (a .image)) (a .tree) base record { above = above; order = pre .0; room = omega (arith, pre .1, pre .2) } (m .side .ensures base))
+    (c .number-right .ensures (now (a .image)) (a .tree) base record { above = above; order = pre .0; room = omega (arith, pre .1, pre .2) }
+    (m .side .ensures base))
 
 returns-2 : tie.Need-returns-2
 returns-2 c base above =
@@ -26,7 +27,8 @@ returns-2 c base above =
     let pre = m .before .before .before .pre in
     sides-text (now (a .image)) (a .tree) base (c .text-right .result) (a .s .0) (a .p .0) (a .t .0) (b .result) (right .result) (b .ensures)
     (right .ensures base) (c .before .enum-told .given .1)
-    (c .text-right .ensures (now (a .image)) (a .tree) base record { above = above; order = omega (arith, pre .0, pre .1); room = pre .2 } (m .side .ensures base))
+    (c .text-right .ensures (now (a .image)) (a .tree) base record { above = above; order = omega (arith, pre .0, pre .1); room = pre .2 }
+    (m .side .ensures base))
 
 pub sides-spec : {M : Type 1} → statement M
 sides-spec =

@@ -7,7 +7,7 @@ use denote.Ref.{now}
 use Rattle.definition.specs.Text.{Item}
 use Rattle.stages.specs.token_tree.Laid.{Laid, Runs}
 use Rattle.stages.proofs.ranges.signs.Signing.{Signing, signing-start, signing-next, signing-end, signing-low}
-use Rattle.stages.proofs.token_tree.Walks.{runs-start, runs-order, runs-room, runs-next}
+use Rattle.stages.proofs.token_tree.Walks.{runs-start, runs-order, runs-next}
 use Rattle.stages.proofs.ranges.signs.signs_in.Statement.{statement}
 use Rattle.stages.proofs.ranges.signs.signs_in.Tie as tie
 
