@@ -188,12 +188,12 @@ module _ (image : List ℕ) (t : Tree) (base stop tail r s : ℕ) (is : List Ite
     in-parentheses k = rw (kind-is ∙ k) refl
 
     pub parse-token : kind ≡ 0 → (q : UsbResult)
-        → ((base stop r : ℕ) (i : Item) → isGroup i ≡ false → Laid image t base stop tail r start (i ∷ []) → UsbReads image t base q (readBound (i ∷ [])))
+        → ((base stop r : ℕ) (i : Item) → Laid image t base stop tail r start (i ∷ []) → UsbReads image t base q (readBound (i ∷ [])))
         → UsbReads image t base q (parseUsb is)
     parse-token k q f =
         let word : isGroup (lone .item) ≡ false = rw (kind-is ∙ k) refl in
         subst (λ m. UsbReads image t base q m) (sym (ap parseUsb (lone .parts) ∙ usb-token (lone .item) word))
-        (f base stop r (lone .item) word (subst (λ x. Laid image t base stop tail r x (lone .item ∷ [])) begins (lone .laid)))
+        (f base stop r (lone .item) (subst (λ x. Laid image t base stop tail r x (lone .item ∷ [])) begins (lone .laid)))
 
     pub parse-other : (kind ≡ 0 → ⊥) → (kind ≡ 2 → ⊥) → UsbReads image t base (U.Refused 15) (parseUsb is)
     parse-other n m =

@@ -7,21 +7,21 @@ use Rattle.stages.proofs.ranges.bound.token.Statement.{statement}
 use Rattle.stages.proofs.ranges.bound.token.Tie as tie
 
 returns : tie.Need-returns
-returns c base stop r i word h =
+returns c base stop r i h =
     let b = c .before .before .single in
     let a = c .before .before .before .before .args in
     lone-sign (now (a .image)) (a .tree) base stop (a .end .0) r (a .s .0) i h (b .result) (b .ensures) (c .zero .result) (c .zero .ensures)
     (omega (arith, c .before .before .before .before .pre .1)) (inl (c .before .if1 .taken))
 
 returns-2 : tie.Need-returns-2
-returns-2 c base stop r i word h =
+returns-2 c base stop r i h =
     let b = c .before .before .before .single in
     let a = c .before .before .before .before .before .args in
     lone-sign (now (a .image)) (a .tree) base stop (a .end .0) r (a .s .0) i h (b .result) (b .ensures) (c .zero2 .result) (c .zero2 .ensures)
     (omega (arith, c .before .before .before .before .before .pre .1)) (inr (c .before .if2 .taken))
 
 returns-3 : tie.Need-returns-3
-returns-3 c base stop r i word h =
+returns-3 c base stop r i h =
     let part = c .before .part-of in
     let b = c .before .before .before .before .single in
     let a = c .before .before .before .before .before .before .args in
