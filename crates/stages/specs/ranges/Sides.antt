@@ -1,13 +1,12 @@
 -- The two sides of a bound's sign, by their texts.
 use mathlib.Core.Path.{_≡_, refl}
-use Prim.Native.Nat.{_≤_, _<_}
+use Prim.Native.Nat.{_≤_}
 use Rattle.definition.specs.Prelude.{ℕ, _+_, Bool, Option, none, some, List, _∷_, length, eqb, getD, ℤ, pos, _+ℤ_, _-ℤ_}
 use Rattle.definition.specs.Basics.{Result, ok, _>>=_, if_then_else_}
 use Rattle.definition.specs.Characters.{char}
 use Rattle.definition.specs.Numbers.{narrow}
 use Rattle.definition.specs.Refusals.{refuse, bound-overflow, overflow}
-use Rattle.definition.specs.Image.{bytesAt}
-use Rattle.definition.specs.Text.{Part, Item, noText, isToken, partOf}
+use Rattle.definition.specs.Text.{Part, noText, isToken, partOf}
 use Rattle.definition.specs.Ranges.{Usb, Cut, text, withX, numberIn, side, joinSides}
 use Rattle.stages.specs.token_tree.Parts as Parts
 use Rattle.stages.specs.token_tree.Parts.{partBy}
@@ -65,10 +64,3 @@ pub record Between (image : List ℕ) (t : Tree) (base s e : ℕ) : Type 0 where
   pub above : base ≤ s
   pub order : s ≤ e
   pub room : t .text + e ≤ length image
-
--- the text of an item that is a token
-pub record Spoken (image : List ℕ) (t : Tree) (base s e : ℕ) (i : Item) : Type 0 where
-  pub at : base + i .part .at ≡ s
-  pub ends : s + length (i .part .bytes) ≡ e
-  pub some : 1 ≤ length (i .part .bytes)
-  pub bytes : bytesAt image (t .text + s) (length (i .part .bytes)) ≡ i .part .bytes

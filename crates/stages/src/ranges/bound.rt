@@ -10,16 +10,13 @@ use crate::token_tree::single;
 use crate::token_tree::start_of;
 use image::token_tree::PBind;
 use image::token_tree::PText;
-ghost use mathlib.Core.Path.{_≡_};
-ghost use mathlib.Core.Bool.{false};
 ghost use mathlib.Core.List.{List, [], _∷_};
 ghost use Prim.Native.Nat.{ℕ, _+_, _≤_, _<_};
 ghost use lib.ListN.{length};
-ghost use Rattle.definition.specs.Text.{Item, isGroup};
+ghost use Rattle.definition.specs.Text.{Item};
 ghost use Rattle.definition.specs.Ranges.{readBound, parseUsb};
 ghost use Rattle.stages.specs.token_tree.Laid.{Laid, Runs};
 ghost use Rattle.stages.specs.ranges.Values.{UsbReads};
-ghost use Rattle.stages.specs.ranges.Sides.{Spoken};
 
 // What stands in a `(` group, its text from s to `end`.
 fn group(image: &[u8], tree: Tree, r: PBind, stop: PBind, s: PText, end: PText) -> UsbResult
@@ -37,7 +34,7 @@ fn group(image: &[u8], tree: Tree, r: PBind, stop: PBind, s: PText, end: PText) 
 // A lone token, its text from s to `end`. A sign alone is 0.
 fn token(image: &[u8], tree: Tree, s: PText, end: PText) -> UsbResult
     requires { ⌜ (s .0 < «end» .0) × (tree .text + «end» .0 ≤ length (now image)) ⌝ }
-    ensures { λ q. ⌜ ((base : ℕ) (i : Item) → isGroup i ≡ false → Spoken (now (image .entry)) tree base (s .0) («end» .0) i
+    ensures { λ q. ⌜ ((base stop r : ℕ) (i : Item) → Laid (now (image .entry)) tree base stop («end» .0) r (s .0) (i ∷ [])
         → UsbReads (now (image .entry)) tree base q (readBound (i ∷ []))) ⌝ }
 {
     let b = single(image, tree, s, end);

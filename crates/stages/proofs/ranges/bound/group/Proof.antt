@@ -1,50 +1,55 @@
+use native.Mathlib.Omega.{arith}
+use denote.Ref.{now}
 use borrow.Author.Needs.{needs}
+use Rattle.stages.proofs.token_tree.Walks.{runs-order}
+use Rattle.stages.proofs.ranges.bound.AtSign.{at-sign, group-whole, group-sign}
 use Rattle.stages.proofs.ranges.bound.group.Statement.{statement}
 use Rattle.stages.proofs.ranges.bound.group.Tie as tie
-use Rattle.stages.proofs.ranges.bound.group.Reads as reads
-use Rattle.stages.proofs.ranges.bound.group.Lts as lts
-use Rattle.stages.proofs.ranges.sides.sides.Reads as sides-reads
-use Rattle.stages.proofs.ranges.signs.cut_in.Reads as cut-in-reads
-use Rattle.stages.proofs.ranges.types.Usb.new_s.Reads as new-s-reads
-use Rattle.stages.proofs.token_tree.items.start_of.Reads as start-of-reads
-use Rattle.stages.proofs.token_tree.text.part_of.Reads as part-of-reads
 
--- src/ranges/bound.rt:30:9
-cut-in-requires : tie.Need-cut-in-requires
-cut-in-requires c κs = search needs
-
--- src/ranges/bound.rt:32:41
 part-of-requires : tie.Need-part-of-requires
-part-of-requires c κs = ?
+part-of-requires c κs =
+    let b = c .before .before .before .before in
+    let a = b .args in
+    runs-order (now (a .image)) (a .tree) (a .stop .0) (a .end .0) (a .r .0) (a .s .0) (b .pre .1) .1
 
--- src/ranges/bound.rt:32:30
-new-s-requires : tie.Need-new-s-requires
-new-s-requires c κs = search needs
-
--- src/ranges/bound.rt:32:9
 returns : tie.Need-returns
-returns c = ?
+returns c base is above h =
+    let part = c .before .part-of in
+    let cut = c .before .before .before .before .cut-in in
+    let a = c .before .before .before .before .before .before .args in
+    let p = c .before .before .before .before .before .before .pre in
+    group-whole (now (a .image)) (a .tree) base (a .stop .0) (a .end .0) (a .r .0) (a .s .0) is h (p .0) above (p .1 .text-fits) (cut .result .0)
+    (cut .ensures base (a .s .0) is h) (c .before .before .if1 .taken) (part .result) (c .new-s .result) (part .ensures) (c .new-s .ensures)
 
--- src/ranges/bound.rt:34:24
 start-of-requires : tie.Need-start-of-requires
-start-of-requires c κs = ?
+start-of-requires c κs =
+    let cut = c .before .before .cut-in in
+    let a = c .before .before .before .before .args in
+    let p = c .before .before .before .before .pre in
+    let r = p .1 in
+    let k = at-sign (now (a .image)) (a .tree) (r .base) (a .stop .0) (a .end .0) (a .r .0) (a .s .0) (r .items) (r .laid) (p .0) (cut .result .0)
+    (cut .ensures (r .base) (a .s .0) (r .items) (r .laid)) (c .if1 .left) in
+    record { room = omega (arith, k .room, r .fits); small = r .small }
 
--- src/ranges/bound.rt:34:5
 sides-requires : tie.Need-sides-requires
-sides-requires c κs = ?
+sides-requires c κs =
+    let cut = c .before .before .before .cut-in in
+    let a = c .before .before .before .before .before .args in
+    let p = c .before .before .before .before .before .pre in
+    let r = p .1 in
+    let k = at-sign (now (a .image)) (a .tree) (r .base) (a .stop .0) (a .end .0) (a .r .0) (a .s .0) (r .items) (r .laid) (p .0) (cut .result .0)
+    (cut .ensures (r .base) (a .s .0) (r .items) (r .laid)) (c .before .if1 .left) in
+    (omega (arith, k .behind, c .start-of .ensures), omega (arith, k .before, c .start-of .ensures), r .text-fits)
 
--- src/ranges/bound.rt:25:1
 returns-2 : tie.Need-returns-2
-returns-2 c = ?
+returns-2 c base is above h =
+    let at = c .before .start-of in
+    let cut = c .before .before .before .before .cut-in in
+    let b = c .before .before .before .before .before .before in
+    let a = b .args in
+    group-sign (now (a .image)) (a .tree) base (a .stop .0) (a .end .0) (a .r .0) (a .s .0) is h (b .pre .0) (cut .result .0)
+    (cut .ensures base (a .s .0) is h) (c .before .before .if1 .left) (at .result .0) (at .ensures) (c .sides .result) (c .sides .ensures base above)
 
 pub group-spec : {M : Type 1} → statement M
 group-spec =
-    tie.close
-    (tie.spec
-    cut-in-requires
-    part-of-requires
-    new-s-requires
-    returns
-    start-of-requires
-    sides-requires
-    returns-2)
+    tie.close (tie.spec (λ c κs. search needs) part-of-requires (λ c κs. search needs) returns start-of-requires sides-requires returns-2)

@@ -1,54 +1,35 @@
+use mathlib.Core.Logic.{inl, inr}
+use native.Mathlib.Omega.{arith}
+use denote.Ref.{now}
 use borrow.Author.Needs.{needs}
+use Rattle.stages.proofs.ranges.bound.Lone.{lone-sign, lone-text}
 use Rattle.stages.proofs.ranges.bound.token.Statement.{statement}
 use Rattle.stages.proofs.ranges.bound.token.Tie as tie
-use Rattle.stages.proofs.ranges.bound.token.Reads as reads
-use Rattle.stages.proofs.ranges.bound.token.Lts as lts
-use Rattle.stages.proofs.ranges.types.Usb.new_s.Reads as new-s-reads
-use Rattle.stages.proofs.ranges.types.Usb.zero.Reads as zero-reads
-use Rattle.stages.proofs.token_tree.text.part_of.Reads as part-of-reads
-use Rattle.stages.proofs.token_tree.text.single.Reads as single-reads
 
--- src/ranges/bound.rt:43:9
-single-requires : tie.Need-single-requires
-single-requires c κs = search needs
-
--- src/ranges/bound.rt:45:30
-zero-requires : tie.Need-zero-requires
-zero-requires c κs = search needs
-
--- src/ranges/bound.rt:45:9
 returns : tie.Need-returns
-returns c = ?
+returns c base stop r i h =
+    let b = c .before .before .single in
+    let a = c .before .before .before .before .args in
+    lone-sign (now (a .image)) (a .tree) base stop (a .end .0) r (a .s .0) i h (b .result) (b .ensures) (c .zero .result) (c .zero .ensures)
+    (omega (arith, c .before .before .before .before .pre .1)) (inl (c .before .if1 .taken))
 
--- src/ranges/bound.rt:48:30
-zero-requires-2 : tie.Need-zero-requires-2
-zero-requires-2 c κs = search needs
-
--- src/ranges/bound.rt:48:9
 returns-2 : tie.Need-returns-2
-returns-2 c = ?
+returns-2 c base stop r i h =
+    let b = c .before .before .before .single in
+    let a = c .before .before .before .before .before .args in
+    lone-sign (now (a .image)) (a .tree) base stop (a .end .0) r (a .s .0) i h (b .result) (b .ensures) (c .zero2 .result) (c .zero2 .ensures)
+    (omega (arith, c .before .before .before .before .before .pre .1)) (inr (c .before .if2 .taken))
 
--- src/ranges/bound.rt:50:30
-part-of-requires : tie.Need-part-of-requires
-part-of-requires c κs = search needs
-
--- src/ranges/bound.rt:50:19
-new-s-requires : tie.Need-new-s-requires
-new-s-requires c κs = search needs
-
--- src/ranges/bound.rt:38:1
 returns-3 : tie.Need-returns-3
-returns-3 c = ?
+returns-3 c base stop r i h =
+    let part = c .before .part-of in
+    let b = c .before .before .before .before .single in
+    let a = c .before .before .before .before .before .before .args in
+    let p = c .before .before .before .before .before .before .pre in
+    lone-text (now (a .image)) (a .tree) base stop (a .end .0) r (a .s .0) i h (b .result) (b .ensures) (part .result) (c .new-s .result) (part .ensures)
+    (c .new-s .ensures) (p .0) (p .1) (c .before .before .before .if1 .left) (c .before .before .if2 .left)
 
 pub token-spec : {M : Type 1} → statement M
 token-spec =
     tie.close
-    (tie.spec
-    single-requires
-    zero-requires
-    returns
-    zero-requires-2
-    returns-2
-    part-of-requires
-    new-s-requires
-    returns-3)
+    (tie.spec (λ c κs. search needs) (λ c κs. search needs) returns (λ c κs. search needs) returns-2 (λ c κs. search needs) (λ c κs. search needs) returns-3)

@@ -1,52 +1,27 @@
+use mathlib.Core.Path.{ap, _∙_}
+use native.Mathlib.Omega.{arith}
+use denote.Ref.{now}
 use borrow.Author.Needs.{needs}
+use Rattle.definition.specs.Prelude.{some}
+use Rattle.numbers.specs.Value.{valueOf}
+use Rattle.stages.proofs.ranges.sides.Texts.{number-empty, number-text}
+use Rattle.stages.proofs.ranges.sides.Ways.{zero-is}
 use Rattle.stages.proofs.ranges.sides.side.Statement.{statement}
 use Rattle.stages.proofs.ranges.sides.side.Tie as tie
-use Rattle.stages.proofs.ranges.sides.side.Reads as reads
-use Rattle.stages.proofs.ranges.sides.side.Lts as lts
-use Rattle.stages.proofs.ranges.number.number_in.Reads as number-in-reads
-use Rattle.stages.proofs.ranges.usb.zero.Reads as zero-reads
 
--- src/ranges/sides.rt:33:33
-zero-requires : tie.Need-zero-requires
-zero-requires c κs = search needs
-
--- src/ranges/sides.rt:33:9
 returns : tie.Need-returns
-returns c = ?
+returns c base =
+    let a = c .before .before .before .before .before .args in
+    ap some (ap valueOf (c .zero .ensures) ∙ zero-is) ∙ number-empty (now (a .image)) (a .tree) base (a .s .0) (a .t .0) (c .before .if1 .taken)
 
--- src/ranges/sides.rt:35:35
-cast-number-in : tie.Need-cast-number-in
-cast-number-in c = search needs
-
--- src/ranges/sides.rt:35:22
-add-number-in : tie.Need-add-number-in
-add-number-in c = search needs
-
--- src/ranges/sides.rt:35:51
-sub-number-in : tie.Need-sub-number-in
-sub-number-in c = search needs
-
--- src/ranges/sides.rt:35:50
-cast-number-in-2 : tie.Need-cast-number-in-2
-cast-number-in-2 c = search needs
-
--- src/ranges/sides.rt:35:5
-number-in-requires : tie.Need-number-in-requires
-number-in-requires c κs = search needs
-
--- src/ranges/sides.rt:28:1
 returns-2 : tie.Need-returns-2
-returns-2 c = ?
+returns-2 c base =
+    let f = c .before .before .before .before .before in
+    let b = f .before .before .before .before in
+    let a = b .args in
+    c .number-in .ensures ∙ number-text (now (a .image)) (a .tree) base (a .s .0) (a .t .0) (omega (arith, b .pre .0, f .if1 .left))
 
 pub side-spec : {M : Type 1} → statement M
 side-spec =
     tie.close
-    (tie.spec
-    zero-requires
-    returns
-    cast-number-in
-    add-number-in
-    sub-number-in
-    cast-number-in-2
-    number-in-requires
-    returns-2)
+    (tie.spec (λ c κs. search needs) returns (λ c. search needs) (λ c. search needs) (λ c. search needs) (λ c. search needs) (λ c κs. search needs) returns-2)

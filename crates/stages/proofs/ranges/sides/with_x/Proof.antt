@@ -1,24 +1,16 @@
+use native.Mathlib.Omega.{arith}
 use borrow.Author.Needs.{needs}
+use Rattle.stages.proofs.ranges.sides.Ways.{with-some, with-none}
 use Rattle.stages.proofs.ranges.sides.with_x.Statement.{statement}
 use Rattle.stages.proofs.ranges.sides.with_x.Tie as tie
-use Rattle.stages.proofs.ranges.sides.with_x.Reads as reads
-use Rattle.stages.proofs.ranges.sides.with_x.Lts as lts
 
--- src/ranges/sides.rt:53:26
-enum-known-n : tie.Need-enum-known-n
-enum-known-n c = search needs
-
--- src/ranges/sides.rt:54:29
-enum-told : tie.Need-enum-told
-enum-told c = search needs
-
--- src/ranges/sides.rt:48:1
 returns : tie.Need-returns
-returns c = ?
+returns c image t base fits =
+    let a = c .before .before .before .args in
+    with-some image t base (a .s) (a .n) (c .before .n .given .0 .0) (c .before .n .given .1) (omega arith) (omega arith) fits
 
--- src/ranges/sides.rt:48:1
 returns-2 : tie.Need-returns-2
-returns-2 c = ?
+returns-2 c image t base fits = with-none image t base (c .before .before .args .s) (c .before .before .args .n) (c .enum-told .given .1)
 
 pub with-x-spec : {M : Type 1} → statement M
-with-x-spec = tie.close (tie.spec enum-known-n enum-told returns returns-2)
+with-x-spec = tie.close (tie.spec (λ c. search needs) (λ c. search needs) returns returns-2)

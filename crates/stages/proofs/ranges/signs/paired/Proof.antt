@@ -1,24 +1,16 @@
 use borrow.Author.Needs.{needs}
+use borrow.Author.Tests.{eq-eqb, ne-eqb}
 use Rattle.stages.proofs.ranges.signs.paired.Statement.{statement}
 use Rattle.stages.proofs.ranges.signs.paired.Tie as tie
-use Rattle.stages.proofs.ranges.signs.paired.Reads as reads
-use Rattle.stages.proofs.ranges.signs.paired.Lts as lts
 
--- src/ranges/signs.rt:30:9
 returns : tie.Need-returns
-returns c = ?
+returns c = rw (ne-eqb _ _ (c .if1 .taken))
 
--- src/ranges/signs.rt:32:8
-add-if2 : tie.Need-add-if2
-add-if2 c = search needs
-
--- src/ranges/signs.rt:33:9
 returns-2 : tie.Need-returns-2
-returns-2 c = ?
+returns-2 c = rw (eq-eqb _ _ (c .before .before .before .if1 .left), eq-eqb _ _ (c .if2 .taken))
 
--- src/ranges/signs.rt:25:1
 returns-3 : tie.Need-returns-3
-returns-3 c = ?
+returns-3 c = rw (eq-eqb _ _ (c .before .before .before .if1 .left), ne-eqb _ _ (c .if2 .left))
 
 pub paired-spec : {M : Type 1} → statement M
-paired-spec = tie.close (tie.spec returns add-if2 returns-2 returns-3)
+paired-spec = tie.close (tie.spec returns (λ c. search needs) returns-2 returns-3)
