@@ -1,14 +1,13 @@
 -- The bounds of a range: what `including`, `ended`, `parse_start` and `parse_end` give.
-use mathlib.Core.Path.{_≡_, refl, sym, ap, subst, _∙_}
+use mathlib.Core.Path.{_≡_, refl, sym, ap, subst}
 use Prim.Native.Nat.{_≤_, _<_}
 use native.Mathlib.Omega.{arith}
-use Rattle.definition.specs.Prelude.{ℕ, _+_, Bool, true, false, Option, none, some, List, [], _∷_, length}
+use Rattle.definition.specs.Prelude.{ℕ, _+_, Bool, true, false, Option, some, List, [], _∷_, length}
 use Rattle.definition.specs.Basics.{Result, ok, refused, _>>=_, if_then_else_}
 use Rattle.definition.specs.Text.{Item}
 use Rattle.definition.specs.Ranges as Ranges
 use Rattle.definition.specs.Ranges.{parseUsb, parseStart}
 use Rattle.stages.specs.token_tree.Laid.{Laid, Runs}
-use Rattle.stages.specs.token_tree.Table.{startIn}
 use Rattle.stages.specs.ranges.Values.{zeroBy, usbOf, UsbFits, UsbReads, RangeReads}
 use Rattle.stages.specs.ranges.Sides.{raisedOne, raisedBy}
 use Rattle.stages.specs.ranges.Checks.{endedWith}

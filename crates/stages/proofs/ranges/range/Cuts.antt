@@ -3,13 +3,12 @@ use mathlib.Core.Path.{_≡_, refl, sym, ap, subst, _∙_}
 use Prim.Native.Nat.{_≤_, _<_}
 use native.Mathlib.Omega.{arith}
 use lib.Seq.{length-take-le}
-use Rattle.definition.specs.Prelude.{ℕ, zero, suc, _+_, _*_, _-_, _^_, Bool, true, false, Option, none, some, List, [], _∷_, _++_, take, drop, length}
-use Rattle.definition.specs.Basics.{Result, ok, refused, _>>=_}
+use Rattle.definition.specs.Prelude.{ℕ, zero, suc, _+_, _-_, Bool, true, false, List, [], _∷_, _++_, take, drop, length}
+use Rattle.definition.specs.Basics.{refused, _>>=_}
 use Rattle.definition.specs.Text.{Item}
-use Rattle.definition.specs.Ranges as Ranges
 use Rattle.definition.specs.Ranges.{parseStart, parseRange}
 use Rattle.stages.specs.token_tree.Laid.{Laid, Runs, placeOf}
-use Rattle.stages.specs.token_tree.Table.{startIn, RecordFits}
+use Rattle.stages.specs.token_tree.Table.{startIn}
 use Rattle.stages.specs.ranges.Values.{usbOf, UsbFits, UsbReads, RangeReads}
 use Rattle.stages.specs.ranges.Dots.{dotsIn, endedRange, rangedBy, RangedIs, Found}
 use Rattle.stages.specs.declared.token_tree.types.Tree.{Tree}
@@ -20,7 +19,7 @@ use Rattle.stages.specs.declared.ranges.types.UsbResult.{UsbResult}
 use Rattle.stages.specs.declared.ranges.types.UsbResult.the-variants as U
 use Rattle.stages.specs.declared.ranges.types.RangeResult.{RangeResult}
 use Rattle.stages.specs.declared.ranges.types.RangeResult.the-variants as R
-use Rattle.stages.proofs.token_tree.Places.{Split, laid-split, laid-order, laid-none}
+use Rattle.stages.proofs.token_tree.Places.{laid-split, laid-order, laid-none}
 use Rattle.stages.proofs.ranges.range.Bounds.{reads-ok, reads-refused}
 use Rattle.stages.proofs.ranges.range.Dotted.{RangeBy, RangeCut, range-by}
 

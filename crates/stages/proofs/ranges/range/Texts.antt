@@ -1,11 +1,10 @@
 -- The text of a run of items is one part of the text; no text.
-use mathlib.Core.Path.{_≡_, refl, sym, ap, subst, _∙_}
+use mathlib.Core.Path.{_≡_, refl, sym, ap, _∙_}
 use Prim.Native.Nat.{_≤_, _<_}
 use native.Mathlib.Omega.{arith}
 use lib.ListN.{length-append}
 use borrow.Author.Tests.{ne-eqb}
-use Rattle.definition.specs.Prelude.{ℕ, _+_, _-_, _^_, List, [], _∷_, _++_, length, some, pos, eqb}
-use Rattle.definition.specs.Basics.{if_then_else_}
+use Rattle.definition.specs.Prelude.{ℕ, _+_, _-_, List, [], _∷_, _++_, length, some, pos}
 use Rattle.definition.specs.Image.{bytesAt, padded}
 use Rattle.definition.specs.Text as Text
 use Rattle.definition.specs.Text.{Item, bytesOf}
@@ -14,7 +13,7 @@ use Rattle.image.specs.items.First.{bytes-add}
 use Rattle.numbers.specs.Value.{valueOf}
 use Rattle.stages.specs.token_tree.Table.{startIn, skipIn}
 use Rattle.stages.specs.token_tree.Laid.{Laid}
-use Rattle.stages.specs.token_tree.Parts.{partBy, partOf, noPart, PartFits}
+use Rattle.stages.specs.token_tree.Parts.{partBy, partOf, PartFits}
 use Rattle.stages.specs.ranges.Values.{newBy, zeroBy, usbOf, usbrOf, UsbFits, UsbrFits}
 use Rattle.stages.specs.declared.token_tree.types.Tree.{Tree}
 use Rattle.stages.specs.declared.token_tree.types.Part.{Part}
@@ -84,7 +83,8 @@ module _ (image : List ℕ) (t : Tree) (base : ℕ) where
 
   -- "In a bracket without dots, text s means s up to s + 1"
   single-of : (stop tail r s : ℕ) (is : List Item) → r < stop → t .text + tail ≤ length image → Laid image t base stop tail r s is
-      → (usbrOf image t base (bitBy (newBy (partBy s tail)) (partBy s tail)) ≡ singleBit is) × UsbrFits image t base (bitBy (newBy (partBy s tail)) (partBy s tail))
+      → (usbrOf image t base (bitBy (newBy (partBy s tail)) (partBy s tail)) ≡ singleBit is)
+      × UsbrFits image t base (bitBy (newBy (partBy s tail)) (partBy s tail))
   unfolding valueOf
   single-of stop tail r s is l room h =
       let k = laid-part stop tail r s is l room h in

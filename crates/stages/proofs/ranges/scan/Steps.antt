@@ -1,12 +1,12 @@
 -- What a walk over a run asks of the records that it reads.
-use Prim.Native.Nat.{_≤_, _<_}
+use mathlib.Core.Path.{refl}
+use Prim.Native.Nat.{_<_}
 use native.Mathlib.Omega.{arith}
 use Rattle.definition.specs.Prelude.{ℕ, _+_, _^_, List}
 use Rattle.stages.specs.token_tree.Laid.{Runs}
 use Rattle.stages.specs.token_tree.Table.{skipIn, RecordFits, startOr}
 use Rattle.stages.specs.declared.token_tree.types.Tree.{Tree}
 use Rattle.stages.proofs.token_tree.Walks.{runs-room, runs-next}
-use mathlib.Core.Path.{refl}
 
 module _ (image : List ℕ) (t : Tree) (stop tail e s : ℕ) (r : Runs image t stop tail e s) where
   pub run-record : e < stop → RecordFits image t e

@@ -1,12 +1,7 @@
-use native.Mathlib.Omega.{arith}
 use borrow.Author.Needs.{needs}
 use Rattle.stages.proofs.ranges.range.Texts.{single-is, start-order}
-use Rattle.stages.proofs.ranges.scan.Steps.{run-record}
 use Rattle.stages.proofs.ranges.range.single_bit.Statement.{statement}
 use Rattle.stages.proofs.ranges.range.single_bit.Tie as tie
-
-start-of-requires : tie.Need-start-of-requires
-start-of-requires c κs = search needs
 
 part-of-requires : tie.Need-part-of-requires
 part-of-requires c κs =
@@ -25,4 +20,4 @@ returns c = λ base s is h.
     (c .before .part-of .ensures) (c .new-s .ensures)
 
 pub single-bit-spec : {M : Type 1} → statement M
-single-bit-spec = tie.close (tie.spec start-of-requires part-of-requires (λ c κs. search needs) returns)
+single-bit-spec = tie.close (tie.spec (λ c κs. search needs) part-of-requires (λ c κs. search needs) returns)
