@@ -1,34 +1,25 @@
 use borrow.Author.Needs.{needs}
+use Rattle.stages.proofs.ranges.range.Bounds.{raised-reads, same-reads, refused-reads}
 use Rattle.stages.proofs.ranges.range.including.Statement.{statement}
 use Rattle.stages.proofs.ranges.range.including.Tie as tie
-use Rattle.stages.proofs.ranges.range.including.Reads as reads
-use Rattle.stages.proofs.ranges.range.including.Lts as lts
-use Rattle.stages.proofs.ranges.types.Usb.raised.Reads as raised-reads
 
--- src/ranges/range.rt:50:23
-enum-known-b : tie.Need-enum-known-b
-enum-known-b c = search needs
-
--- src/ranges/range.rt:52:17
-raised-requires : tie.Need-raised-requires
-raised-requires c κs = search needs
-
--- src/ranges/range.rt:52:17
 returns : tie.Need-returns
-returns c = ?
+returns c = λ image t base m r.
+    let a = c .before .before .before .before .before .args in
+    let g = c .before .before .before .b .given in
+    raised-reads image t base (a .b) (c .raised .result) (g .0 .0) m (a .inclusive) (c .before .if1 .taken) (g .1) (c .raised .ensures image t base) r
 
--- src/ranges/range.rt:56:34
-enum-told : tie.Need-enum-told
-enum-told c = search needs
-
--- src/ranges/range.rt:45:1
 returns-2 : tie.Need-returns-2
-returns-2 c = ?
+returns-2 c = λ image t base m r.
+    let a = c .before .before .before .before .args in
+    let g = c .before .before .b .given in
+    same-reads image t base (a .b) (g .0 .0) m (a .inclusive) (c .if1 .left) (g .1) r
 
--- src/ranges/range.rt:45:1
 returns-3 : tie.Need-returns-3
-returns-3 c = ?
+returns-3 c = λ image t base m r.
+    let a = c .before .before .args in
+    let g = c .enum-told .given in
+    refused-reads image t base (a .b) (g .0 .0) m (a .inclusive) (g .1) r
 
 pub including-spec : {M : Type 1} → statement M
-including-spec =
-    tie.close (tie.spec enum-known-b raised-requires returns enum-told returns-2 returns-3)
+including-spec = tie.close (tie.spec (λ c. search needs) (λ c κs. search needs) returns (λ c. search needs) returns-2 returns-3)

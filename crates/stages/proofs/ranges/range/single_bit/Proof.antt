@@ -1,27 +1,23 @@
 use borrow.Author.Needs.{needs}
+use Rattle.stages.proofs.ranges.range.Texts.{single-is, start-order}
 use Rattle.stages.proofs.ranges.range.single_bit.Statement.{statement}
 use Rattle.stages.proofs.ranges.range.single_bit.Tie as tie
-use Rattle.stages.proofs.ranges.range.single_bit.Reads as reads
-use Rattle.stages.proofs.ranges.range.single_bit.Lts as lts
-use Rattle.stages.proofs.ranges.types.Usb.new_s.Reads as new-s-reads
-use Rattle.stages.proofs.token_tree.items.start_of.Reads as start-of-reads
-use Rattle.stages.proofs.token_tree.text.part_of.Reads as part-of-reads
 
--- src/ranges/range.rt:130:21
-start-of-requires : tie.Need-start-of-requires
-start-of-requires c κs = search needs
-
--- src/ranges/range.rt:130:9
 part-of-requires : tie.Need-part-of-requires
-part-of-requires c κs = ?
+part-of-requires c κs =
+    let b = c .before .before .before .before in
+    let a = b .args in
+    let r = b .pre .1 .1 in
+    start-order (a .image .now) (a .tree) (r .base) (a .run .stop .0) (a .run .end .0) (a .run .r .0) (b .pre .1 .0) _ (r .items) (b .pre .0) (r .laid)
+    (c .start-of .ensures)
 
--- src/ranges/range.rt:132:16
-new-s-requires : tie.Need-new-s-requires
-new-s-requires c κs = search needs
-
--- src/ranges/range.rt:123:1
 returns : tie.Need-returns
-returns c = ?
+returns c = λ base s is h.
+    let b = c .before .before .before .before .before .before in
+    let a = b .args in
+    single-is (a .image .now) (a .tree) base (a .run .stop .0) (a .run .end .0) (a .run .r .0) s (c .before .before .start-of .result .0) is
+    (c .before .part-of .result) (c .new-s .result) (b .pre .0) (b .pre .1 .1 .text-fits) h (c .before .before .start-of .ensures)
+    (c .before .part-of .ensures) (c .new-s .ensures)
 
 pub single-bit-spec : {M : Type 1} → statement M
-single-bit-spec = tie.close (tie.spec start-of-requires part-of-requires new-s-requires returns)
+single-bit-spec = tie.close (tie.spec (λ c κs. search needs) part-of-requires (λ c κs. search needs) returns)

@@ -1,21 +1,13 @@
 use borrow.Author.Needs.{needs}
+use borrow.Author.Tests.{eq-eqb, ne-eqb}
 use Rattle.stages.proofs.ranges.scan.at_stop.Statement.{statement}
 use Rattle.stages.proofs.ranges.scan.at_stop.Tie as tie
-use Rattle.stages.proofs.ranges.scan.at_stop.Reads as reads
-use Rattle.stages.proofs.ranges.scan.at_stop.Lts as lts
-use Rattle.stages.proofs.ranges.scan.found.Reads as found-reads
 
--- src/ranges/scan.rt:118:9
-found-requires : tie.Need-found-requires
-found-requires c κs = search needs
-
--- src/ranges/scan.rt:118:9
 returns : tie.Need-returns
-returns c = ?
+returns c = rw (c .found .ensures, eq-eqb _ _ (c .before .if1 .taken))
 
--- src/ranges/scan.rt:114:1
 returns-2 : tie.Need-returns-2
-returns-2 c = ?
+returns-2 c = rw (ne-eqb _ _ (c .if1 .left))
 
 pub at-stop-spec : {M : Type 1} → statement M
-at-stop-spec = tie.close (tie.spec found-requires returns returns-2)
+at-stop-spec = tie.close (tie.spec (λ c κs. search needs) returns returns-2)

@@ -1,29 +1,16 @@
 use borrow.Author.Needs.{needs}
+use borrow.Author.Tests.{eq-eqb, ne-eqb}
 use Rattle.stages.proofs.ranges.scan.dotted.Statement.{statement}
 use Rattle.stages.proofs.ranges.scan.dotted.Tie as tie
-use Rattle.stages.proofs.ranges.scan.dotted.Reads as reads
-use Rattle.stages.proofs.ranges.scan.dotted.Lts as lts
-use Rattle.stages.proofs.ranges.scan.refuse.Reads as refuse-reads
 
--- src/ranges/scan.rt:68:9
-refuse-requires : tie.Need-refuse-requires
-refuse-requires c κs = search needs
-
--- src/ranges/scan.rt:68:9
 returns : tie.Need-returns
-returns c = ?
+returns c = rw (c .refuse .ensures, eq-eqb _ _ (c .before .if1 .taken))
 
--- src/ranges/scan.rt:71:15
-add-t9 : tie.Need-add-t9
-add-t9 c = search needs
-
--- src/ranges/scan.rt:60:1
 returns-2 : tie.Need-returns-2
-returns-2 c = ?
+returns-2 c = rw (ne-eqb _ _ (c .before .if1 .left), eq-eqb _ _ (c .if2 .taken))
 
--- src/ranges/scan.rt:60:1
 returns-3 : tie.Need-returns-3
-returns-3 c = ?
+returns-3 c = rw (ne-eqb _ _ (c .before .if1 .left), ne-eqb _ _ (c .if2 .left))
 
 pub dotted-spec : {M : Type 1} → statement M
-dotted-spec = tie.close (tie.spec refuse-requires returns add-t9 returns-2 returns-3)
+dotted-spec = tie.close (tie.spec (λ c κs. search needs) returns (λ c. search needs) returns-2 returns-3)

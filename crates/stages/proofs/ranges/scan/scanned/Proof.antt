@@ -1,53 +1,25 @@
 use borrow.Author.Needs.{needs}
+use borrow.Author.Tests.{eq-eqb, ne-eqb}
 use Rattle.stages.proofs.ranges.scan.scanned.Statement.{statement}
 use Rattle.stages.proofs.ranges.scan.scanned.Tie as tie
-use Rattle.stages.proofs.ranges.scan.scanned.Reads as reads
-use Rattle.stages.proofs.ranges.scan.scanned.Lts as lts
-use Rattle.stages.proofs.ranges.scan.dotted.Reads as dotted-reads
-use Rattle.stages.proofs.ranges.scan.found.Reads as found-reads
-use Rattle.stages.proofs.ranges.scan.undotted.Reads as undotted-reads
 
--- src/ranges/scan.rt:103:9
-dotted-requires : tie.Need-dotted-requires
-dotted-requires c κs = search needs
-
--- src/ranges/scan.rt:103:9
 returns : tie.Need-returns
-returns c = ?
+returns c = rw (c .dotted .ensures, eq-eqb _ _ (c .before .if1 .taken))
 
--- src/ranges/scan.rt:106:9
-undotted-requires : tie.Need-undotted-requires
-undotted-requires c κs = search needs
-
--- src/ranges/scan.rt:106:9
 returns-2 : tie.Need-returns-2
-returns-2 c = ?
+returns-2 c = rw (c .undotted .ensures, ne-eqb _ _ (c .before .before .before .if1 .left), ne-eqb _ _ (c .before .if2 .taken))
 
--- src/ranges/scan.rt:109:9
-found-requires : tie.Need-found-requires
-found-requires c κs = search needs
-
--- src/ranges/scan.rt:109:9
 returns-3 : tie.Need-returns-3
-returns-3 c = ?
+returns-3 c =
+    rw (c .found .ensures, ne-eqb _ _ (c .before .before .before .before .if1 .left), eq-eqb _ _ (c .before .before .if2 .left),
+    eq-eqb _ _ (c .before .if3 .taken))
 
--- src/ranges/scan.rt:111:5
-found-requires-2 : tie.Need-found-requires-2
-found-requires-2 c κs = search needs
-
--- src/ranges/scan.rt:98:1
 returns-4 : tie.Need-returns-4
-returns-4 c = ?
+returns-4 c =
+    rw (c .found2 .ensures, ne-eqb _ _ (c .before .before .before .before .if1 .left), eq-eqb _ _ (c .before .before .if2 .left),
+    ne-eqb _ _ (c .before .if3 .left))
 
 pub scanned-spec : {M : Type 1} → statement M
 scanned-spec =
     tie.close
-    (tie.spec
-    dotted-requires
-    returns
-    undotted-requires
-    returns-2
-    found-requires
-    returns-3
-    found-requires-2
-    returns-4)
+    (tie.spec (λ c κs. search needs) returns (λ c κs. search needs) returns-2 (λ c κs. search needs) returns-3 (λ c κs. search needs) returns-4)

@@ -1,24 +1,19 @@
 use borrow.Author.Needs.{needs}
+use Rattle.stages.proofs.ranges.range.Bounds.{ended-ok, ended-refused}
 use Rattle.stages.proofs.ranges.usbr.ended.Statement.{statement}
 use Rattle.stages.proofs.ranges.usbr.ended.Tie as tie
-use Rattle.stages.proofs.ranges.usbr.ended.Reads as reads
-use Rattle.stages.proofs.ranges.usbr.ended.Lts as lts
 
--- src/ranges/usbr.rt:77:23
-enum-known-b : tie.Need-enum-known-b
-enum-known-b c = search needs
-
--- src/ranges/usbr.rt:81:28
-enum-known-b-2 : tie.Need-enum-known-b-2
-enum-known-b-2 c = search needs
-
--- src/ranges/usbr.rt:72:1
 returns : tie.Need-returns
-returns c = ?
+returns c = λ image t base m f r.
+    let a = c .before .before .before .args in
+    let g = c .before .b .given in
+    ended-ok image t base (a .b) (a .start) (g .0 .0) m (g .1) f r
 
--- src/ranges/usbr.rt:72:1
 returns-2 : tie.Need-returns-2
-returns-2 c = ?
+returns-2 c = λ image t base m f r.
+    let a = c .before .before .before .args in
+    let g = c .before .b2 .given in
+    ended-refused image t base (a .b) (a .start) (g .0 .0) m (g .1) r
 
 pub ended-spec : {M : Type 1} → statement M
-ended-spec = tie.close (tie.spec enum-known-b enum-known-b-2 returns returns-2)
+ended-spec = tie.close (tie.spec (λ c. search needs) (λ c. search needs) returns returns-2)
