@@ -1,2 +1,0 @@
--- What the values of this crate mean.
-pub mod Align

@@ -1,3 +1,0 @@
--- What the values of this crate mean.
-pub mod Running
-pub mod ShapeLaw

@@ -1,2 +1,0 @@
--- Numbers that fit 64 bits.
-pub mod Fitting

@@ -1,2 +1,0 @@
--- Each way out of the tests.
-mod Ways

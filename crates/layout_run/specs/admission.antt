@@ -1,2 +1,0 @@
--- What a run asks before the stages.
-pub mod Asked
