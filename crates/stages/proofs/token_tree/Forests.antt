@@ -234,13 +234,12 @@ module _ (image : List ℕ) (t : Tree) (base : ℕ) where
       let m = texts (word w rest) rest (wordChunk w) refl stop tail e s h in
       let hd = head-of image (t .text) (t .records + 12 * e) s (wordRec w) [] (flat rest) (omega arith)
       (let k = h .small in let l = h .text-ends in omega (arith, k, l)) (omega arith)
-      (records (word w rest) rest (wordChunk w) refl stop tail e s h) (text (word w rest) rest (wordChunk w) refl stop tail e s h) in
-      (
+      (records (word w rest) rest (wordChunk w) refl stop tail e s h) (text (word w rest) rest (wordChunk w) refl stop tail e s h) in (
         stands-word stop e s at w (let k = h .ends in omega (arith, k, n)) b some hd,
         subst (λ x. Laid image t base stop tail (e + x) (s + length (textOf (wordChunk w)))
-        (itemsOf (at + length (textOf (wordChunk w))) (chunksOf rest))) (sym (hd .skip))
-        (laid-forest rest stop tail (e + 1) (s + length (textOf (wordChunk w))) (at + length (textOf (wordChunk w))) (omega (arith, b))
-        (planted-rest (word w rest) rest (wordChunk w) refl stop tail e s h sound)),
+            (itemsOf (at + length (textOf (wordChunk w))) (chunksOf rest))) (sym (hd .skip))
+            (laid-forest rest stop tail (e + 1) (s + length (textOf (wordChunk w))) (at + length (textOf (wordChunk w))) (omega (arith, b))
+            (planted-rest (word w rest) rest (wordChunk w) refl stop tail e s h sound)),
       )
   laid-forest (group k inside rest) stop tail e s at b h =
       let (o, si, sound) = sound-group k inside rest (h .sound) in
@@ -256,16 +255,15 @@ module _ (image : List ℕ) (t : Tree) (base : ℕ) where
       let en = h .ends in
       let hd = head-of image (t .text) (t .records + 12 * e) s (opener k inside) (flat inside ++ closer k ∷ []) (flat rest)
       (opens-small k o) (omega (arith, small, te)) (omega (arith, few, n, g)) hr ht in
-      let sk : skipIn image t e ≡ length (groupChunk k inside) = hd .skip ∙ sym g in
-      (
+      let sk : skipIn image t e ≡ length (groupChunk k inside) = hd .skip ∙ sym g in (
         stands-group stop e s at k inside rest o si (omega (arith, en, n, g)) b (omega (arith, few, n, g)) (omega (arith, small, te, m)) hd
-        (records-before image (t .records + 12 * e) s (groupChunk k inside) (flat rest) hr)
-        (text-before image (t .text + s) (groupChunk k inside) (flat rest) ht),
+            (records-before image (t .records + 12 * e) s (groupChunk k inside) (flat rest) hr)
+            (text-before image (t .text + s) (groupChunk k inside) (flat rest) ht),
         subst (λ x. Laid image t base stop tail (e + x) (s + length (textOf (groupChunk k inside)))
-        (itemsOf (at + length (textOf (groupChunk k inside))) (chunksOf rest))) (sym sk)
-        (laid-forest rest stop tail (e + length (groupChunk k inside)) (s + length (textOf (groupChunk k inside)))
-        (at + length (textOf (groupChunk k inside))) (omega (arith, b))
-        (planted-rest (group k inside rest) rest (groupChunk k inside) p stop tail e s h sound)),
+            (itemsOf (at + length (textOf (groupChunk k inside))) (chunksOf rest))) (sym sk)
+            (laid-forest rest stop tail (e + length (groupChunk k inside)) (s + length (textOf (groupChunk k inside)))
+            (at + length (textOf (groupChunk k inside))) (omega (arith, b))
+            (planted-rest (group k inside rest) rest (groupChunk k inside) p stop tail e s h sound)),
       )
 
   pub planted-laid : (f : Forest) (stop tail e s at : ℕ) → base + at ≡ s → Planted image t stop tail e s f

@@ -41,8 +41,7 @@ module _ (image : List ℕ) (t : Tables) where
       let (size, hw) = u32At-next image (t .components + 8 * k) (length (recsOf n)) (u32 (length (n .bits)) ++ joined (map componentRow ns)) hc
       (omega (arith, few, c)) in
       let (width, hn) = u32At-next image (t .components + 8 * k + 4) (length (n .bits)) (joined (map componentRow ns)) hw (omega (arith, wide)) in
-      let next : t .components + 8 * k + 4 + 4 ≡ t .components + 8 * suc k = omega arith in
-      (
+      let next : t .components + 8 * k + 4 + 4 ≡ t .components + 8 * suc k = omega arith in (
         record {
           size = size;
           width = width;
@@ -61,11 +60,11 @@ module _ (image : List ℕ) (t : Tables) where
           literal = holds-left image (t .literals + l) (packed (n .bits)) (literalsOf ns) hl;
         },
         rows ns (suc k) (r + length (recsOf n)) (s + length (textOf (recsOf n))) (l + bytesFor (length (n .bits))) gs (omega (arith, few, c))
-        (omega (arith, small, m)) (rw next at hn) (records-behind image (t .tree .records) r s (recsOf n) (allRecs ns) hr)
-        (text-behind image (t .tree .text) s (recsOf n) (allRecs ns) ht)
-        (rw (length-packed (n .bits), add-assoc (t .literals) l (bytesFor (length (n .bits)))) at
-        (holds-right image (t .literals + l) (packed (n .bits)) (literalsOf ns) hl))
-        (omega (arith, en, c)) (omega (arith, tn, m)),
+            (omega (arith, small, m)) (rw next at hn) (records-behind image (t .tree .records) r s (recsOf n) (allRecs ns) hr)
+            (text-behind image (t .tree .text) s (recsOf n) (allRecs ns) ht)
+            (rw (length-packed (n .bits), add-assoc (t .literals) l (bytesFor (length (n .bits)))) at
+            (holds-right image (t .literals + l) (packed (n .bits)) (literalsOf ns) hl))
+            (omega (arith, en, c)) (omega (arith, tn, m)),
       )
 
 sizes : (image : List ℕ) (t : Tree) (i : ℕ) → all (λ c. leb 1 (length c)) t ≡ true → length (joined t) ≤ 256

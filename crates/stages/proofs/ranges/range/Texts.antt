@@ -9,7 +9,7 @@ use Rattle.definition.specs.Image.{bytesAt, padded}
 use Rattle.definition.specs.Text as Text
 use Rattle.definition.specs.Text.{Item, bytesOf}
 use Rattle.definition.specs.Ranges.{text, val, singleBit}
-use Rattle.image.specs.items.First.{bytes-add}
+use Rattle.laws.specs.Padded.{bytes-add}
 use Rattle.numbers.specs.Value.{valueOf}
 use Rattle.stages.specs.token_tree.Table.{startIn, skipIn}
 use Rattle.stages.specs.token_tree.Laid.{Laid}
@@ -53,11 +53,10 @@ module _ (image : List ℕ) (t : Tree) (base : ℕ) where
       let m : ℕ = length (bytesOf is) in
       let k = laid-bytes stop tail (r + skipIn image t r) (s + l) is (h .1) in
       let n : length (i .part .bytes ++ bytesOf is) ≡ l + m = length-append (i .part .bytes) (bytesOf is) in
-      let q : t .text + s + l ≡ t .text + (s + l) = omega arith in
-      (
+      let q : t .text + s + l ≡ t .text + (s + l) = omega arith in (
         (let e : s + l + m ≡ tail = k .0 in omega (arith, e, n)),
         ap (bytesAt image (t .text + s)) n ∙ bytes-add image (t .text + s) l m ∙ ap (λ (x : List ℕ). x ++ bytesAt image (t .text + s + l) m) (h .0 .bytes)
-        ∙ ap (λ (x : ℕ). i .part .bytes ++ bytesAt image x m) q ∙ ap (λ (x : List ℕ). i .part .bytes ++ x) (k .1),
+            ∙ ap (λ (x : ℕ). i .part .bytes ++ bytesAt image x m) q ∙ ap (λ (x : List ℕ). i .part .bytes ++ x) (k .1),
       )
 
   -- a run with an item or more, as a part in code
@@ -87,8 +86,7 @@ module _ (image : List ℕ) (t : Tree) (base : ℕ) where
       × UsbrFits image t base (bitBy (newBy (partBy s tail)) (partBy s tail))
   unfolding valueOf
   single-of stop tail r s is l room h =
-      let k = laid-part stop tail r s is l room h in
-      (
+      let k = laid-part stop tail r s is l room h in (
         ap (λ (x : Text.Part). record { start = text x (pos 0); «end» = some (text x (pos 1)) }) (k .0),
         record {
           start = record { part = k .1; low = omega arith; high = omega arith };

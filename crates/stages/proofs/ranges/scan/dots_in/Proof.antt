@@ -34,7 +34,7 @@ loop-holds c =
     let p = c .before .before .before .pre in (
       runs-start (a .image .now) (a .tree) (a .stop .0) (a .end .0) (a .r .0) (p .0) _ (p .1) (c .start-or .ensures),
       λ base s′ is h. scanning-start (a .image .now) (a .tree) base (a .stop .0) (a .end .0) (a .r .0) s′ (c .start-or .result .0) is
-      (c .before .refuse .result) (c .before .refuse .ensures) (c .start-or .ensures) h,
+          (c .before .refuse .result) (c .before .refuse .ensures) (c .start-or .ensures) h,
     )
 
 behind-requires : tie.Need-behind-requires Inv-loop μ-loop
@@ -104,7 +104,7 @@ loop-again c =
     (u .ensures) in (
       k .runs,
       λ base s′ is h. (scanning-next (a .image .now) (a .tree) base (a .stop .0) (a .end .0) (a .r .0) is (v .d) (d .result) (v .at .0) (n .result .0)
-      (v .s .0) (u .result .0) (b .result) (v .inv .1 base s′ is h) l (n .ensures) (u .ensures) (b .ensures) (d .ensures)) .on (c .if2 .left),
+          (v .s .0) (u .result .0) (b .result) (v .inv .1 base s′ is h) l (n .ensures) (u .ensures) (b .ensures) (d .ensures)) .on (c .if2 .left),
     )
 
 returns-2 : tie.Need-returns-2 Inv-loop μ-loop

@@ -11,13 +11,21 @@ returns-2 c = rw (c .undotted .ensures, ne-eqb _ _ (c .before .before .before .i
 
 returns-3 : tie.Need-returns-3
 returns-3 c =
-    rw (c .found .ensures, ne-eqb _ _ (c .before .before .before .before .if1 .left), eq-eqb _ _ (c .before .before .if2 .left),
-    eq-eqb _ _ (c .before .if3 .taken))
+    rw (
+      c .found .ensures,
+      ne-eqb _ _ (c .before .before .before .before .if1 .left),
+      eq-eqb _ _ (c .before .before .if2 .left),
+      eq-eqb _ _ (c .before .if3 .taken),
+    )
 
 returns-4 : tie.Need-returns-4
 returns-4 c =
-    rw (c .found2 .ensures, ne-eqb _ _ (c .before .before .before .before .if1 .left), eq-eqb _ _ (c .before .before .if2 .left),
-    ne-eqb _ _ (c .before .if3 .left))
+    rw (
+      c .found2 .ensures,
+      ne-eqb _ _ (c .before .before .before .before .if1 .left),
+      eq-eqb _ _ (c .before .before .if2 .left),
+      ne-eqb _ _ (c .before .if3 .left),
+    )
 
 pub scanned-spec : {M : Type 1} → statement M
 scanned-spec =
