@@ -2,3 +2,5 @@
 pub mod Defined
 pub mod Ends
 pub mod Given
+pub mod Cuts
+pub mod Kinds
