@@ -3,4 +3,4 @@ pub mod Defined
 pub mod Ends
 pub mod Given
 pub mod Cuts
-pub mod Kinds
+pub mod Answers
