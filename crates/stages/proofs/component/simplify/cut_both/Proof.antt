@@ -33,7 +33,11 @@ literal-requires c κs = search needs
 
 -- src/component/simplify.rt:62:1
 returns : tie.Need-returns
-returns c = ?
+returns c =
+    let p = c .literal .ensures in
+    let q = c .before .before .before .val .ensures in
+    let r = c .before .before .before .before .before .before .zero .ensures in
+    cc
 
 pub cut-both-spec : {M : Type 1} → statement M
 cut-both-spec =

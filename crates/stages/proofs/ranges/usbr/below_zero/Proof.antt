@@ -1,3 +1,5 @@
+use Rattle.numbers.proofs.Words.{negative-bit}
+use Rattle.stages.proofs.ranges.usbr.Gates.{below-some}
 use borrow.Author.Needs.{needs}
 use Rattle.stages.proofs.ranges.usbr.below_zero.Statement.{statement}
 use Rattle.stages.proofs.ranges.usbr.below_zero.Tie as tie
@@ -14,7 +16,9 @@ enum-told c = search needs
 
 -- src/ranges/usbr.rt:27:1
 returns : tie.Need-returns
-returns c = ?
+returns c =
+    let n = c .before .before .n .given in
+    below-some (c .before .before .before .before .args .n) (n .0 .0) (n .1) (negative-bit (n .0 .0))
 
 -- src/ranges/usbr.rt:27:1
 returns-2 : tie.Need-returns-2

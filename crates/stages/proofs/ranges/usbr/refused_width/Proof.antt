@@ -1,3 +1,4 @@
+use Rattle.stages.proofs.ranges.usbr.Gates.{width-reversed, width-zero, width-some}
 use borrow.Author.Needs.{needs}
 use Rattle.stages.proofs.ranges.usbr.refused_width.Statement.{statement}
 use Rattle.stages.proofs.ranges.usbr.refused_width.Tie as tie
@@ -19,7 +20,10 @@ returns c = search needs
 
 -- src/ranges/usbr.rt:44:9
 returns-2 : tie.Need-returns-2
-returns-2 c = ?
+returns-2 c =
+    let s = c .before .before .before in
+    let x = s .x .given in
+    width-reversed (s .before .before .args .x) (x .0 .0) (x .1) (c .if1 .taken)
 
 -- src/ranges/usbr.rt:46:8
 is-zero-requires : tie.Need-is-zero-requires
@@ -27,11 +31,19 @@ is-zero-requires c κs = search needs
 
 -- src/ranges/usbr.rt:37:1
 returns-3 : tie.Need-returns-3
-returns-3 c = ?
+returns-3 c =
+    let s = c .before .before .before .before .before in
+    let x = s .x .given in
+    width-zero (s .before .before .args .x) (x .0 .0) (x .1) (c .before .is-zero .result) (c .before .before .if1 .left) (c .before .is-zero .ensures)
+    (c .if2 .taken)
 
 -- src/ranges/usbr.rt:37:1
 returns-4 : tie.Need-returns-4
-returns-4 c = ?
+returns-4 c =
+    let s = c .before .before .before .before .before in
+    let x = s .x .given in
+    width-some (s .before .before .args .x) (x .0 .0) (x .1) (c .before .is-zero .result) (c .before .before .if1 .left) (c .before .is-zero .ensures)
+    (c .if2 .left)
 
 pub refused-width-spec : {M : Type 1} → statement M
 refused-width-spec =

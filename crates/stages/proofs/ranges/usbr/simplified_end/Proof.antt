@@ -1,3 +1,7 @@
+use denote.Ref.{now}
+use Rattle.definition.specs.Component.{simplifyUsb}
+use Rattle.stages.specs.ranges.Values.{usbOf}
+use Rattle.stages.proofs.ranges.usbr.Joins.{end-fits, end-there, end-missing}
 use borrow.Author.Needs.{needs}
 use Rattle.stages.proofs.ranges.usbr.simplified_end.Statement.{statement}
 use Rattle.stages.proofs.ranges.usbr.simplified_end.Tie as tie
@@ -12,7 +16,10 @@ enum-known-end c = search needs
 
 -- src/ranges/usbr.rt:91:44
 simplify-requires : tie.Need-simplify-requires
-simplify-requires c κs = ?
+simplify-requires c κs =
+    let s = c .before .before .before .before in
+    let e = c .before .end .given in
+    (s .pre .0, end-fits (now (s .args .image)) (s .args .tree) (s .pre .0) (s .args .«end») (e .0 .0) (e .1) (s .pre .1))
 
 -- src/ranges/usbr.rt:91:31
 ended-requires : tie.Need-ended-requires
@@ -24,11 +31,19 @@ enum-told c = search needs
 
 -- src/ranges/usbr.rt:85:1
 returns : tie.Need-returns
-returns c = ?
+returns c base f g =
+    let s = c .before .before .before in
+    let a = s .before .before .before .args in
+    let u = s .end .given in
+    end-there (now (a .image)) (a .tree) base (a .start) (a .«end») (u .0 .0) (c .ended .result) (u .1)
+    (c .ended .ensures (now (a .image)) (a .tree) base (simplifyUsb (usbOf (now (a .image)) (a .tree) base (u .0 .0))) f
+    (c .before .simplify .ensures base (end-fits (now (a .image)) (a .tree) base (a .«end») (u .0 .0) (u .1) g)))
 
 -- src/ranges/usbr.rt:85:1
 returns-2 : tie.Need-returns-2
-returns-2 c = ?
+returns-2 c base f g =
+    let a = c .before .before .before .args in
+    end-missing (now (a .image)) (a .tree) base (a .start) (a .«end») (c .enum-told .given .1) f g
 
 pub simplified-end-spec : {M : Type 1} → statement M
 simplified-end-spec =

@@ -11,7 +11,7 @@ zero-requires c κs = search needs
 
 -- src/ranges/usb.rt:35:5
 returns : tie.Need-returns
-returns c = ?
+returns c = let p = c .zero .ensures in cc
 
 pub new-s-spec : {M : Type 1} → statement M
 new-s-spec = tie.close (tie.spec zero-requires returns)

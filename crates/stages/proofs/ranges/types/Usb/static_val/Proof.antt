@@ -1,3 +1,4 @@
+use Rattle.stages.proofs.ranges.Bounds.{static-yes, static-no}
 use Rattle.stages.proofs.ranges.types.Usb.static_val.Statement.{statement}
 use Rattle.stages.proofs.ranges.types.Usb.static_val.Tie as tie
 use Rattle.stages.proofs.ranges.types.Usb.static_val.Reads as reads
@@ -5,11 +6,11 @@ use Rattle.stages.proofs.ranges.types.Usb.static_val.Lts as lts
 
 -- src/ranges/usb.rt:92:13
 returns : tie.Need-returns
-returns c = ?
+returns c image t base = static-yes image t base (c .before .before .before .args .self) (c .if1 .taken)
 
 -- src/ranges/usb.rt:87:5
 returns-2 : tie.Need-returns-2
-returns-2 c = ?
+returns-2 c image t base = static-no image t base (c .before .before .before .args .self) (c .if1 .left)
 
 pub static-val-spec : {M : Type 1} → statement M
 static-val-spec = tie.close (tie.spec returns returns-2)

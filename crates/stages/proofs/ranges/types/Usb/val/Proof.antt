@@ -11,7 +11,7 @@ no-text-requires c κs = search needs
 
 -- src/ranges/usb.rt:41:5
 returns : tie.Need-returns
-returns c = ?
+returns c = let p = c .no-text .ensures in cc
 
 pub val-spec : {M : Type 1} → statement M
 val-spec = tie.close (tie.spec no-text-requires returns)

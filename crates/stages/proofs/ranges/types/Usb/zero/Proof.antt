@@ -1,3 +1,6 @@
+use mathlib.Core.Path.{ap, _∙_}
+use Rattle.stages.specs.token_tree.Parts.{noPart}
+use Rattle.stages.specs.ranges.Values.{zeroI}
 use borrow.Author.Needs.{needs}
 use Rattle.stages.proofs.ranges.types.Usb.zero.Statement.{statement}
 use Rattle.stages.proofs.ranges.types.Usb.zero.Tie as tie
@@ -16,7 +19,7 @@ zero-requires c κs = search needs
 
 -- src/ranges/usb.rt:26:5
 returns : tie.Need-returns
-returns c = ?
+returns c = let p = c .before .no-text .ensures in let q = c .zero .ensures in cc
 
 pub zero-spec : {M : Type 1} → statement M
 zero-spec = tie.close (tie.spec no-text-requires zero-requires returns)

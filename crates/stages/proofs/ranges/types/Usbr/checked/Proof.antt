@@ -1,3 +1,5 @@
+use denote.Ref.{now}
+use Rattle.stages.proofs.ranges.usbr.Gates.{start-below, end-below, width-refused, range-passed}
 use borrow.Author.Needs.{needs}
 use Rattle.stages.proofs.ranges.types.Usbr.checked.Statement.{statement}
 use Rattle.stages.proofs.ranges.types.Usbr.checked.Tie as tie
@@ -19,7 +21,11 @@ below-zero-requires c κs = search needs
 
 -- src/ranges/usbr.rt:156:13
 returns : tie.Need-returns
-returns c = ?
+returns c base f =
+    let s = c .before .before in
+    let a = s .before .before .before .args in
+    start-below (now (a .image)) (a .tree) base (a .self) f (s .static-val .result) (s .static-val .ensures (now (a .image)) (a .tree) base)
+    (c .before .below-zero .result) (c .before .below-zero .ensures) (c .if1 .taken)
 
 -- src/ranges/usbr.rt:158:23
 end-val-requires : tie.Need-end-val-requires
@@ -31,7 +37,14 @@ below-zero-requires-2 c κs = search needs
 
 -- src/ranges/usbr.rt:159:13
 returns-2 : tie.Need-returns-2
-returns-2 c = ?
+returns-2 c base f =
+    let s = c .before .before .before .before .before in
+    let a = s .before .before .before .args in
+    let z = c .before .before .before in
+    let e = c .before .before .end-val in
+    end-below (now (a .image)) (a .tree) base (a .self) f (s .static-val .result) (s .static-val .ensures (now (a .image)) (a .tree) base)
+    (z .before .below-zero .result) (z .before .below-zero .ensures) (z .if1 .left)
+    (e .result) (e .ensures (now (a .image)) (a .tree) base) (c .before .below-zero2 .result) (c .before .below-zero2 .ensures) (c .if2 .taken)
 
 -- src/ranges/usbr.rt:161:13
 static-width-requires : tie.Need-static-width-requires
@@ -43,11 +56,31 @@ refused-width-requires c κs = search needs
 
 -- src/ranges/usbr.rt:164:13
 returns-3 : tie.Need-returns-3
-returns-3 c = ?
+returns-3 c base f =
+    let y = c .before .before .before in
+    let z = y .before .before .before in
+    let s = z .before .before in
+    let a = s .before .before .before .args in
+    let e = y .before .before .end-val in
+    width-refused (now (a .image)) (a .tree) base (a .self) f (s .static-val .result) (s .static-val .ensures (now (a .image)) (a .tree) base)
+    (z .before .below-zero .result) (z .before .below-zero .ensures) (z .if1 .left)
+    (e .result) (e .ensures (now (a .image)) (a .tree) base) (y .before .below-zero2 .result) (y .before .below-zero2 .ensures) (y .if2 .left)
+    (c .before .before .static-width .result) (c .before .before .static-width .ensures base) (c .before .refused-width .result) (c .before .refused-width .ensures)
+    (c .if3 .taken)
 
 -- src/ranges/usbr.rt:148:5
 returns-4 : tie.Need-returns-4
-returns-4 c = ?
+returns-4 c base f =
+    let y = c .before .before .before in
+    let z = y .before .before .before in
+    let s = z .before .before in
+    let a = s .before .before .before .args in
+    let e = y .before .before .end-val in
+    range-passed (now (a .image)) (a .tree) base (a .self) f (s .static-val .result) (s .static-val .ensures (now (a .image)) (a .tree) base)
+    (z .before .below-zero .result) (z .before .below-zero .ensures) (z .if1 .left)
+    (e .result) (e .ensures (now (a .image)) (a .tree) base) (y .before .below-zero2 .result) (y .before .below-zero2 .ensures) (y .if2 .left)
+    (c .before .before .static-width .result) (c .before .before .static-width .ensures base) (c .before .refused-width .result) (c .before .refused-width .ensures)
+    (c .if3 .left)
 
 pub checked-spec : {M : Type 1} → statement M
 checked-spec =

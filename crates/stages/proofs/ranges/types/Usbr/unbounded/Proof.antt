@@ -11,7 +11,7 @@ zero-requires c κs = search needs
 
 -- src/ranges/usbr.rt:97:5
 returns : tie.Need-returns
-returns c = ?
+returns c = let p = c .zero .ensures in cc
 
 pub unbounded-spec : {M : Type 1} → statement M
 unbounded-spec = tie.close (tie.spec zero-requires returns)
