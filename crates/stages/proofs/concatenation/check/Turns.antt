@@ -1,5 +1,7 @@
 -- The loops over the kept components of a concatenation: one turn, and the end.
 use mathlib.Core.Path.{_≡_, refl, ap, sym, _∙_}
+use mathlib.Core.Logic.{_⊎_, ⊎-elim}
+use mathlib.Core.Bool.{true≢false}
 use Prim.Native.Nat.{_≤_, _<_}
 use native.Mathlib.Nat.{add-zero, zero-add}
 use native.Mathlib.Omega.{arith}
@@ -142,3 +144,24 @@ count-start cs = rw zero-add (sym (merge-length cs))
 pub count-end : (cs : List (Placed Component)) (j n m : ℕ) (was : Bool) → length cs ≡ n → n ≤ j → m + countFrom was (drop j cs) ≡ length (merge cs) → m ≡ length (merge cs)
 unfolding countFrom
 count-end cs j n m was e l h = let g : m + 0 ≡ length (merge cs) = rw (none-left cs j n e l) at h in sym (add-zero m) ∙ g
+
+-- what `was && now` says, and what is added by it
+pub added : (was now t : Bool) (m m′ : ℕ) → ((was ≡ true) × (t ≡ now)) ⊎ ((was ≡ false) × (t ≡ false)) → ((not t ≡ true) × (m′ ≡ m + 1)) ⊎ ((not t ≡ false) × (m′ ≡ m))
+    → m′ ≡ m + oneMore was now
+added was now t m m′ a b = go was now t (⊎-elim (λ w. and-is was now t (w .0) (w .1)) (λ w. and-not was now t (w .0) (w .1)) a) b
+  where
+    and-is : (was now t : Bool) → was ≡ true → t ≡ now → t ≡ (was && now)
+    and-is was now t h e = rw h e
+    and-not : (was now t : Bool) → was ≡ false → t ≡ false → t ≡ (was && now)
+    and-not was now t h e = rw h e
+    go : (was now t : Bool) → t ≡ (was && now) → ((not t ≡ true) × (m′ ≡ m + 1)) ⊎ ((not t ≡ false) × (m′ ≡ m)) → m′ ≡ m + oneMore was now
+    go was now t e b = rw (← e) (by t b)
+      where
+        by : (t : Bool) → ((not t ≡ true) × (m′ ≡ m + 1)) ⊎ ((not t ≡ false) × (m′ ≡ m)) → m′ ≡ m + (if t then 0 else 1)
+        by true b = ⊎-elim (λ w. let z : _≡_ {A = Bool} true false = sym (w .0) in absurd (true≢false z)) (λ w. w .1 ∙ sym (add-zero m)) b
+        by false b = ⊎-elim (λ w. w .1) (λ w. absurd (true≢false (w .0))) b
+
+pub one-at-most : (was now : Bool) (m j : ℕ) → m ≤ j → m + oneMore was now ≤ j + 1
+one-at-most true true m j h = omega arith
+one-at-most true false m j h = omega arith
+one-at-most false now m j h = omega arith

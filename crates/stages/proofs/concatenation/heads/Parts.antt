@@ -9,7 +9,10 @@ use Rattle.definition.specs.Basics.{joined}
 use Rattle.definition.specs.Image.{Placed, u32At}
 use Rattle.definition.specs.Component.{Component}
 use Rattle.stages.specs.token_tree.Rows.{Sizes}
+use Rattle.image.specs.declared.token_tree.PVal.{PVal}
 use Rattle.stages.specs.component.Kept.{KeptFrom}
+use Rattle.stages.specs.concatenation.Check.{Lies}
+use Rattle.stages.specs.concatenation.Heads.{CountsFit}
 use Rattle.stages.proofs.concatenation.check.KeptRows.{kept-left, kept-right}
 
 pub record Part {A : Type 0} (image : List ℕ) (i : ℕ) (cc : List (List A)) : Type 0 where
@@ -54,3 +57,35 @@ drop-map : {A B : Type 0} (f : A → B) (i : ℕ) (l : List A) → drop i (map f
 drop-map f zero l = refl
 drop-map f (suc i) [] = refl
 drop-map f (suc i) (a ∷ l) = drop-map f i l
+
+-- ---- room for the i-th, by how much is left
+
+module _ {A : Type 0} (image : List ℕ) (cc : List (List A)) (c words heads : ℕ) (f : CountsFit image cc c words heads) (k i : ℕ)
+    (at : k + length (joined (drop i cc)) ≡ length (joined cc)) (l : i < c) where
+  part : Part image i cc
+  part = part-at image i cc (f .sizes) (rw (f .count) l)
+
+  pub part-few : k + u32At image (40 + 4 * i) ≤ 256
+  part-few =
+      let a = part-length image i cc part in
+      let s = part .size in
+      let b = f .few-components in
+      omega (arith, at, a, s, b)
+
+  pub part-words : 11 * (k + u32At image (40 + 4 * i)) ≤ words
+  part-words =
+      let a = part-length image i cc part in
+      let s = part .size in
+      let b = f .words-fit in
+      omega (arith, at, a, s, b)
+
+  pub lies : (n : ℕ) (p : PVal) → n ≡ u32At image (40 + 4 * i) → p .0 ≡ k → Lies (record { i = i; first = p; len = n }) words
+  lies n p e q = record { words = rw (e, q) part-words; few = rw (e, q) part-few }
+
+-- what is left after the i-th
+pub left-on : {A : Type 0} (image : List ℕ) (cc : List (List A)) (k i n : ℕ) → Part image i cc → n ≡ u32At image (40 + 4 * i)
+    → k + length (joined (drop i cc)) ≡ length (joined cc) → k + n + length (joined (drop (i + 1) cc)) ≡ length (joined cc)
+left-on image cc k i n p e h =
+    let a = part-length image i cc p in
+    let s = p .size in
+    omega (arith, h, a, s, e)

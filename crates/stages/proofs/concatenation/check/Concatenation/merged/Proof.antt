@@ -1,5 +1,5 @@
 use mathlib.Core.Path.{_≡_, sym, ap, _∙_}
-use mathlib.Core.Logic.{⊎-elim}
+use mathlib.Core.Logic.{_⊎_, ⊎-elim, inl, inr}
 use Prim.Native.Nat.{ℕ, _≤_, _-_, _+_, _*_, _/_, _%_}
 use mathlib.Core.List.{List}
 use native.Mathlib.Omega.{arith}
@@ -12,7 +12,7 @@ use Rattle.definition.specs.Concatenation.{merge}
 use Rattle.stages.specs.component.Kept.{KeptFrom}
 use Rattle.stages.proofs.concatenation.check.KeptRows.{stored}
 use Rattle.stages.proofs.concatenation.check.Counts.{oneMore, countFrom}
-use Rattle.stages.proofs.concatenation.check.Turns.{count-start, count-on, count-end}
+use Rattle.stages.proofs.concatenation.check.Turns.{added, one-at-most, count-start, count-on, count-end}
 use Rattle.stages.proofs.concatenation.check.Concatenation.merged.Statement.{statement}
 use Rattle.stages.proofs.concatenation.check.Concatenation.merged.Tie as tie
 use Rattle.stages.proofs.concatenation.check.Concatenation.merged.Reads as reads
@@ -94,10 +94,13 @@ loop-again c =
     let s = c .before .before .before .before .before .before .args in
     let x = s .self in
     let l = c .before .before .before .loop-test .taken in
-    let is : c .if2 .m ≡ v .m + oneMore (v .was) (eqb (getD (s .words .now) (11 * (x .first .0 + v .j)) 0 / 32 % 2) 1) =
-        ⊎-elim (λ w. ⊎-elim (λ u. ?) (λ u. ?) (c .before .if1 .came)) (λ w. ⊎-elim (λ u. ?) (λ u. ?) (c .before .if1 .came)) (c .if2 .came) in (
+    let now = eqb (getD (s .words .now) (11 * (x .first .0 + v .j)) 0 / 32 % 2) 1 in
+    let is : c .if2 .m ≡ v .m + oneMore (v .was) now =
+        added (v .was) now (c .before .if1 .if2) (v .m) (c .if2 .m)
+        (⊎-elim (λ w. inl (w .0 .taken, w .1)) (λ w. inr (w .0 .left, w .1 ∙ w .0 .left)) (c .before .if1 .came))
+        (⊎-elim (λ w. inl (w .0 .taken, w .1)) (λ w. inr (w .0 .left, w .1)) (c .if2 .came)) in (
       omega (arith, l),
-      ?,
+      rw is (one-at-most (v .was) now (v .m) (v .j) (v .inv .1)),
       λ image cs e h.
           count-on image (s .words .now) (x .first .0) (v .j) cs (stored image (s .words .now) cs (x .first .0) (v .j) (x .len) h e l) (v .m) (c .if2 .m) (v .was) is
           (v .inv .2 image cs e h),
