@@ -104,9 +104,10 @@ over-two (ok o) (ok u) g = refl
 over-two (ok o) (refused n i k) g = refl
 over-two (refused n i k) s g = refl
 
-middle-two : (i : ℕ) (t : Bool) (p : Option ℕ) (later : Result Unit)
-    → (if t then elim p [ none ↦ later | some k ↦ withPlaces i k (refuse middle-filler) ] else later)
-    ≡ ((if t then elim p [ none ↦ ok tt | some k ↦ withPlaces i k (refuse middle-filler) ] else ok tt) >>= λ _. later)
+abbrev middleBy : ℕ → Bool → Option ℕ → Result Unit → Result Unit
+middleBy i t p later = if t then elim p [ none ↦ later | some k ↦ withPlaces i k (refuse middle-filler) ] else later
+
+middle-two : (i : ℕ) (t : Bool) (p : Option ℕ) (later : Result Unit) → middleBy i t p later ≡ (middleBy i t p (ok tt) >>= λ _. later)
 middle-two i true none later = refl
 middle-two i true (some k) later = refl
 middle-two i false p later = refl
@@ -132,7 +133,8 @@ module _ (i : ℕ) (l : List Concatenation) (d : Concatenation) (here : drop i l
   middle-then : middleFrom i (drop i l) ≡ (middleAt i d >>= λ _. middleFrom (i + 1) (drop (i + 1) l))
   unfolding middleFrom
   middle-then =
-      ap (λ r. middleFrom i r) here ∙ rw (add-one i) (middle-two i (isAlign (d .align) align-mid) (unboundedIn d) (middleFrom (suc i) (drop (suc i) l)))
+      ap (λ r. middleFrom i r) here ∙ middle-two i (isAlign (d .align) align-mid) (unboundedIn d) (middleFrom (suc i) (drop (i + 1) l))
+      ∙ ap (λ n. middleAt i d >>= λ _. middleFrom n (drop (i + 1) l)) (sym (add-one i))
 
   pub middle-on : middleAt i d ≡ ok tt → middleFrom (i + 1) (drop (i + 1) l) ≡ middleFrom i (drop i l)
   middle-on e = sym (middle-then ∙ ap (λ m. m >>= λ _. middleFrom (i + 1) (drop (i + 1) l)) e)
