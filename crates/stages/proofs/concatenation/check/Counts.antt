@@ -1,11 +1,11 @@
 -- The number of components after merging, counted from the first to the last.
 use mathlib.Core.Path.{_≡_, refl, sym, _∙_}
 use native.Mathlib.Omega.{arith}
-use Rattle.definition.specs.Prelude.{ℕ, suc, _+_, Bool, true, false, _&&_, List, [], _∷_, _++_, length}
+use Rattle.definition.specs.Component.{Component}
 use Rattle.definition.specs.Basics.{if_then_else_}
 use Rattle.definition.specs.Image.{Placed}
-use Rattle.definition.specs.Component.{Component}
 use Rattle.definition.specs.Concatenation.{isStaticLiteral, bitsOf, wholeLiteral, merge, mergeOnto}
+use Rattle.definition.specs.Prelude.{ℕ, suc, _+_, Bool, true, false, _&&_, List, [], _∷_, _++_, length}
 
 -- a component counts unless it and the one before it are static literals
 abbrev pub oneMore : Bool → Bool → ℕ

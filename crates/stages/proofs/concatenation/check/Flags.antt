@@ -1,13 +1,11 @@
 -- What the flags of a kept component say of it.
-use mathlib.Core.Path.{_≡_, refl, sym, _∙_}
+use mathlib.Core.Path.{_≡_, refl, sym}
 use native.Mathlib.Omega.{arith}
-use Rattle.definition.specs.Prelude.{ℕ, _+_, _*_, _/_, _%_, Bool, true, false, not, Option, none, some, ℤ, eqb}
-use Rattle.definition.specs.Image.{Placed}
+use Rattle.definition.specs.Concatenation.{hasFullRange, isStaticLiteral}
 use Rattle.definition.specs.Ranges.{staticRange, staticWidth}
-use Rattle.definition.specs.Component.{Component, ComponentType, literal, variable, filler, hasEnd}
-use Rattle.definition.specs.Concatenation.{hasFullRange, isStaticLiteral, isUnboundedFiller}
-use Rattle.definition.specs.Overall.{isFiller}
 use Rattle.definition.specs.Answer.{flag}
+use Rattle.definition.specs.Prelude.{ℕ, _+_, _/_, _%_, Bool, true, false, not, Option, none, some, ℤ, eqb}
+use Rattle.definition.specs.Component.{Component, ComponentType, literal, variable, filler, hasEnd}
 use Rattle.stages.specs.component.Kept.{flagsOf}
 use Rattle.stages.specs.concatenation.running_check.Running.{kindOf}
 use Rattle.stages.specs.concatenation.Check.{asked, flagsAsk}

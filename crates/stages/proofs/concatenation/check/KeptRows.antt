@@ -1,14 +1,13 @@
 -- A kept component of a run: its row, and the words that stand there.
 use mathlib.Core.Path.{_≡_, refl, ap, subst, sym, _∙_}
-use mathlib.Core.List.{append-assoc}
-use Prim.Native.Nat.{_≤_, _<_}
+use Prim.Native.Nat.{_<_}
 use native.Mathlib.Nat.{add-zero}
 use native.Mathlib.Omega.{arith}
 use native.Mathlib.Numerals.{add-one}
-use Rattle.definition.specs.Prelude.{ℕ, zero, suc, _+_, _*_, List, [], _∷_, _++_, map, length, getD, drop}
+use Rattle.definition.specs.Component.{Component}
 use Rattle.definition.specs.Basics.{joined}
 use Rattle.definition.specs.Image.{Placed}
-use Rattle.definition.specs.Component.{Component}
+use Rattle.definition.specs.Prelude.{ℕ, zero, suc, _+_, _*_, List, [], _∷_, _++_, length, getD, drop}
 use Rattle.prepared.specs.Bytes.{Holds, holds-left, holds-right, holds-getD}
 use Rattle.stages.specs.component.Kept.{RowIs, RowsAre, wordsOf, fieldsOf, flagsOf, KeptFrom}
 use Rattle.stages.specs.declared.component.keep.Row.{Row}

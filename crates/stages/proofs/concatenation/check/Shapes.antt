@@ -1,18 +1,17 @@
 -- A kept component has the shape that its words say, and a step over the shape is the step over the component.
 use mathlib.Core.Path.{_≡_, refl, ap, sym, _∙_}
-use Prim.Native.Nat.{_<_}
 use native.Mathlib.Omega.{arith}
-use Rattle.definition.specs.Prelude.{ℕ, _+_, _*_, Bool, true, false, not, List, getD, eqb}
-use Rattle.definition.specs.Basics.{Result, ok, refused, _>>=_, withPlaces}
-use Rattle.definition.specs.Image.{Placed}
 use Rattle.definition.specs.Ranges.{staticWidth}
-use Rattle.definition.specs.Component.{Component, ComponentType, literal, variable, filler, hasEnd}
 use Rattle.definition.specs.Concatenation.{Running, addWidth, checkType, hasFullRange}
+use Rattle.definition.specs.Basics.{Result, ok, refused, _>>=_, withPlaces}
+use Rattle.definition.specs.Component.{Component, ComponentType, literal, variable, filler, hasEnd}
+use Rattle.definition.specs.Image.{Placed}
+use Rattle.definition.specs.Prelude.{ℕ, _+_, _*_, Bool, true, false, not, List, getD, eqb}
 use Rattle.numbers.specs.Value.{optionOf}
 use Rattle.stages.specs.component.Kept.{widthIn}
-use Rattle.stages.specs.concatenation.Check.{ShapeOf, shapeBy}
-use Rattle.stages.specs.concatenation.running_check.Running.{kindOf, stepOf, stepAs, addAs, checkOpen, checkLiteral, withFull, checkAs, settledOf, advancedAs}
 use Rattle.stages.specs.declared.concatenation.running_check.running.Shape.{Shape}
+use Rattle.stages.specs.concatenation.running_check.Running.{kindOf, stepOf, stepAs, addAs, checkOpen, checkLiteral, withFull, checkAs, settledOf, advancedAs}
+use Rattle.stages.specs.concatenation.Check.{ShapeOf, shapeBy}
 use Rattle.stages.proofs.concatenation.check.KeptRows.{Stored, word-at, flags-at}
 use Rattle.stages.proofs.concatenation.check.Flags.{kind-flags, end-flag, full-flag}
 

@@ -1,32 +1,32 @@
 -- The loops over the kept components of a concatenation: one turn, and the end.
+use mathlib.Core.Bool.{true≢false}
 use mathlib.Core.Path.{_≡_, refl, ap, sym, _∙_}
 use mathlib.Core.Logic.{_⊎_, ⊎-elim}
-use mathlib.Core.Bool.{true≢false}
 use Prim.Native.Nat.{_≤_, _<_}
 use native.Mathlib.Nat.{add-zero, zero-add}
 use native.Mathlib.Omega.{arith}
 use native.Mathlib.Numerals.{add-one}
 use borrow.Author.Tests.{eq-eqb, ne-eqb}
 use lib.ListN.{length-drop, drop-of-length-le}
-use Rattle.definition.specs.Prelude.{ℕ, suc, _+_, _-_, _*_, _/_, _%_, Bool, true, false, not, _&&_, Option, none, some, List, [], _∷_, length, getD, drop, eqb}
-use Rattle.definition.specs.Basics.{Result, ok, refused, _>>=_, withPlaces, isEmpty, if_then_else_}
-use Rattle.definition.specs.Image.{Placed}
 use Rattle.definition.specs.Component.{Component}
-use Rattle.definition.specs.Concatenation.{Running, Concatenation, unchecked, addWidth, checkType, checkFrom, check, isStaticLiteral, merge}
+use Rattle.definition.specs.Basics.{Result, ok, refused, _>>=_, withPlaces, isEmpty, if_then_else_}
 use Rattle.definition.specs.Overall.{placeFrom}
+use Rattle.definition.specs.Image.{Placed}
+use Rattle.definition.specs.Prelude.{ℕ, suc, _+_, _-_, _*_, _/_, _%_, Bool, true, false, not, _&&_, none, some, List, [], _∷_, length, getD, drop, eqb}
+use Rattle.definition.specs.Concatenation.{Running, Concatenation, unchecked, addWidth, checkType, checkFrom, check, isStaticLiteral, merge}
 use Rattle.laws.specs.Results.{bind-assoc}
-use Rattle.errors.specs.Refused.{resultOf}
 use Rattle.errors.specs.declared.Checked.{Checked}
 use Rattle.errors.specs.declared.Checked.the-variants as C
-use Rattle.stages.specs.component.Read.{isRefusedBy}
+use Rattle.errors.specs.Refused.{resultOf}
+use Rattle.stages.specs.declared.concatenation.running_check.running.Advanced.{Advanced}
 use Rattle.stages.specs.concatenation.Check.{concatenationOf, shapeBy, asked, flagsAsk}
 use Rattle.stages.specs.concatenation.running_check.Running.{runningOf, stepOf, finishOf, keptOf, verdictOf, settledOf, advancedAs}
 use Rattle.stages.specs.declared.concatenation.running_check.running.Running.{Running as Now}
-use Rattle.stages.specs.declared.concatenation.running_check.running.Advanced.{Advanced}
-use Rattle.stages.proofs.concatenation.check.KeptRows.{Stored, flags-at}
+use Rattle.stages.specs.component.Read.{isRefusedBy}
 use Rattle.stages.proofs.concatenation.check.Flags.{literal-flag, asked-flags}
 use Rattle.stages.proofs.concatenation.check.Shapes.{shape-is, advanced-as}
 use Rattle.stages.proofs.concatenation.check.Counts.{oneMore, countFrom, merge-length}
+use Rattle.stages.proofs.concatenation.check.KeptRows.{Stored, flags-at}
 
 pub none-left : {A : Type 0} (cs : List A) (j n : ℕ) → length cs ≡ n → n ≤ j → drop j cs ≡ []
 none-left cs j n e l = drop-of-length-le cs {i = j} (rw e l)

@@ -1,28 +1,28 @@
 -- Stage 3 after i concatenations: those that are done, with their heads, and what is left to come.
-use mathlib.Core.Path.{_≡_, refl, ap, subst, sym, _∙_}
 use mathlib.Core.List.{append-assoc, append-nil}
-use Prim.Native.Nat.{_≤_, _<_}
+use mathlib.Core.Path.{_≡_, refl, ap, subst, sym, _∙_}
+use Prim.Native.Nat.{_≤_}
 use native.Mathlib.Omega.{arith}
 use native.Mathlib.Numerals.{add-one}
-use lib.ListN.{length-append}
 use lib.Seq.{sets, sets-eq, take-append-seam}
-use Rattle.definition.specs.Prelude.{ℕ, suc, _+_, _*_, _^_, true, false, none, some, List, [], _∷_, _++_, map, length, take, drop}
+use lib.ListN.{length-append}
 use Rattle.definition.specs.Basics.{Result, ok, refused, _>>=_, joined}
-use Rattle.definition.specs.Image.{Placed}
 use Rattle.definition.specs.Component.{Component}
+use Rattle.definition.specs.Image.{Placed}
+use Rattle.definition.specs.Prelude.{ℕ, suc, _+_, _*_, true, false, List, [], _∷_, _++_, map, length, take, drop}
 use Rattle.definition.specs.Concatenation.{Concatenation, check, stage3, merge}
 use Rattle.prepared.specs.Bytes.{Holds}
-use Rattle.errors.specs.Refused.{resultOf}
 use Rattle.errors.specs.declared.Checked.{Checked}
 use Rattle.errors.specs.declared.Checked.the-variants as C
+use Rattle.errors.specs.Refused.{resultOf}
+use Rattle.numbers.specs.declared.OptionUsize.the-variants as U
 use Rattle.numbers.specs.Value.{optionUsize}
 use Rattle.numbers.specs.declared.OptionUsize.{OptionUsize}
-use Rattle.numbers.specs.declared.OptionUsize.the-variants as U
 use Rattle.stages.specs.component.Read.{isRefusedBy, verdict}
-use Rattle.stages.specs.concatenation.alignment.Align.{alignOf}
-use Rattle.stages.specs.concatenation.Check.{concatenationOf}
-use Rattle.stages.specs.concatenation.Heads.{widthNumber, widthOr0, headBy, headWords, HeadsAre}
 use Rattle.stages.specs.declared.concatenation.running_check.running.Advanced.{Advanced}
+use Rattle.stages.specs.concatenation.alignment.Align.{alignOf}
+use Rattle.stages.specs.concatenation.Heads.{widthNumber, widthOr0, headBy, headWords, HeadsAre}
+use Rattle.stages.specs.concatenation.Check.{concatenationOf}
 
 pub record Done (heads : List ℕ) (i : ℕ) (tree : List (List (Placed Component))) : Type 0 where
   pub done : List Concatenation

@@ -1,23 +1,22 @@
 -- The two words of a concatenation: written, and read back.
 use mathlib.Core.Path.{_≡_, refl, ap, subst, sym, _∙_}
-use Prim.Native.Nat.{_≤_, _<_}
+use Prim.Native.Nat.{_≤_}
 use native.Mathlib.Nat.{add-zero}
 use native.Mathlib.Omega.{arith}
 use native.Mathlib.Numerals.{add-one}
-use borrow.Author.Tests.{eq-eqb, ne-eqb, le-leb, lt-leb}
+use borrow.Author.Tests.{ne-eqb, le-leb, lt-leb}
 use lib.Seq.{sets}
 use lib.ListN.{set}
-use Rattle.definition.specs.Prelude.{ℕ, zero, suc, _+_, _*_, _/_, _%_, _^_, Bool, true, false, Option, none, some, List, [], _∷_, _++_, map, length, getD, drop, eqb, leb}
-use Rattle.definition.specs.Basics.{joined, if_then_else_}
+use Rattle.definition.specs.Basics.{joined}
 use Rattle.definition.specs.Answer.{flag}
-use Rattle.definition.specs.Concatenation.{Concatenation, FillerAlign, align-none, align-single, align-lsb, align-msb, align-mid, align-multiple, alignNumber, isAlign, merge}
+use Rattle.definition.specs.Concatenation.{Concatenation, FillerAlign, align-none, align-single, align-lsb, align-msb, align-mid, align-multiple, alignNumber, merge}
+use Rattle.definition.specs.Prelude.{ℕ, zero, suc, _+_, _*_, _/_, _%_, _^_, Bool, true, false, Option, none, some, List, [], _∷_, map, length, getD, drop, leb}
 use Rattle.prepared.specs.Bytes.{Holds, holds-left, holds-right, holds-getD}
 use Rattle.numbers.specs.Value.{optionUsize}
-use Rattle.stages.specs.concatenation.alignment.Align.{alignOf}
+use Rattle.stages.specs.concatenation.Heads.{alignFrom, widthFrom, summaryBy, widthOr0, headWords, HeadsAre, CheckedOne, AllChecked, one-more}
 use Rattle.stages.specs.concatenation.Overall.{HasSummary}
-use Rattle.stages.specs.concatenation.Heads.{alignFrom, widthFrom, summaryBy, widthOr0, headWords, HeadsAre, CheckedOne, AllChecked, none-left, one-more}
-use Rattle.stages.specs.declared.concatenation.alignment.align.FillerAlign.{FillerAlign as Align}
 use Rattle.stages.specs.declared.concatenation.alignment.align.FillerAlign.the-variants as A
+use Rattle.stages.specs.concatenation.alignment.Align.{alignOf}
 
 pub align-small : (a : FillerAlign) → alignNumber a ≤ 5
 align-small align-none = omega arith

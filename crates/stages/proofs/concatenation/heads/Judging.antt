@@ -1,18 +1,18 @@
 -- What stage 3 leaves where it refuses nothing.
-use mathlib.Core.Path.{_≡_, refl, ap, subst, sym, _∙_}
-use Prim.Native.Nat.{_≤_, _<_}
+use mathlib.Core.Path.{_≡_, refl, subst}
+use Prim.Native.Nat.{_≤_}
 use native.Mathlib.Omega.{arith}
 use lib.ListN.{length-append}
-use Rattle.definition.specs.Prelude.{ℕ, suc, _+_, _^_, Bool, true, false, not, _&&_, Option, none, some, ltb, eqb, ℤ, natAbs, List, [], _∷_, map, length}
-use Rattle.definition.specs.Basics.{Result, ok, refused, _>>=_, withPlaces, isEmpty, joined}
-use Rattle.definition.specs.Refusals.{need, zero-total-width, lone-filler-sink, second-filler, literal-in-sink, sum-overflow}
-use Rattle.definition.specs.Image.{Placed}
 use Rattle.definition.specs.Ranges.{staticWidth}
+use Rattle.definition.specs.Refusals.{need, zero-total-width, lone-filler-sink, second-filler, literal-in-sink, sum-overflow}
 use Rattle.definition.specs.Component.{Component, ComponentType, literal, variable, filler, hasEnd}
+use Rattle.definition.specs.Image.{Placed}
 use Rattle.definition.specs.Concatenation.{Concatenation, Running, hasFullRange, unchecked, addWidth, checkType, checkFrom, check, stage3, merge, isAlign, align-none, alignOf, isStaticLiteral}
+use Rattle.definition.specs.Basics.{ok, _>>=_, withPlaces, isEmpty, joined}
+use Rattle.definition.specs.Prelude.{ℕ, suc, _+_, _^_, Bool, true, false, not, _&&_, Option, none, some, ltb, eqb, ℤ, natAbs, List, [], _∷_, map, length}
 use Rattle.laws.specs.Results.{bind-ok, need-ok, need-then, placed-ok}
-use Rattle.stages.specs.concatenation.running_check.Running.{addAs, checkAs, checkOpen, checkLiteral, withFull}
 use Rattle.stages.specs.concatenation.Heads.{CheckedOne, AllChecked, none-left, one-more}
+use Rattle.stages.specs.concatenation.running_check.Running.{addAs, checkOpen, checkLiteral, withFull}
 use Rattle.stages.proofs.concatenation.check.Counts.{oneMore, countFrom, merge-length}
 
 -- deterministic while there is no unbounded filler

@@ -1,18 +1,18 @@
 -- The components of the concatenations one after the other: those of the i-th, and where they stand.
-use mathlib.Core.Path.{_≡_, refl, ap, sym, _∙_}
+use mathlib.Core.Path.{_≡_, refl, ap, _∙_}
 use Prim.Native.Nat.{_≤_, _<_}
 use native.Mathlib.Omega.{arith}
 use native.Mathlib.Numerals.{add-one}
 use lib.ListN.{length-append}
 use Rattle.definition.specs.Prelude.{ℕ, zero, suc, _+_, _*_, List, [], _∷_, _++_, map, length, drop}
+use Rattle.definition.specs.Component.{Component}
 use Rattle.definition.specs.Basics.{joined}
 use Rattle.definition.specs.Image.{Placed, u32At}
-use Rattle.definition.specs.Component.{Component}
-use Rattle.stages.specs.token_tree.Rows.{Sizes}
 use Rattle.image.specs.declared.token_tree.PVal.{PVal}
-use Rattle.stages.specs.component.Kept.{KeptFrom}
 use Rattle.stages.specs.concatenation.Check.{Lies}
+use Rattle.stages.specs.token_tree.Rows.{Sizes}
 use Rattle.stages.specs.concatenation.Heads.{CountsFit}
+use Rattle.stages.specs.component.Kept.{KeptFrom}
 use Rattle.stages.proofs.concatenation.check.KeptRows.{kept-left, kept-right}
 
 pub record Part {A : Type 0} (image : List ℕ) (i : ℕ) (cc : List (List A)) : Type 0 where

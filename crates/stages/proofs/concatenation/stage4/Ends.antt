@@ -1,11 +1,11 @@
 -- The checks of stage 4 after its loop, and its end.
 use mathlib.Core.Path.{_≡_, refl}
 use borrow.Author.Tests.{eq-eqb, ne-eqb}
-use Rattle.definition.specs.Prelude.{ℕ, Option, none, some, Bool, true, false, not, _&&_, _||_, List, leb, eqb}
-use Rattle.definition.specs.Basics.{ok, refused}
 use Rattle.definition.specs.Refusals.{numberOf, no-common-width}
-use Rattle.definition.specs.Concatenation.{Concatenation}
+use Rattle.definition.specs.Basics.{ok, refused}
 use Rattle.definition.specs.Overall.{Overall, overallFrom, overallStart, stage4}
+use Rattle.definition.specs.Concatenation.{Concatenation}
+use Rattle.definition.specs.Prelude.{ℕ, Option, none, some, Bool, true, false, not, _&&_, _||_, List, leb, eqb}
 use Rattle.laws.specs.Tests.{and-iff, eqb-iff}
 use Rattle.stages.specs.concatenation.Overall.{commonOf, checksOf}
 

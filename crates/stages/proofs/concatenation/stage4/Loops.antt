@@ -1,22 +1,22 @@
 -- The loops of stage 4: the concatenation of a turn with its components, and one turn of each definition.
 use mathlib.Core.Path.{_≡_, refl, ap, subst, sym, _∙_}
 use Prim.Native.Nat.{_≤_, _<_}
-use native.Mathlib.Nat.{le-of-suc-le-suc, zero-add}
 use native.Mathlib.Omega.{arith}
+use native.Mathlib.Nat.{le-of-suc-le-suc, zero-add}
 use native.Mathlib.Numerals.{add-one}
 use lib.ListN.{length-map, drop-of-length-le}
-use Rattle.definition.specs.Prelude.{ℕ, zero, suc, _+_, _*_, Bool, true, false, Option, none, some, List, [], _∷_, map, length, drop}
-use Rattle.definition.specs.Basics.{Result, ok, refused, _>>=_, withPlaces, if_then_else_, joined}
-use Rattle.definition.specs.Refusals.{refuse, middle-filler, opposite-fillers}
-use Rattle.definition.specs.Image.{Placed, u32At, componentCount}
+use Rattle.definition.specs.Image.{Placed, componentCount}
 use Rattle.definition.specs.Component.{Component}
-use Rattle.definition.specs.Concatenation.{Concatenation, isAlign, align-mid}
+use Rattle.definition.specs.Prelude.{ℕ, zero, suc, _+_, _*_, Bool, true, false, Option, none, some, List, [], _∷_, map, length, drop}
+use Rattle.definition.specs.Refusals.{refuse, middle-filler, opposite-fillers}
+use Rattle.definition.specs.Basics.{Result, ok, refused, _>>=_, withPlaces, if_then_else_, joined}
 use Rattle.definition.specs.Overall.{Overall, placeFrom, joinWidth, checkSource, overallFrom, middleFrom, oppositeFrom}
+use Rattle.definition.specs.Concatenation.{Concatenation, isAlign, align-mid}
+use Rattle.stages.specs.declared.concatenation.overall.Summary.{Summary}
 use Rattle.stages.specs.component.Kept.{KeptFrom}
 use Rattle.stages.specs.concatenation.Heads.{CountsFit, Judged}
 use Rattle.stages.specs.concatenation.Overall.{HasSummary, StartsAs, turn, middleAt, unboundedIn, isOpposite, oppositeAt, oppositeAs}
-use Rattle.stages.specs.declared.concatenation.overall.Summary.{Summary}
-use Rattle.stages.proofs.concatenation.heads.Parts.{Part, part-at, part-kept, rest-kept, part-few, part-words}
+use Rattle.stages.proofs.concatenation.heads.Parts.{part-at, part-kept, rest-kept, part-few, part-words}
 
 abbrev pub compsOf : List Concatenation → List (List (Placed Component))
 compsOf ds = map (λ (d : Concatenation). d .comps) ds

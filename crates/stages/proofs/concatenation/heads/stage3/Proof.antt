@@ -1,27 +1,20 @@
-use mathlib.Core.Path.{_≡_, refl, ap, sym, _∙_}
+use mathlib.Core.Path.{_≡_, refl, sym, _∙_}
+use mathlib.Core.List.{List}
+use Prim.Native.Nat.{_≤_, _-_, _+_}
+use native.Mathlib.Nat.{zero-add}
 use native.Mathlib.Omega.{arith}
 use borrow.Author.Needs.{needs}
-use native.Mathlib.Nat.{zero-add}
-use mathlib.Core.List.{List}
-use Prim.Native.Nat.{ℕ, _≤_, _-_, _+_, _*_}
 use lib.ListN.{length, drop}
+use Rattle.definition.specs.Component.{Component}
 use Rattle.definition.specs.Basics.{joined}
 use Rattle.definition.specs.Image.{Placed}
-use Rattle.definition.specs.Component.{Component}
 use Rattle.stages.specs.token_tree.Rows.{Sizes}
 use Rattle.stages.specs.component.Kept.{KeptFrom}
 use Rattle.stages.proofs.concatenation.heads.Parts.{part-at, part-few, part-kept, rest-kept, lies, left-on}
-use Rattle.stages.proofs.concatenation.heads.Done.{Done, done-none, done-more, done-off, done-end}
 use Rattle.stages.proofs.concatenation.stage4.Loops.{end-at}
-use Rattle.stages.proofs.concatenation.heads.stage3.Statement.{statement}
+use Rattle.stages.proofs.concatenation.heads.Done.{Done, done-none, done-more, done-off, done-end}
 use Rattle.stages.proofs.concatenation.heads.stage3.Tie as tie
-use Rattle.stages.proofs.concatenation.heads.stage3.Reads as reads
-use Rattle.stages.proofs.concatenation.heads.stage3.Lts as lts
-use Rattle.stages.proofs.component.read.is_refused.Reads as is-refused-reads
-use Rattle.stages.proofs.concatenation.check.Concatenation.check.Reads as check-reads
-use Rattle.stages.proofs.concatenation.check.Concatenation.merged.Reads as merged-reads
-use Rattle.stages.proofs.concatenation.heads.summarise.Reads as summarise-reads
-use Rattle.stages.proofs.token_tree.table.components_of.Reads as components-of-reads
+use Rattle.stages.proofs.concatenation.heads.stage3.Statement.{statement}
 
 abbrev Inv-loop : tie.InvT-loop
 Inv-loop heads₀ words image c k₀ i₀ heads k i =
@@ -33,19 +26,16 @@ Inv-loop heads₀ words image c k₀ i₀ heads k i =
 abbrev μ-loop : tie.MeasureT-loop
 μ-loop heads₀ words image c k₀ i₀ heads k i = c - i
 
--- src/concatenation/heads.rt:66:5
 loop-holds : tie.Need-loop-holds Inv-loop μ-loop
 loop-holds c =
     (omega arith, refl, λ cc e z. zero-add (length (joined cc)), λ cc e z h. (h, done-none (c .before .before .before .args .heads .now) cc))
 
--- src/concatenation/heads.rt:67:13
 components-of-requires : tie.Need-components-of-requires Inv-loop μ-loop
 components-of-requires c κs =
     let f = c .before .before .before .before .before .pre .1 .table in
     let l = c .loop-test .taken in
     omega (arith, f, l)
 
--- src/concatenation/heads.rt:69:13
 check-requires : tie.Need-check-requires Inv-loop μ-loop
 check-requires c κs =
     let s = c .before .before .before .before .before .before .args in
@@ -55,15 +45,9 @@ check-requires c κs =
     lies (s .image .now) (f .0) (s .c) (length (s .words .now)) (length (s .heads .now)) (f .1) (v .k .0) (v .i)
     (v .inv .2 (f .0) (f .1 .count) (f .1 .sizes)) (c .before .loop-test .taken) (n .result) (v .k) (n .ensures) refl
 
--- src/concatenation/heads.rt:71:12
-is-refused-requires : tie.Need-is-refused-requires Inv-loop μ-loop
-is-refused-requires c κs = search needs
-
--- src/concatenation/heads.rt:72:13
 same-length : tie.Need-same-length Inv-loop μ-loop
 same-length c = c .before .before .before .before .before .loop .inv .1
 
--- src/concatenation/heads.rt:72:13
 returns : tie.Need-returns Inv-loop μ-loop
 returns c = λ cc e z h.
     let s = c .before .before .before .before .before .before .before .before .before .args in
@@ -76,7 +60,6 @@ returns c = λ cc e z h.
     (c .before .before .check .ensures (s .image .now) (p .here) (sym (n .ensures ∙ p .size)) (part-kept (s .image .now) (s .words .now) (v .k .0) (v .i) cc p (w .0)))
     (sym (c .before .is-refused .ensures) ∙ c .if1 .taken)
 
--- src/concatenation/heads.rt:75:32
 merged-requires : tie.Need-merged-requires Inv-loop μ-loop
 merged-requires c κs =
     let s = c .before .before .before .before .before .before .before .before .before .before .before .args in
@@ -86,7 +69,6 @@ merged-requires c κs =
     lies (s .image .now) (f .0) (s .c) (length (s .words .now)) (length (s .heads .now)) (f .1) (v .k .0) (v .i)
     (v .inv .2 (f .0) (f .1 .count) (f .1 .sizes)) (c .before .before .before .before .before .before .loop-test .taken) (n .result) (v .k) (n .ensures) refl
 
--- src/concatenation/heads.rt:75:9
 summarise-requires : tie.Need-summarise-requires Inv-loop μ-loop
 summarise-requires c κs =
     let f = c .before .before .before .before .before .before .before .before .before .before .before .before .pre .1 .heads-fit in
@@ -94,7 +76,6 @@ summarise-requires c κs =
     let e = c .before .before .before .before .before .before .before .before .loop .inv .1 in
     omega (arith, f, l, e)
 
--- src/concatenation/heads.rt:76:18
 add-t17 : tie.Need-add-t17 Inv-loop μ-loop
 add-t17 c =
     let s = c .before .before .before .before .before .before .before .before .before .before .before .before .before .before .before .before .args in
@@ -105,20 +86,17 @@ add-t17 c =
     let e = c .before .before .before .before .before .before .before .before .before .before .components-of .ensures in
     omega (arith, b, e)
 
--- src/concatenation/heads.rt:77:9
 add-i : tie.Need-add-i Inv-loop μ-loop
 add-i c =
     let p = c .before .before .before .before .before .before .before .before .before .before .before .before .before .before .before .before .pre .1 .few in
     let l = c .before .before .before .before .before .before .before .before .before .before .before .loop-test .taken in
     omega (arith, p, l)
 
--- src/concatenation/heads.rt:66:5
 loop-less : tie.Need-loop-less Inv-loop μ-loop
 loop-less c =
     let l = c .before .before .before .before .before .before .before .before .before .before .before .loop-test .taken in
     omega (arith, l)
 
--- src/concatenation/heads.rt:66:5
 loop-again : tie.Need-loop-again Inv-loop μ-loop
 loop-again c =
     let s = c .before .before .before .before .before .before .before .before .before .before .before .before .before .before .before .before .args in
@@ -144,11 +122,9 @@ loop-again c =
           ),
     )
 
--- src/concatenation/heads.rt:60:1
 same-length-2 : tie.Need-same-length-2 Inv-loop μ-loop
 same-length-2 c = c .before .loop .inv .1
 
--- src/concatenation/heads.rt:60:1
 returns-2 : tie.Need-returns-2 Inv-loop μ-loop
 returns-2 c = λ cc e z h.
     let s = c .before .before .before .before .before .args in
@@ -158,20 +134,5 @@ returns-2 c = λ cc e z h.
 pub stage3-spec : {M : Type 1} → statement M
 stage3-spec =
     tie.close
-    (tie.spec
-    Inv-loop
-    μ-loop
-    loop-holds
-    components-of-requires
-    check-requires
-    is-refused-requires
-    same-length
-    returns
-    merged-requires
-    summarise-requires
-    add-t17
-    add-i
-    loop-less
-    loop-again
-    same-length-2
-    returns-2)
+    (tie.spec Inv-loop μ-loop loop-holds components-of-requires check-requires (λ c κs. search needs) same-length returns merged-requires
+    summarise-requires add-t17 add-i loop-less loop-again same-length-2 returns-2)

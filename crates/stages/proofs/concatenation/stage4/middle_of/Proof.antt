@@ -1,28 +1,23 @@
-use native.Mathlib.Nat.{zero-add}
 use mathlib.Core.Path.{_≡_, refl, ap, sym, _∙_}
+use mathlib.Core.List.{List}
+use Prim.Native.Nat.{_≤_, _-_, _+_}
+use native.Mathlib.Nat.{zero-add}
 use native.Mathlib.Omega.{arith}
 use borrow.Author.Needs.{needs}
-use mathlib.Core.List.{List}
-use Prim.Native.Nat.{ℕ, _≤_, _-_, _+_, _*_}
 use lib.ListN.{length, drop}
+use Rattle.definition.specs.Component.{Component}
 use Rattle.definition.specs.Concatenation.{Concatenation}
 use Rattle.definition.specs.Basics.{joined}
+use Rattle.definition.specs.Overall.{middleFrom}
 use Rattle.definition.specs.Image.{Placed}
-use Rattle.definition.specs.Component.{Component}
+use Rattle.errors.specs.Refused.{resultOf}
 use Rattle.stages.specs.token_tree.Rows.{Sizes}
 use Rattle.stages.specs.component.Kept.{KeptFrom}
-use Rattle.definition.specs.Overall.{middleFrom}
 use Rattle.stages.specs.concatenation.Heads.{Judged}
-use Rattle.errors.specs.Refused.{resultOf}
+use Rattle.stages.proofs.concatenation.stage4.middle_of.Tie as tie
 use Rattle.stages.proofs.concatenation.heads.Parts.{part-at, part-few, lies, left-on}
 use Rattle.stages.proofs.concatenation.stage4.Loops.{compsOf, turn-of, end-at, middle-on, middle-off, middle-end}
 use Rattle.stages.proofs.concatenation.stage4.middle_of.Statement.{statement}
-use Rattle.stages.proofs.concatenation.stage4.middle_of.Tie as tie
-use Rattle.stages.proofs.concatenation.stage4.middle_of.Reads as reads
-use Rattle.stages.proofs.concatenation.stage4.middle_of.Lts as lts
-use Rattle.stages.proofs.concatenation.heads.summary_at.Reads as summary-at-reads
-use Rattle.stages.proofs.concatenation.stage4.middle_at.Reads as middle-at-reads
-use Rattle.stages.proofs.token_tree.table.components_of.Reads as components-of-reads
 
 abbrev Inv-loop : tie.InvT-loop
 Inv-loop heads words image c k₀ i₀ k i =
@@ -33,25 +28,21 @@ Inv-loop heads words image c k₀ i₀ k i =
 abbrev μ-loop : tie.MeasureT-loop
 μ-loop heads words image c k₀ i₀ k i = c - i
 
--- src/concatenation/stage4.rt:129:5
 loop-holds : tie.Need-loop-holds Inv-loop μ-loop
 loop-holds c = (omega arith, λ cc e z. zero-add (length (joined cc)), λ ds j. (j .kept, refl))
 
--- src/concatenation/stage4.rt:130:13
 components-of-requires : tie.Need-components-of-requires Inv-loop μ-loop
 components-of-requires c κs =
     let f = c .before .before .before .before .before .pre .1 .table in
     let l = c .loop-test .taken in
     omega (arith, f, l)
 
--- src/concatenation/stage4.rt:132:13
 summary-at-requires : tie.Need-summary-at-requires Inv-loop μ-loop
 summary-at-requires c κs =
     let f = c .before .before .before .before .before .before .pre .1 .heads-fit in
     let l = c .before .loop-test .taken in
     omega (arith, f, l)
 
--- src/concatenation/stage4.rt:134:18
 add-t13 : tie.Need-add-t13 Inv-loop μ-loop
 add-t13 c =
     let s = c .before .before .before .before .before .before .before .before .args in
@@ -62,14 +53,12 @@ add-t13 c =
     let e = c .before .before .components-of .ensures in
     omega (arith, b, e)
 
--- src/concatenation/stage4.rt:135:9
 add-i : tie.Need-add-i Inv-loop μ-loop
 add-i c =
     let p = c .before .before .before .before .before .before .before .before .pre .1 .few in
     let l = c .before .before .before .loop-test .taken in
     omega (arith, p, l)
 
--- src/concatenation/stage4.rt:136:15
 middle-at-requires : tie.Need-middle-at-requires Inv-loop μ-loop
 middle-at-requires c κs =
     let s = c .before .before .before .before .before .before .before .before .args in
@@ -79,16 +68,11 @@ middle-at-requires c κs =
     lies (s .image .now) (f .0) (s .c) (length (s .words .now)) (length (s .heads .now)) (f .1) (v .k .0) (v .i)
     (v .inv .1 (f .0) (f .1 .count) (f .1 .sizes)) (c .before .before .before .loop-test .taken) (n .result) (v .k) (n .ensures) refl
 
-enum-told : tie.Need-enum-told Inv-loop μ-loop
-enum-told c = search needs
-
--- src/concatenation/stage4.rt:129:5
 loop-less : tie.Need-loop-less Inv-loop μ-loop
 loop-less c =
     let l = c .before .before .before .before .before .before .loop-test .taken in
     omega (arith, l)
 
--- src/concatenation/stage4.rt:129:5
 loop-again : tie.Need-loop-again Inv-loop μ-loop
 loop-again c =
     let s = c .before .before .before .before .before .before .before .before .before .before .before .args in
@@ -109,11 +93,6 @@ loop-again c =
           ),
     )
 
--- src/concatenation/stage4.rt:138:30
-enum-known-e : tie.Need-enum-known-e Inv-loop μ-loop
-enum-known-e c = search needs
-
--- src/concatenation/stage4.rt:139:17
 returns : tie.Need-returns Inv-loop μ-loop
 returns c = λ ds j.
     let s = c .before .before .before .before .before .before .before .before .before .before .before .before .args in
@@ -127,7 +106,6 @@ returns c = λ ds j.
     (sym (c .before .before .before .middle-at .ensures (s .image .now) (t .one) (sum .align-is) (sym (n .ensures ∙ t .size)) (t .kept)) ∙ ap resultOf (c .before .e .given .1))
     ∙ w .1
 
--- src/concatenation/stage4.rt:122:1
 returns-2 : tie.Need-returns-2 Inv-loop μ-loop
 returns-2 c = λ ds j.
     let s = c .before .before .before .before .before .args in
@@ -137,18 +115,5 @@ returns-2 c = λ ds j.
 pub middle-of-spec : {M : Type 1} → statement M
 middle-of-spec =
     tie.close
-    (tie.spec
-    Inv-loop
-    μ-loop
-    loop-holds
-    components-of-requires
-    summary-at-requires
-    add-t13
-    add-i
-    middle-at-requires
-    enum-told
-    loop-less
-    loop-again
-    enum-known-e
-    returns
-    returns-2)
+    (tie.spec Inv-loop μ-loop loop-holds components-of-requires summary-at-requires add-t13 add-i middle-at-requires (λ c. search needs) loop-less
+    loop-again (λ c. search needs) returns returns-2)

@@ -1,22 +1,16 @@
-use mathlib.Core.Path.{_≡_, refl, ap, sym, _∙_}
+use mathlib.Core.Path.{_≡_, ap, sym, _∙_}
+use mathlib.Core.List.{List}
+use Prim.Native.Nat.{_≤_, _-_, _+_}
 use native.Mathlib.Omega.{arith}
 use borrow.Author.Needs.{needs}
-use mathlib.Core.List.{List}
-use Prim.Native.Nat.{ℕ, _≤_, _-_, _+_, _*_}
 use lib.ListN.{length, drop}
-use Rattle.definition.specs.Concatenation.{Concatenation}
 use Rattle.definition.specs.Overall.{overallFrom, overallStart}
-use Rattle.stages.specs.concatenation.Heads.{Judged}
+use Rattle.definition.specs.Concatenation.{Concatenation}
 use Rattle.stages.specs.concatenation.Overall.{overallOf, answerOf}
+use Rattle.stages.specs.concatenation.Heads.{Judged}
+use Rattle.stages.proofs.concatenation.stage4.overall_of.Tie as tie
 use Rattle.stages.proofs.concatenation.stage4.Loops.{turn-at, end-at, first-is, first-fits, starts-by, over-on, over-off, over-end}
 use Rattle.stages.proofs.concatenation.stage4.overall_of.Statement.{statement}
-use Rattle.stages.proofs.concatenation.stage4.overall_of.Tie as tie
-use Rattle.stages.proofs.concatenation.stage4.overall_of.Reads as reads
-use Rattle.stages.proofs.concatenation.stage4.overall_of.Lts as lts
-use Rattle.stages.proofs.concatenation.heads.summary_at.Reads as summary-at-reads
-use Rattle.stages.proofs.concatenation.overall.start.Reads as start-reads
-use Rattle.stages.proofs.concatenation.stage4.joined_at.Reads as joined-at-reads
-use Rattle.stages.proofs.token_tree.table.components_of.Reads as components-of-reads
 
 abbrev Inv-loop : tie.InvT-loop
 Inv-loop bare heads words image c n o₀ i₀ o i =
@@ -26,7 +20,6 @@ Inv-loop bare heads words image c n o₀ i₀ o i =
 abbrev μ-loop : tie.MeasureT-loop
 μ-loop bare heads words image c n o₀ i₀ o i = c - i
 
--- src/concatenation/stage4.rt:92:9
 components-of-requires : tie.Need-components-of-requires Inv-loop μ-loop
 components-of-requires c κs =
     let f = c .before .before .before .pre .1 in
@@ -34,7 +27,6 @@ components-of-requires c κs =
     let n = f .some in
     omega (arith, t, n)
 
--- src/concatenation/stage4.rt:93:35
 summary-at-requires : tie.Need-summary-at-requires Inv-loop μ-loop
 summary-at-requires c κs =
     let f = c .before .before .before .before .pre .1 in
@@ -42,11 +34,6 @@ summary-at-requires c κs =
     let n = f .some in
     omega (arith, t, n)
 
--- src/concatenation/stage4.rt:93:9
-start-requires : tie.Need-start-requires Inv-loop μ-loop
-start-requires c κs = search needs
-
--- src/concatenation/stage4.rt:95:5
 loop-holds : tie.Need-loop-holds Inv-loop μ-loop
 loop-holds c =
     let s = c .before .before .before .before .before .before .args in
@@ -55,14 +42,12 @@ loop-holds c =
       λ ds j. ap (overallFrom (s .bare) 0 ds) (c .start .ensures ds (starts-by ds (s .c) (m .result) (j .count) (λ rest d e. m .ensures .1 ds rest d (j .heads-are) (j .checked) e))),
     )
 
--- src/concatenation/stage4.rt:97:9
 add-i : tie.Need-add-i Inv-loop μ-loop
 add-i c =
     let p = c .before .before .before .before .before .before .before .before .pre .1 .few in
     let l = c .loop-test .taken in
     omega (arith, p, l)
 
--- src/concatenation/stage4.rt:98:15
 joined-at-requires : tie.Need-joined-at-requires Inv-loop μ-loop
 joined-at-requires c κs =
     let f = c .before .before .before .before .before .before .before .before .pre in
@@ -73,17 +58,11 @@ joined-at-requires c κs =
         (c .before .before .before .before .components-of .ensures) in
     (omega (arith, h, l), n .0, n .1)
 
--- src/concatenation/stage4.rt:99:31
-enum-known-p : tie.Need-enum-known-p Inv-loop μ-loop
-enum-known-p c = search needs
-
--- src/concatenation/stage4.rt:95:5
 loop-less : tie.Need-loop-less Inv-loop μ-loop
 loop-less c =
     let l = c .before .before .before .before .loop-test .taken in
     omega (arith, l)
 
--- src/concatenation/stage4.rt:95:5
 loop-again : tie.Need-loop-again Inv-loop μ-loop
 loop-again c =
     let s = c .before .before .before .before .before .before .before .before .before .before .before .before .args in
@@ -101,11 +80,6 @@ loop-again c =
           ∙ v .inv .1 ds j,
     )
 
--- src/concatenation/stage4.rt:102:36
-enum-known-e : tie.Need-enum-known-e Inv-loop μ-loop
-enum-known-e c = search needs
-
--- src/concatenation/stage4.rt:103:17
 returns : tie.Need-returns Inv-loop μ-loop
 returns c = λ ds j.
     let s = c .before .before .before .before .before .before .before .before .before .before .before .before .args in
@@ -119,7 +93,6 @@ returns c = λ ds j.
     ∙ ap answerOf (c .before .e .given .1))
     ∙ v .inv .1 ds j
 
--- src/concatenation/stage4.rt:87:1
 returns-2 : tie.Need-returns-2 Inv-loop μ-loop
 returns-2 c = λ ds j.
     let s = c .before .before .before .before .before .before .before .before .args in
@@ -129,18 +102,5 @@ returns-2 c = λ ds j.
 pub overall-of-spec : {M : Type 1} → statement M
 overall-of-spec =
     tie.close
-    (tie.spec
-    Inv-loop
-    μ-loop
-    components-of-requires
-    summary-at-requires
-    start-requires
-    loop-holds
-    add-i
-    joined-at-requires
-    enum-known-p
-    loop-less
-    loop-again
-    enum-known-e
-    returns
-    returns-2)
+    (tie.spec Inv-loop μ-loop components-of-requires summary-at-requires (λ c κs. search needs) loop-holds add-i joined-at-requires
+    (λ c. search needs) loop-less loop-again (λ c. search needs) returns returns-2)

@@ -1,21 +1,18 @@
-use mathlib.Core.Path.{_≡_, sym, refl, _∙_}
-use Prim.Native.Nat.{ℕ, _≤_, _-_, _+_, _*_}
 use mathlib.Core.List.{List}
+use mathlib.Core.Path.{_≡_, sym, refl, _∙_}
+use Prim.Native.Nat.{ℕ, _≤_, _-_}
 use native.Mathlib.Omega.{arith}
 use borrow.Author.Needs.{needs}
 use lib.ListN.{length, drop}
-use Rattle.definition.specs.Image.{Placed}
 use Rattle.definition.specs.Component.{Component}
+use Rattle.definition.specs.Image.{Placed}
 use Rattle.definition.specs.Overall.{placeFrom}
 use Rattle.stages.specs.component.Kept.{KeptFrom}
 use Rattle.stages.specs.concatenation.Check.{asked}
-use Rattle.stages.proofs.concatenation.check.KeptRows.{stored}
-use Rattle.stages.proofs.concatenation.check.Turns.{asked-here, asked-on, asked-end}
 use Rattle.stages.proofs.concatenation.check.Concatenation.filler.Statement.{statement}
 use Rattle.stages.proofs.concatenation.check.Concatenation.filler.Tie as tie
-use Rattle.stages.proofs.concatenation.check.Concatenation.filler.Reads as reads
-use Rattle.stages.proofs.concatenation.check.Concatenation.filler.Lts as lts
-use Rattle.stages.proofs.concatenation.check.is_filler.Reads as is-filler-reads
+use Rattle.stages.proofs.concatenation.check.KeptRows.{stored}
+use Rattle.stages.proofs.concatenation.check.Turns.{asked-here, asked-on, asked-end}
 
 abbrev Inv-loop : tie.InvT-loop
 Inv-loop self words unbounded k j₀ j =
@@ -26,50 +23,39 @@ Inv-loop self words unbounded k j₀ j =
 abbrev μ-loop : tie.MeasureT-loop
 μ-loop self words unbounded k j₀ j = self .len - j
 
--- src/concatenation/check.rt:148:9
 loop-holds : tie.Need-loop-holds Inv-loop μ-loop
 loop-holds c = (omega arith, λ image cs e h. refl)
 
--- src/concatenation/check.rt:149:39
 add-is-filler : tie.Need-add-is-filler Inv-loop μ-loop
 add-is-filler c =
     let p : _ ≤ 256 = c .before .before .before .before .before .before .pre .few in
     let l = c .before .if1 .taken in
     omega (arith, p, l)
 
--- src/concatenation/check.rt:149:38
 cast-is-filler : tie.Need-cast-is-filler Inv-loop μ-loop
 cast-is-filler c =
     let p : _ ≤ 256 = c .before .before .before .before .before .before .pre .few in
     let l = c .before .if1 .taken in
     omega (arith, p, l)
 
--- src/concatenation/check.rt:149:32
 mul-is-filler : tie.Need-mul-is-filler Inv-loop μ-loop
 mul-is-filler c =
     let p : _ ≤ 256 = c .before .before .before .before .before .before .pre .few in
     let l = c .before .if1 .taken in
     omega (arith, p, l)
 
--- src/concatenation/check.rt:149:26
 mul-is-filler-2 : tie.Need-mul-is-filler-2 Inv-loop μ-loop
 mul-is-filler-2 c =
     let p : _ ≤ 256 = c .before .before .before .before .before .before .pre .few in
     let l = c .before .if1 .taken in
     omega (arith, p, l)
 
--- src/concatenation/check.rt:149:26
 shared-slice-read-is-filler : tie.Need-shared-slice-read-is-filler Inv-loop μ-loop
 shared-slice-read-is-filler c =
     let p = c .before .before .before .before .before .before .before .pre .words in
     let l = c .before .before .if1 .taken in
     omega (arith, p, l)
 
--- src/concatenation/check.rt:149:16
-is-filler-requires : tie.Need-is-filler-requires Inv-loop μ-loop
-is-filler-requires c κs = search needs
-
--- src/concatenation/check.rt:150:17
 returns : tie.Need-returns Inv-loop μ-loop
 returns c = λ image cs e h.
     let v = c .before .before .before .before .before .before .loop in
@@ -80,20 +66,17 @@ returns c = λ image cs e h.
     (sym (c .before .is-filler .ensures) ∙ c .if2 .taken)
     ∙ v .inv .1 image cs e h
 
--- src/concatenation/check.rt:152:13
 add-j : tie.Need-add-j Inv-loop μ-loop
 add-j c =
     let p : _ ≤ 256 = c .before .before .before .before .before .before .before .before .before .pre .few in
     let l = c .before .before .before .before .if1 .taken in
     omega (arith, p, l)
 
--- src/concatenation/check.rt:148:9
 loop-less : tie.Need-loop-less Inv-loop μ-loop
 loop-less c =
     let l = c .before .before .before .before .if1 .taken in
     omega (arith, l)
 
--- src/concatenation/check.rt:148:9
 loop-again : tie.Need-loop-again Inv-loop μ-loop
 loop-again c =
     let v = c .before .before .before .before .before .before .loop in
@@ -107,7 +90,6 @@ loop-again c =
           ∙ v .inv .1 image cs e h,
     )
 
--- src/concatenation/check.rt:141:5
 returns-2 : tie.Need-returns-2 Inv-loop μ-loop
 returns-2 c = λ image cs e h.
     let v = c .before .before .loop in
@@ -117,18 +99,5 @@ returns-2 c = λ image cs e h.
 pub filler-spec : {M : Type 1} → statement M
 filler-spec =
     tie.close
-    (tie.spec
-    Inv-loop
-    μ-loop
-    loop-holds
-    add-is-filler
-    cast-is-filler
-    mul-is-filler
-    mul-is-filler-2
-    shared-slice-read-is-filler
-    is-filler-requires
-    returns
-    add-j
-    loop-less
-    loop-again
-    returns-2)
+    (tie.spec Inv-loop μ-loop loop-holds add-is-filler cast-is-filler mul-is-filler mul-is-filler-2 shared-slice-read-is-filler
+    (λ c κs. search needs) returns add-j loop-less loop-again returns-2)

@@ -1,22 +1,19 @@
-use mathlib.Core.Path.{_≡_, sym, ap, _∙_}
+use mathlib.Core.Path.{_≡_, _∙_}
 use mathlib.Core.Logic.{_⊎_, ⊎-elim, inl, inr}
-use Prim.Native.Nat.{ℕ, _≤_, _-_, _+_, _*_, _/_, _%_}
 use mathlib.Core.List.{List}
+use Prim.Native.Nat.{ℕ, _≤_, _-_, _+_, _*_, _/_, _%_}
 use native.Mathlib.Omega.{arith}
-use borrow.Author.Needs.{needs}
 use lib.Dec.{eqb}
 use lib.ListN.{length, drop, getD}
-use Rattle.definition.specs.Image.{Placed}
 use Rattle.definition.specs.Component.{Component}
 use Rattle.definition.specs.Concatenation.{merge}
+use Rattle.definition.specs.Image.{Placed}
 use Rattle.stages.specs.component.Kept.{KeptFrom}
-use Rattle.stages.proofs.concatenation.check.KeptRows.{stored}
 use Rattle.stages.proofs.concatenation.check.Counts.{oneMore, countFrom}
 use Rattle.stages.proofs.concatenation.check.Turns.{added, one-at-most, count-start, count-on, count-end}
+use Rattle.stages.proofs.concatenation.check.KeptRows.{stored}
 use Rattle.stages.proofs.concatenation.check.Concatenation.merged.Statement.{statement}
 use Rattle.stages.proofs.concatenation.check.Concatenation.merged.Tie as tie
-use Rattle.stages.proofs.concatenation.check.Concatenation.merged.Reads as reads
-use Rattle.stages.proofs.concatenation.check.Concatenation.merged.Lts as lts
 
 abbrev Inv-loop : tie.InvT-loop
 Inv-loop self words k m₀ was₀ j₀ m was j =
@@ -27,46 +24,39 @@ Inv-loop self words k m₀ was₀ j₀ m was j =
 abbrev μ-loop : tie.MeasureT-loop
 μ-loop self words k m₀ was₀ j₀ m was j = self .len - j
 
--- src/concatenation/check.rt:128:9
 loop-holds : tie.Need-loop-holds Inv-loop μ-loop
 loop-holds c = (omega arith, omega arith, λ image cs e h. count-start cs)
 
--- src/concatenation/check.rt:129:38
 add-flags : tie.Need-add-flags Inv-loop μ-loop
 add-flags c =
     let p : _ ≤ 256 = c .before .before .before .pre .few in
     let l = c .loop-test .taken in
     omega (arith, p, l)
 
--- src/concatenation/check.rt:129:37
 cast-flags : tie.Need-cast-flags Inv-loop μ-loop
 cast-flags c =
     let p : _ ≤ 256 = c .before .before .before .pre .few in
     let l = c .loop-test .taken in
     omega (arith, p, l)
 
--- src/concatenation/check.rt:129:31
 mul-flags : tie.Need-mul-flags Inv-loop μ-loop
 mul-flags c =
     let p : _ ≤ 256 = c .before .before .before .pre .few in
     let l = c .loop-test .taken in
     omega (arith, p, l)
 
--- src/concatenation/check.rt:129:25
 mul-flags-2 : tie.Need-mul-flags-2 Inv-loop μ-loop
 mul-flags-2 c =
     let p : _ ≤ 256 = c .before .before .before .pre .few in
     let l = c .loop-test .taken in
     omega (arith, p, l)
 
--- src/concatenation/check.rt:129:25
 shared-slice-read-flags : tie.Need-shared-slice-read-flags Inv-loop μ-loop
 shared-slice-read-flags c =
     let p = c .before .before .before .before .pre .words in
     let l = c .before .loop-test .taken in
     omega (arith, p, l)
 
--- src/concatenation/check.rt:132:17
 add-m : tie.Need-add-m Inv-loop μ-loop
 add-m c =
     let p : _ ≤ 256 = c .before .before .before .before .before .before .pre .few in
@@ -74,20 +64,17 @@ add-m c =
     let b = c .before .before .before .before .loop .inv .1 in
     omega (arith, p, l, b)
 
--- src/concatenation/check.rt:135:13
 add-j : tie.Need-add-j Inv-loop μ-loop
 add-j c =
     let p : _ ≤ 256 = c .before .before .before .before .before .before .pre .few in
     let l = c .before .before .before .loop-test .taken in
     omega (arith, p, l)
 
--- src/concatenation/check.rt:128:9
 loop-less : tie.Need-loop-less Inv-loop μ-loop
 loop-less c =
     let l = c .before .before .before .loop-test .taken in
     omega (arith, l)
 
--- src/concatenation/check.rt:128:9
 loop-again : tie.Need-loop-again Inv-loop μ-loop
 loop-again c =
     let v = c .before .before .before .before .loop in
@@ -106,7 +93,6 @@ loop-again c =
           (v .inv .2 image cs e h),
     )
 
--- src/concatenation/check.rt:119:5
 returns : tie.Need-returns Inv-loop μ-loop
 returns c =
     let v = c .before .loop in
@@ -117,17 +103,4 @@ returns c =
 pub merged-spec : {M : Type 1} → statement M
 merged-spec =
     tie.close
-    (tie.spec
-    Inv-loop
-    μ-loop
-    loop-holds
-    add-flags
-    cast-flags
-    mul-flags
-    mul-flags-2
-    shared-slice-read-flags
-    add-m
-    add-j
-    loop-less
-    loop-again
-    returns)
+    (tie.spec Inv-loop μ-loop loop-holds add-flags cast-flags mul-flags mul-flags-2 shared-slice-read-flags add-m add-j loop-less loop-again returns)
