@@ -28,7 +28,8 @@ onto-length c [] = by-static (isStaticLiteral (c .value))
     by-static : (s : Bool) → 1 ≡ oneMore s false + 0
     by-static true = refl
     by-static false = refl
-onto-length c (d ∷ m) = by-both (isStaticLiteral (c .value) && isStaticLiteral (d .value)) (record { base = c .base; value = wholeLiteral (bitsOf (c .value) ++ bitsOf (d .value)) })
+onto-length c (d ∷ m) = by-both (isStaticLiteral (c .value) && isStaticLiteral (d .value))
+    (record { base = c .base; value = wholeLiteral (bitsOf (c .value) ++ bitsOf (d .value)) })
   where
     by-both : (t : Bool) (e : Placed Component) → length (if t then e ∷ m else c ∷ d ∷ m) ≡ (if t then 0 else 1) + suc (length m)
     by-both true e = omega arith

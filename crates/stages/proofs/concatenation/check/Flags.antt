@@ -29,7 +29,8 @@ record Say (n : ℕ) (t : ComponentType) (static full ends : Bool) : Type 0 wher
   pub filler-is : eqb (n % 4) 3 ≡ ifFiller t true
   pub open-is : eqb (n % 8) 3 ≡ ifFiller t (not ends)
 
-flags-say : (t : ComponentType) (static full ends : Bool) (width : Option ℤ) → static ≡ ifLiteral t static → Say (flagsFrom t static full ends width) t static full ends
+flags-say : (t : ComponentType) (static full ends : Bool) (width : Option ℤ) → static ≡ ifLiteral t static
+    → Say (flagsFrom t static full ends width) t static full ends
 flags-say (literal b) true full true none h =
     record { kind = refl; ended = refl; literal-is = refl; full-is = (λ g. absurd (omega arith)); filler-is = refl; open-is = refl }
 flags-say (literal b) true full true (some w) h =
@@ -80,7 +81,8 @@ module _ (d : Component) (n : ℕ) (e : n ≡ flagsOf d) where
   say : Say n (d .c-type) (isStaticLiteral d) (hasFullRange d) (hasEnd (d .range))
   say =
       rw e
-      (flags-say (d .c-type) (isStaticLiteral d) (hasFullRange d) (hasEnd (d .range)) (staticWidth (d .range)) (if-literal (d .c-type) (staticRange (d .range))))
+      (flags-say (d .c-type) (isStaticLiteral d) (hasFullRange d) (hasEnd (d .range)) (staticWidth (d .range))
+      (if-literal (d .c-type) (staticRange (d .range))))
 
   pub kind-flags : n % 4 ≡ kindOf (d .c-type)
   kind-flags = say .kind

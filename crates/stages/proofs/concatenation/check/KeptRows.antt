@@ -24,7 +24,8 @@ wide : (r : Row) (rs : List Row) → wordsOf (r ∷ rs) ≡ fieldsOf r ++ wordsO
 unfolding wordsOf joined
 wide r rs = refl
 
-module _ (image words : List ℕ) (k : ℕ) (r : Row) (rs : List Row) (c : Placed Component) (cs : List (Placed Component)) (h : Holds words (11 * k) (wordsOf (r ∷ rs))) where
+module _ (image words : List ℕ) (k : ℕ) (r : Row) (rs : List Row) (c : Placed Component) (cs : List (Placed Component))
+    (h : Holds words (11 * k) (wordsOf (r ∷ rs))) where
   first-row : RowIs image r c → Stored image words k 0 (c ∷ cs)
   first-row g =
       record {

@@ -52,7 +52,9 @@ module _ (c : Component) (s : Shape) (h : ShapeOf c s) where
 
   module _ (i k : ℕ) (first last : Bool) (r : Running) where
     step-as : stepOf i k first last c r ≡ stepAs i k first last s r
-    step-as = ap (λ m. withPlaces i 0 m >>= λ r₁. withPlaces i k (checkType (not (eqb i 0)) first last c r₁)) (add-as r) ∙ by-width (withPlaces i 0 (addAs (optionOf (s .width)) r))
+    step-as =
+        ap (λ m. withPlaces i 0 m >>= λ r₁. withPlaces i k (checkType (not (eqb i 0)) first last c r₁)) (add-as r)
+        ∙ by-width (withPlaces i 0 (addAs (optionOf (s .width)) r))
       where
         by-width : (m : Result Running)
             → (m >>= λ r₁. withPlaces i k (checkType (not (eqb i 0)) first last c r₁))

@@ -75,7 +75,8 @@ module _ (image words : List ℕ) (i k j : ℕ) (cs : List (Placed Component)) (
   abbrev behind : Running → Result Running
   behind r₂ = checkFrom i (j + 1) (eqb (j + 1) 0) (drop (j + 1) cs) r₂
 
-  from-is : checkFrom i j (eqb j 0) (drop j cs) r ≡ (stepOf i j (eqb j 0) last (s .one .value) r >>= λ r₂. checkFrom i (j + 1) (eqb (j + 1) 0) (drop (j + 1) cs) r₂)
+  from-is : checkFrom i j (eqb j 0) (drop j cs) r
+      ≡ (stepOf i j (eqb j 0) last (s .one .value) r >>= λ r₂. checkFrom i (j + 1) (eqb (j + 1) 0) (drop (j + 1) cs) r₂)
   unfolding checkFrom
   from-is =
       ap (λ l. checkFrom i j (eqb j 0) l r) (s .rest)
@@ -89,7 +90,8 @@ module _ (image words : List ℕ) (i k j : ℕ) (cs : List (Placed Component)) (
       sym (from-is ∙ ap (λ m. m >>= behind) (kept-ok (stepOf i j (eqb j 0) last (s .one .value) r) r (runningOf (a .running)) (ap (λ x. x .0) settled)
       (sym (passed (a .checked) h) ∙ ap (λ x. x .1) settled)))
 
-  pub check-off : isRefusedBy (a .checked) ≡ true → checkFrom i j (eqb j 0) (drop j cs) r ≡ checkFrom i 0 true cs unchecked → concatenationOf cs a ≡ check i cs
+  pub check-off : isRefusedBy (a .checked) ≡ true → checkFrom i j (eqb j 0) (drop j cs) r ≡ checkFrom i 0 true cs unchecked
+      → concatenationOf cs a ≡ check i cs
   unfolding check
   check-off h inv =
       refused-through (a .checked) (stepOf i j (eqb j 0) last (s .one .value) r) (concatenationBy cs (runningOf (a .running))) behind (ended i cs) h
@@ -141,19 +143,23 @@ asked-end cs j n unbounded e l = rw (none-left cs j n e l)
 pub count-start : (cs : List (Placed Component)) → 0 + countFrom false cs ≡ length (merge cs)
 count-start cs = rw zero-add (sym (merge-length cs))
 
-pub count-end : (cs : List (Placed Component)) (j n m : ℕ) (was : Bool) → length cs ≡ n → n ≤ j → m + countFrom was (drop j cs) ≡ length (merge cs) → m ≡ length (merge cs)
+pub count-end : (cs : List (Placed Component)) (j n m : ℕ) (was : Bool) → length cs ≡ n → n ≤ j → m + countFrom was (drop j cs) ≡ length (merge cs)
+    → m ≡ length (merge cs)
 unfolding countFrom
 count-end cs j n m was e l h = let g : m + 0 ≡ length (merge cs) = rw (none-left cs j n e l) at h in sym (add-zero m) ∙ g
 
 -- what `was && now` says, and what is added by it
-pub added : (was now t : Bool) (m m′ : ℕ) → ((was ≡ true) × (t ≡ now)) ⊎ ((was ≡ false) × (t ≡ false)) → ((not t ≡ true) × (m′ ≡ m + 1)) ⊎ ((not t ≡ false) × (m′ ≡ m))
+pub added : (was now t : Bool) (m m′ : ℕ) → ((was ≡ true) × (t ≡ now)) ⊎ ((was ≡ false) × (t ≡ false))
+    → ((not t ≡ true) × (m′ ≡ m + 1)) ⊎ ((not t ≡ false) × (m′ ≡ m))
     → m′ ≡ m + oneMore was now
 added was now t m m′ a b = go was now t (⊎-elim (λ w. and-is was now t (w .0) (w .1)) (λ w. and-not was now t (w .0) (w .1)) a) b
   where
     and-is : (was now t : Bool) → was ≡ true → t ≡ now → t ≡ (was && now)
     and-is was now t h e = rw h e
+
     and-not : (was now t : Bool) → was ≡ false → t ≡ false → t ≡ (was && now)
     and-not was now t h e = rw h e
+
     go : (was now t : Bool) → t ≡ (was && now) → ((not t ≡ true) × (m′ ≡ m + 1)) ⊎ ((not t ≡ false) × (m′ ≡ m)) → m′ ≡ m + oneMore was now
     go was now t e b = rw (← e) (by t b)
       where

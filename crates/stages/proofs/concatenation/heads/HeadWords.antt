@@ -60,7 +60,8 @@ one-of heads b d ds h =
       subst (λ n. Holds heads n (joined (map headWords ds))) y (holds-right heads (2 * b) (headWords d) (joined (map headWords ds)) h),
     )
 
-holds-at : (heads : List ℕ) (ds rest : List Concatenation) (d : Concatenation) (b i : ℕ) → Holds heads (2 * b) (joined (map headWords ds)) → drop i ds ≡ d ∷ rest
+holds-at : (heads : List ℕ) (ds rest : List Concatenation) (d : Concatenation) (b i : ℕ) → Holds heads (2 * b) (joined (map headWords ds))
+    → drop i ds ≡ d ∷ rest
     → Holds heads (2 * (b + i)) (headWords d)
 holds-at heads [] rest d b zero h e = let z : _≡_ {A = ℕ} 0 1 = cc in absurd (omega arith)
 holds-at heads [] rest d b (suc i) h e = let z : _≡_ {A = ℕ} 0 1 = cc in absurd (omega arith)

@@ -31,7 +31,7 @@ add-fair (some w) r s e f = go (r .width) e
         → elim o [
           | none ↦ ok (record { width = none; align = r .align; deterministic = r .deterministic; nonzero = true })
           | some n ↦ (need (ltb (n + natAbs w) (2 ^ 64)) sum-overflow
-            >>= λ _. ok (record { width = some (n + natAbs w); align = r .align; deterministic = r .deterministic; nonzero = true }))
+              >>= λ _. ok (record { width = some (n + natAbs w); align = r .align; deterministic = r .deterministic; nonzero = true }))
         ] ≡ ok s
         → Fair s
     go none e = fair-ok (record { width = none; align = r .align; deterministic = r .deterministic; nonzero = true }) s e f
@@ -69,11 +69,13 @@ from-fair i k first (c ∷ rest) r s e f =
     (λ r₁. withPlaces i k (checkType (not (eqb i 0)) first (isEmpty rest) (c .value) r₁) >>= λ r₂. checkFrom i (suc k) false rest r₂) e)
   where
     typed : ((r₂ : Running) → checkFrom i (suc k) false rest r₂ ≡ ok s → Fair r₂ → Fair s) → (r₁ : Running) → Fair r₁
-        → (r₂ : Running) × (withPlaces i k (checkType (not (eqb i 0)) first (isEmpty rest) (c .value) r₁) ≡ ok r₂) × (checkFrom i (suc k) false rest r₂ ≡ ok s) → Fair s
+        → (r₂ : Running) × (withPlaces i k (checkType (not (eqb i 0)) first (isEmpty rest) (c .value) r₁) ≡ ok r₂) ×
+        (checkFrom i (suc k) false rest r₂ ≡ ok s) → Fair s
     typed later r₁ g (r₂, a, b) =
         later r₂ b
         (type-fair (c .value .c-type) (hasEnd (c .value .range)) (hasFullRange (c .value)) (not (eqb i 0)) first (isEmpty rest) r₁ r₂
         (placed-ok i k (checkType (not (eqb i 0)) first (isEmpty rest) (c .value) r₁) a) g)
+
     widened : ((r₂ : Running) → checkFrom i (suc k) false rest r₂ ≡ ok s → Fair r₂ → Fair s)
         → (r₁ : Running) × (withPlaces i 0 (addWidth (c .value) r) ≡ ok r₁)
         × ((withPlaces i k (checkType (not (eqb i 0)) first (isEmpty rest) (c .value) r₁) >>= λ r₂. checkFrom i (suc k) false rest r₂) ≡ ok s) → Fair s
@@ -118,6 +120,7 @@ check-one i cs d e few =
         let t = need-ok (wide r) zero-total-width (placed-ok i 0 (need (wide r) zero-total-width) a) in
         subst (λ (x : Concatenation). CheckedOne x × (x .comps ≡ cs)) g
         (record { deterministic = f; width = not-zero (r .width) t; few = omega (arith, few, short) }, refl)
+
     go : (r : Running) × (checkFrom i 0 true cs unchecked ≡ ok r) × ((withPlaces i 0 (need (wide r) zero-total-width) >>= λ _. ok (byRunning cs r)) ≡ ok d)
         → CheckedOne d × (d .comps ≡ cs)
     go (r, a, b) =
@@ -132,15 +135,18 @@ unfolding stage3 joined
 stage3-checked i [] ds e few = let g : [] ≡ ds = cc in subst (λ l. AllChecked l × (compsOf l ≡ [])) g (none-left, refl)
 stage3-checked i (cs ∷ tree) ds e few =
     let long : length cs + length (joined tree) ≤ 256 = rw length-append at few in
-    go (omega (arith, long)) (λ es b. stage3-checked (suc i) tree es b (omega (arith, long))) (bind-ok (check i cs) (λ d. stage3 (suc i) tree >>= λ es. ok (d ∷ es)) e)
+    go (omega (arith, long)) (λ es b. stage3-checked (suc i) tree es b (omega (arith, long)))
+    (bind-ok (check i cs) (λ d. stage3 (suc i) tree >>= λ es. ok (d ∷ es)) e)
   where
-    ends : ((es : List Concatenation) → stage3 (suc i) tree ≡ ok es → AllChecked es × (compsOf es ≡ tree)) → length cs ≤ 256 → (d : Concatenation) → check i cs ≡ ok d
+    ends : ((es : List Concatenation) → stage3 (suc i) tree ≡ ok es → AllChecked es × (compsOf es ≡ tree)) → length cs ≤ 256 → (d : Concatenation)
+        → check i cs ≡ ok d
         → (es : List Concatenation) × (stage3 (suc i) tree ≡ ok es) × (ok (d ∷ es) ≡ ok ds) → AllChecked ds × (compsOf ds ≡ cs ∷ tree)
     ends later l d a (es, b, c) =
         let g : d ∷ es ≡ ds = cc in
         let one = check-one i cs d a l in
         let more = later es b in
         subst (λ l. AllChecked l × (compsOf l ≡ cs ∷ tree)) g (one-more (one .0) (more .0), rw (one .1, more .1))
+
     go : length cs ≤ 256 → ((es : List Concatenation) → stage3 (suc i) tree ≡ ok es → AllChecked es × (compsOf es ≡ tree))
         → (d : Concatenation) × (check i cs ≡ ok d) × ((stage3 (suc i) tree >>= λ es. ok (d ∷ es)) ≡ ok ds) → AllChecked ds × (compsOf ds ≡ cs ∷ tree)
     go l later (d, a, b) = ends later l d a (bind-ok (stage3 (suc i) tree) (λ es. ok (d ∷ es)) b)

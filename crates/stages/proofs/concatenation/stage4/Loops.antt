@@ -53,15 +53,16 @@ drop-comps (suc i) (d ∷ ds) = drop-comps i ds
 same-here : {A : Type 0} (l a b : List (List A)) (x y : List A) → l ≡ x ∷ a → l ≡ y ∷ b → x ≡ y
 same-here l a b x y e f = cc
 
-pub turn-of : (image words heads : List ℕ) (c k i : ℕ) (ds : List Concatenation) → Judged image words heads c ds → KeptFrom image words k (joined (drop i (compsOf ds))) → i < c
+pub turn-of : (image words heads : List ℕ) (c k i : ℕ) (ds : List Concatenation) → Judged image words heads c ds
+    → KeptFrom image words k (joined (drop i (compsOf ds))) → i < c
     → Turn image words k i ds
 turn-of image words heads c k i ds j h l =
     let n : length (compsOf ds) ≡ c = length-map ds (λ (d : Concatenation). d .comps) ∙ j .count in
     let p = part-at image i (compsOf ds) (j .sizes) (rw n l) in
     let t = turn-at ds i c (j .count) l in
     let same : p .here ≡ t .0 .comps =
-        same-here (drop i (compsOf ds)) (drop (i + 1) (compsOf ds)) (compsOf (drop (i + 1) ds)) (p .here) (t .0 .comps) (p .rest)
-        (drop-comps i ds ∙ ap compsOf (t .1)) in
+    same-here (drop i (compsOf ds)) (drop (i + 1) (compsOf ds)) (compsOf (drop (i + 1) ds)) (p .here) (t .0 .comps) (p .rest)
+    (drop-comps i ds ∙ ap compsOf (t .1)) in
     record {
       one = t .0;
       rest = t .1;
@@ -72,13 +73,17 @@ turn-of image words heads c k i ds j h l =
 
 -- the first, where it is the i-th
 pub first-is :
-    (image words heads : List ℕ) (c n i : ℕ) (ds rest : List Concatenation) (d : Concatenation) → Judged image words heads c ds → 1 ≤ c → n ≡ componentCount image 0
+    (image words heads : List ℕ) (c n i : ℕ) (ds rest : List Concatenation) (d : Concatenation) → Judged image words heads c ds → 1 ≤ c → n
+    ≡ componentCount image 0
     → drop i ds ≡ d ∷ rest → i ≡ 0 → (length (d .comps) ≡ n) × KeptFrom image words 0 (d .comps)
 first-is image words heads c n i ds rest d j l e h z =
     let t = turn-of image words heads c 0 0 ds j (j .kept) l in
     let g : drop 0 ds ≡ d ∷ rest = rw z at h in
-    let same : t .one ≡ d = one-is (drop 0 ds) (drop 1 ds) rest (t .one) d (t .rest) g in
-    (sym (ap (λ (x : Concatenation). length (x .comps)) same) ∙ sym (t .size) ∙ sym e, subst (λ (x : Concatenation). KeptFrom image words 0 (x .comps)) same (t .kept))
+    let same : t .one ≡ d = one-is (drop 0 ds) (drop 1 ds) rest (t .one) d (t .rest) g in (
+      sym (ap (λ (x : Concatenation). length (x .comps)) same) ∙ sym (t .size) ∙ sym e,
+      subst
+          (λ (x : Concatenation). KeptFrom image words 0 (x .comps)) same (t .kept),
+    )
   where
     one-is : (l a b : List Concatenation) (x y : Concatenation) → l ≡ x ∷ a → l ≡ y ∷ b → x ≡ y
     one-is l a b x y e f = cc
@@ -92,7 +97,8 @@ first-fits image cc c words heads n f e =
     let s = part-few image cc c words heads f 0 0 (zero-add (length (joined cc))) l in
     (omega (arith, w, e), omega (arith, s, e))
 
-pub starts-by : (ds : List Concatenation) (c : ℕ) (s : Summary) → length ds ≡ c → ((rest : List Concatenation) (d : Concatenation) → drop 0 ds ≡ d ∷ rest → HasSummary d s)
+pub starts-by : (ds : List Concatenation) (c : ℕ) (s : Summary) → length ds ≡ c → ((rest : List Concatenation) (d : Concatenation)
+    → drop 0 ds ≡ d ∷ rest → HasSummary d s)
     → StartsAs ds c s
 starts-by [] c s e h = sym e
 starts-by (d ∷ ds) c s e h = (h ds d refl, λ z. absurd (omega (arith, e, z)))
@@ -180,5 +186,6 @@ module _ (i : ℕ) (l : List Concatenation) (none-left : drop i l ≡ []) where
   unfolding placeFrom
   place-end p = rw none-left
 
-pub opposite-from : (i : ℕ) (d : Concatenation) (later : List Concatenation) (p : Option ℕ) → p ≡ placeFrom (isOpposite d) (i + 1) later → oppositeAs i p ≡ oppositeAt i d later
+pub opposite-from : (i : ℕ) (d : Concatenation) (later : List Concatenation) (p : Option ℕ) → p ≡ placeFrom (isOpposite d) (i + 1) later
+    → oppositeAs i p ≡ oppositeAt i d later
 opposite-from i d later p e = ap (oppositeAs i) (e ∙ ap (λ n. placeFrom (isOpposite d) n later) (add-one i))

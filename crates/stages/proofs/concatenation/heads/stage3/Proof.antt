@@ -57,7 +57,8 @@ returns c = λ cc e z h.
     let w = v .inv .3 cc e z h in
     let p = part-at (s .image .now) (v .i) cc z (rw e l) in
     done-off (v .heads) (v .i) cc (w .1) (p .here) (p .rest) (c .before .before .check .result)
-    (c .before .before .check .ensures (s .image .now) (p .here) (sym (n .ensures ∙ p .size)) (part-kept (s .image .now) (s .words .now) (v .k .0) (v .i) cc p (w .0)))
+    (c .before .before .check .ensures (s .image .now) (p .here) (sym (n .ensures ∙ p .size))
+    (part-kept (s .image .now) (s .words .now) (v .k .0) (v .i) cc p (w .0)))
     (sym (c .before .is-refused .ensures) ∙ c .if1 .taken)
 
 merged-requires : tie.Need-merged-requires Inv-loop μ-loop
@@ -82,7 +83,8 @@ add-t17 c =
     let f = c .before .before .before .before .before .before .before .before .before .before .before .before .before .before .before .before .pre in
     let v = c .before .before .before .before .before .before .before .before .before .before .before .before .loop in
     let b = part-few (s .image .now) (f .0) (s .c) (length (s .words .now)) (length (s .heads .now)) (f .1) (v .k .0) (v .i)
-        (v .inv .2 (f .0) (f .1 .count) (f .1 .sizes)) (c .before .before .before .before .before .before .before .before .before .before .before .loop-test .taken) in
+    (v .inv .2 (f .0) (f .1 .count) (f .1 .sizes))
+    (c .before .before .before .before .before .before .before .before .before .before .before .loop-test .taken) in
     let e = c .before .before .before .before .before .before .before .before .before .before .components-of .ensures in
     omega (arith, b, e)
 
@@ -117,7 +119,9 @@ loop-again c =
           let y = sym (n .ensures ∙ p .size) in (
             rw (n .ensures) (rest-kept (s .image .now) (s .words .now) (v .k .0) (v .i) cc p (w .0)),
             done-more (v .heads) (v .i) cc (w .1) (p .here) (p .rest) (a .result) (a .ensures (s .image .now) (p .here) y k) _ (m .result)
-                (sym (c .before .before .before .before .before .before .before .before .is-refused .ensures) ∙ c .before .before .before .before .before .before .before .if1 .left) (m .ensures .1 (s .image .now) (p .here) y k) (omega (arith, f, l, long))
+                (sym (c .before .before .before .before .before .before .before .before .is-refused .ensures)
+                ∙ c .before .before .before .before .before .before .before .if1 .left) (m .ensures .1 (s .image .now) (p .here) y k)
+                (omega (arith, f, l, long))
                 (c .before .before .before .summarise .ensures),
           ),
     )

@@ -18,7 +18,8 @@ returns-2 c = λ image d f.
     let b = c .before .before .before .both in
     let t = sym (b .ensures) ∙ not-false (b .result) (c .before .before .if1 .left) in
     let g = f (first-of (s .bare) (s .i) t) in
-    c .refused-by .ensures ∙ source-bare (s .bare) (s .i) d (placeOf (c .before .filler .result)) (c .before .filler .ensures image (d .comps) (g .0) (g .1)) t
+    c .refused-by .ensures ∙ source-bare (s .bare) (s .i) d (placeOf (c .before .filler .result))
+    (c .before .filler .ensures image (d .comps) (g .0) (g .1)) t
 
 pub check-source-spec : {M : Type 1} → statement M
 check-source-spec =

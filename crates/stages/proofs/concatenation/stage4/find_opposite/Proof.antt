@@ -41,7 +41,8 @@ returns c = λ ds d n h g e.
     let m = c .before .before .summary-at in
     let t = turn-at ds (v .j) (s .c) n (c .before .before .before .loop-test .taken) in
     place-here (v .j) ds (t .0) (t .1) (isOpposite d)
-    (opposite-is (s .align) (m .result) d (t .0) e (m .ensures .1 ds (drop (v .j + 1) ds) (t .0) h g (t .1)) ∙ sym (c .before .is-opposite .ensures) ∙ c .if1 .taken)
+    (opposite-is (s .align) (m .result) d (t .0) e (m .ensures .1 ds (drop (v .j + 1) ds) (t .0) h g (t .1)) ∙ sym (c .before .is-opposite .ensures)
+    ∙ c .if1 .taken)
     ∙ v .inv .1 ds d n h g e
 
 add-j : tie.Need-add-j Inv-loop μ-loop
@@ -65,7 +66,8 @@ loop-again c =
       λ ds d n h g e.
           let t = turn-at ds (v .j) (s .c) n l in
           place-on (v .j) ds (t .0) (t .1) (isOpposite d)
-          (opposite-is (s .align) (m .result) d (t .0) e (m .ensures .1 ds (drop (v .j + 1) ds) (t .0) h g (t .1)) ∙ sym (c .before .is-opposite .ensures) ∙ c .if1 .left)
+          (opposite-is (s .align) (m .result) d (t .0) e (m .ensures .1 ds (drop (v .j + 1) ds) (t .0) h g (t .1)) ∙ sym
+          (c .before .is-opposite .ensures) ∙ c .if1 .left)
           ∙ v .inv .1 ds d n h g e,
     )
 

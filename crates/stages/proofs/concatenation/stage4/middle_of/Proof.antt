@@ -49,7 +49,7 @@ add-t13 c =
     let f = c .before .before .before .before .before .before .before .before .pre in
     let v = c .before .before .before .before .loop in
     let b = part-few (s .image .now) (f .0) (s .c) (length (s .words .now)) (length (s .heads .now)) (f .1) (v .k .0) (v .i)
-        (v .inv .1 (f .0) (f .1 .count) (f .1 .sizes)) (c .before .before .before .loop-test .taken) in
+    (v .inv .1 (f .0) (f .1 .count) (f .1 .sizes)) (c .before .before .before .loop-test .taken) in
     let e = c .before .before .components-of .ensures in
     omega (arith, b, e)
 
@@ -88,7 +88,8 @@ loop-again c =
           let sum = m .ensures .1 ds (drop (v .i + 1) ds) (t .one) (j .heads-are) (j .checked) (t .rest) in (
             rw (n .ensures) (t .behind),
             middle-on (v .i) ds (t .one) (t .rest)
-                (sym (c .before .before .middle-at .ensures (s .image .now) (t .one) (sum .align-is) (sym (n .ensures ∙ t .size)) (t .kept)) ∙ ap resultOf (c .enum-told .given .1))
+                (sym (c .before .before .middle-at .ensures (s .image .now) (t .one) (sum .align-is) (sym (n .ensures ∙ t .size)) (t .kept))
+                ∙ ap resultOf (c .enum-told .given .1))
                 ∙ w .1,
           ),
     )
@@ -100,10 +101,12 @@ returns c = λ ds j.
     let n = c .before .before .before .before .before .before .components-of in
     let m = c .before .before .before .before .before .summary-at in
     let w = v .inv .2 ds j in
-    let t = turn-of (s .image .now) (s .words .now) (s .heads .now) (s .c) (v .k .0) (v .i) ds j (w .0) (c .before .before .before .before .before .before .before .loop-test .taken) in
+    let t = turn-of (s .image .now) (s .words .now) (s .heads .now) (s .c) (v .k .0) (v .i) ds j (w .0)
+    (c .before .before .before .before .before .before .before .loop-test .taken) in
     let sum = m .ensures .1 ds (drop (v .i + 1) ds) (t .one) (j .heads-are) (j .checked) (t .rest) in
     middle-off (v .i) ds (t .one) (t .rest) _ _ _
-    (sym (c .before .before .before .middle-at .ensures (s .image .now) (t .one) (sum .align-is) (sym (n .ensures ∙ t .size)) (t .kept)) ∙ ap resultOf (c .before .e .given .1))
+    (sym (c .before .before .before .middle-at .ensures (s .image .now) (t .one) (sum .align-is) (sym (n .ensures ∙ t .size)) (t .kept))
+    ∙ ap resultOf (c .before .e .given .1))
     ∙ w .1
 
 returns-2 : tie.Need-returns-2 Inv-loop μ-loop

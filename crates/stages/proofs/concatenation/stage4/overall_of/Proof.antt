@@ -39,7 +39,8 @@ loop-holds c =
     let s = c .before .before .before .before .before .before .args in
     let m = c .before .summary-at in (
       omega arith,
-      λ ds j. ap (overallFrom (s .bare) 0 ds) (c .start .ensures ds (starts-by ds (s .c) (m .result) (j .count) (λ rest d e. m .ensures .1 ds rest d (j .heads-are) (j .checked) e))),
+      λ ds j. ap (overallFrom (s .bare) 0 ds)
+          (c .start .ensures ds (starts-by ds (s .c) (m .result) (j .count) (λ rest d e. m .ensures .1 ds rest d (j .heads-are) (j .checked) e))),
     )
 
 add-i : tie.Need-add-i Inv-loop μ-loop
@@ -54,8 +55,9 @@ joined-at-requires c κs =
     let s = c .before .before .before .before .before .before .before .before .args in
     let h = f .1 .heads-fit in
     let l = c .loop-test .taken in
-    let n = first-fits (s .image .now) (f .0) (s .c) (length (s .words .now)) (length (s .heads .now)) (c .before .before .before .before .components-of .result) (f .1)
-        (c .before .before .before .before .components-of .ensures) in
+    let n = first-fits (s .image .now) (f .0) (s .c) (length (s .words .now)) (length (s .heads .now))
+    (c .before .before .before .before .components-of .result) (f .1)
+    (c .before .before .before .before .components-of .ensures) in
     (omega (arith, h, l), n .0, n .1)
 
 loop-less : tie.Need-loop-less Inv-loop μ-loop

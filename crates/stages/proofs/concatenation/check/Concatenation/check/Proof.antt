@@ -66,7 +66,8 @@ returns c = λ image cs e h.
     let s = t .before .before .before .before .before .before .before .before .before .before .before .args in
     let x = s .self in
     let a = t .lent-once in
-    check-off image (s .words .now) (x .i) (x .first .0) (v .j) cs (stored image (s .words .now) cs (x .first .0) (v .j) (x .len) h e l) (eqb (v .j + 1) (x .len))
+    check-off image (s .words .now) (x .i) (x .first .0) (v .j) cs (stored image (s .words .now) cs (x .first .0) (v .j) (x .len) h e l)
+    (eqb (v .j + 1) (x .len))
     (runningOf (v .a .running)) (a .result) (last-is cs (v .j) (x .len) e l)
     (a .ensures ∙ ap (λ y. advancedAs (x .i) (v .j) (eqb (v .j) 0) (eqb (v .j + 1) (x .len)) y (runningOf (v .a .running))) (t .before .shape-at .ensures))
     (sym (c .before .is-refused .ensures) ∙ c .if2 .taken) (v .inv .1 image cs e h)
@@ -94,7 +95,8 @@ loop-again c =
       λ image cs e h.
           check-on image (s .words .now) (x .i) (x .first .0) (v .j) cs (stored image (s .words .now) cs (x .first .0) (v .j) (x .len) h e l)
           (eqb (v .j + 1) (x .len)) (runningOf (v .a .running)) (a .result) (last-is cs (v .j) (x .len) e l)
-          (a .ensures ∙ ap (λ y. advancedAs (x .i) (v .j) (eqb (v .j) 0) (eqb (v .j + 1) (x .len)) y (runningOf (v .a .running))) (t .before .shape-at .ensures))
+          (a .ensures ∙ ap (λ y. advancedAs (x .i) (v .j) (eqb (v .j) 0) (eqb (v .j + 1) (x .len)) y (runningOf (v .a .running)))
+          (t .before .shape-at .ensures))
           (sym (c .before .is-refused .ensures) ∙ c .if2 .left)
           ∙ v .inv .1 image cs e h,
     )

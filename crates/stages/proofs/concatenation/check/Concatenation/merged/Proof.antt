@@ -83,13 +83,14 @@ loop-again c =
     let l = c .before .before .before .loop-test .taken in
     let now = eqb (getD (s .words .now) (11 * (x .first .0 + v .j)) 0 / 32 % 2) 1 in
     let is : c .if2 .m ≡ v .m + oneMore (v .was) now =
-        added (v .was) now (c .before .if1 .if2) (v .m) (c .if2 .m)
-        (⊎-elim (λ w. inl (w .0 .taken, w .1)) (λ w. inr (w .0 .left, w .1 ∙ w .0 .left)) (c .before .if1 .came))
-        (⊎-elim (λ w. inl (w .0 .taken, w .1)) (λ w. inr (w .0 .left, w .1)) (c .if2 .came)) in (
+    added (v .was) now (c .before .if1 .if2) (v .m) (c .if2 .m)
+    (⊎-elim (λ w. inl (w .0 .taken, w .1)) (λ w. inr (w .0 .left, w .1 ∙ w .0 .left)) (c .before .if1 .came))
+    (⊎-elim (λ w. inl (w .0 .taken, w .1)) (λ w. inr (w .0 .left, w .1)) (c .if2 .came)) in (
       omega (arith, l),
       rw is (one-at-most (v .was) now (v .m) (v .j) (v .inv .1)),
       λ image cs e h.
-          count-on image (s .words .now) (x .first .0) (v .j) cs (stored image (s .words .now) cs (x .first .0) (v .j) (x .len) h e l) (v .m) (c .if2 .m) (v .was) is
+          count-on image (s .words .now) (x .first .0) (v .j) cs (stored image (s .words .now) cs (x .first .0) (v .j) (x .len) h e l) (v .m)
+          (c .if2 .m) (v .was) is
           (v .inv .2 image cs e h),
     )
 
@@ -97,8 +98,11 @@ returns : tie.Need-returns Inv-loop μ-loop
 returns c =
     let v = c .before .loop in
     let b : v .m ≤ v .j = v .inv .1 in
-    let a : v .j ≤ c .before .before .before .args .self .len = v .inv .0 in
-    (omega (arith, a, b), λ image cs e h. count-end cs (v .j) (c .before .before .before .args .self .len) (v .m) (v .was) e (c .loop-test .left) (v .inv .2 image cs e h))
+    let a : v .j ≤ c .before .before .before .args .self .len = v .inv .0 in (
+      omega (arith, a, b),
+      λ image cs e h. count-end cs (v .j) (c .before .before .before .args .self .len) (v .m) (v .was) e (c .loop-test .left)
+          (v .inv .2 image cs e h),
+    )
 
 pub merged-spec : {M : Type 1} → statement M
 merged-spec =
