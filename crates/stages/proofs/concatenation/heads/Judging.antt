@@ -1,8 +1,8 @@
 -- What stage 3 leaves where it refuses nothing.
-use mathlib.Core.Path.{_≡_, refl, subst}
+use mathlib.Core.Path.{_≡_, refl, ap, subst, sym, _∙_}
 use Prim.Native.Nat.{_≤_}
 use native.Mathlib.Omega.{arith}
-use lib.ListN.{length-append}
+use lib.ListN.{length-append, length-map}
 use Rattle.definition.specs.Ranges.{staticWidth}
 use Rattle.definition.specs.Refusals.{need, zero-total-width, lone-filler-sink, second-filler, literal-in-sink, sum-overflow}
 use Rattle.definition.specs.Component.{Component, ComponentType, literal, variable, filler, hasEnd}
@@ -11,7 +11,9 @@ use Rattle.definition.specs.Concatenation.{Concatenation, Running, hasFullRange
 use Rattle.definition.specs.Basics.{ok, _>>=_, withPlaces, isEmpty, joined}
 use Rattle.definition.specs.Prelude.{ℕ, suc, _+_, _^_, Bool, true, false, not, _&&_, Option, none, some, ltb, eqb, ℤ, natAbs, List, [], _∷_, map, length}
 use Rattle.laws.specs.Results.{bind-ok, need-ok, need-then, placed-ok}
-use Rattle.stages.specs.concatenation.Heads.{CheckedOne, AllChecked, none-left, one-more}
+use Rattle.stages.specs.token_tree.Rows.{Sizes}
+use Rattle.stages.specs.component.Kept.{KeptFrom}
+use Rattle.stages.specs.concatenation.Heads.{CheckedOne, AllChecked, none-left, one-more, HeadsAre, Judged}
 use Rattle.stages.specs.concatenation.running_check.Running.{addAs, checkOpen, checkLiteral, withFull}
 use Rattle.stages.proofs.concatenation.check.Counts.{oneMore, countFrom, merge-length}
 
@@ -150,3 +152,16 @@ stage3-checked i (cs ∷ tree) ds e few =
     go : length cs ≤ 256 → ((es : List Concatenation) → stage3 (suc i) tree ≡ ok es → AllChecked es × (compsOf es ≡ tree))
         → (d : Concatenation) × (check i cs ≡ ok d) × ((stage3 (suc i) tree >>= λ es. ok (d ∷ es)) ≡ ok ds) → AllChecked ds × (compsOf ds ≡ cs ∷ tree)
     go l later (d, a, b) = ends later l d a (bind-ok (stage3 (suc i) tree) (λ es. ok (d ∷ es)) b)
+
+-- the whole, for stage 4
+pub judged-is : (image words heads : List ℕ) (c : ℕ) (tree : List (List (Placed Component))) (ds : List Concatenation) → stage3 0 tree ≡ ok ds → length tree ≡ c
+    → length (joined tree) ≤ 256 → Sizes image 0 tree → KeptFrom image words 0 (joined tree) → HeadsAre heads ds → Judged image words heads c ds
+judged-is image words heads c tree ds e n few sizes kept h =
+    let t = stage3-checked 0 tree ds e few in
+    record {
+      count = sym (length-map ds (λ (d : Concatenation). d .comps)) ∙ ap length (t .1) ∙ n;
+      heads-are = h;
+      checked = t .0;
+      sizes = rw (t .1) sizes;
+      kept = rw (t .1) kept;
+    }
