@@ -1,16 +1,14 @@
--- The sizes of a tree: stages 1 and 2 keep them, and stage 3 keeps the components.
+-- Stages 1 and 2 keep the sizes of a tree, and leave every component fixed.
 use mathlib.Core.Path.{_≡_, refl, sym, ap, _∙_}
 use Prim.Native.Nat.{_≤_, _<_}
 use native.Mathlib.Omega.{arith}
 use lib.ListN.{length-map}
-use Rattle.definition.specs.Prelude.{ℕ, suc, _+_, _*_, Bool, true, _&&_, none, some, List, [], _∷_, map, length, ltb}
-use Rattle.definition.specs.Basics.{Result, ok, refused, _>>=_, withPlaces, isEmpty, sum, joined}
+use Rattle.definition.specs.Prelude.{ℕ, suc, _+_, _*_, Bool, _&&_, List, [], _∷_, map, length}
+use Rattle.definition.specs.Basics.{Result, ok, refused, _>>=_, isEmpty, sum, joined}
 use Rattle.definition.specs.Image.{Unparsed, Placed, counts, treeOf}
 use Rattle.definition.specs.Check.{checkImage}
 use Rattle.definition.specs.Tree.{Tree, Node, recsOf, textOf}
 use Rattle.definition.specs.Component.{Component, keepBase, each, stage1Component, simplify}
-use Rattle.definition.specs.Refusals.{need, zero-total-width}
-use Rattle.definition.specs.Concatenation.{Concatenation, unchecked, checkFrom, check, stage3}
 use Rattle.laws.specs.Results.{bind-ok}
 use Rattle.laws.specs.Lists.{length-joined}
 use Rattle.prepared.specs.Statement.{placedFrom, placedTree}
@@ -23,7 +21,6 @@ use Rattle.stages.specs.token_tree.Rows.{Sizes}
 use Rattle.stages.specs.token_tree.Grown.{Grown}
 use Rattle.stages.specs.component.Read.{firstStage, secondStage, twoStages}
 use Rattle.stages.specs.concatenation.Heads.{CountsFit}
-use Rattle.stages.specs.answer.Stage5.{compsOf}
 use Rattle.stages.proofs.token_tree.Trees.{counts-fit}
 
 -- ---- what is read has as many parts
@@ -112,27 +109,3 @@ all-fixed image k cc h =
     let (bs, p, q) = bind-ok (each firstStage 0 (treeOf image)) (each secondStage 0) h in
     let r = tree-after firstStage secondStage 0 (each-read firstStage 0 (treeOf image) p) (each-read secondStage 0 bs q) in
     read-fixed image k cc (read-each (keepBase both) 0 (tree-as (secondStage after firstStage) (keepBase both) one-go 0 r))
-
--- ---- stage 3
-
-check-comps : (i : ℕ) (cs : List (Placed Component)) (d : Concatenation) → check i cs ≡ ok d → d .comps ≡ cs
-unfolding check
-check-comps i cs d h =
-    let (r, _, e) = bind-ok (checkFrom i 0 true cs unchecked) _ h in
-    go (withPlaces i 0 (need (elim (r .width) [ none ↦ true | some w ↦ ltb 0 w ]) zero-total-width))
-    (record { comps = cs; align = r .align; width = r .width; deterministic = r .deterministic; nonzero = r .nonzero }) e
-  where
-    go : (m : Result Unit) (x : Concatenation) → (m >>= λ _. ok x) ≡ ok d → d .comps ≡ x .comps
-    go (ok u) x e = let q : x ≡ d = cc in rw q
-    go (refused n j k) x e = let z : _≡_ {A = ℕ} 0 1 = cc in absurd (omega arith)
-
-pub comps-kept : (i : ℕ) (cc : List (List (Placed Component))) (ds : List Concatenation) → stage3 i cc ≡ ok ds → compsOf ds ≡ cc
-unfolding stage3
-comps-kept i [] ds h = let e : ds ≡ [] = cc in rw e
-comps-kept i (c ∷ cs) ds h =
-    let (d, p, h₁) = bind-ok (check i c) _ h in
-    let (es, q, h₂) = bind-ok (stage3 (suc i) cs) _ h₁ in
-    go d es h₂ (check-comps i c d p) (comps-kept (suc i) cs es q)
-  where
-    go : (d : Concatenation) (es : List Concatenation) → ok (d ∷ es) ≡ ok ds → d .comps ≡ c → compsOf es ≡ cs → compsOf ds ≡ c ∷ cs
-    go d es e p q = let s : ds ≡ d ∷ es = cc in rw (s, p, q)

@@ -32,15 +32,15 @@ use Rattle.stages.specs.component.Start.{scannedBase}
 use Rattle.stages.specs.component.Read.{verdict, twoStages, StagesAre}
 use Rattle.stages.specs.concatenation.Heads.{HeadsAre, AllChecked, CountsFit, Stage3Is, Judged}
 use Rattle.stages.specs.concatenation.Overall.{answerOf}
-use Rattle.stages.specs.answer.Stage5.{answerFrom, Fitting, Answers, Stage5Is}
+use Rattle.stages.specs.answer.Stage5.{compsOf, answerFrom, Fitting, Answers, Stage5Is}
 use Rattle.stages.specs.run.Run.{cameTo, bytesOf, RunFits, Came, StagesAs, initOf, StartFits, behindStart, StartedAs, ReadFits, ReadAs, JudgedFits, JudgedAs}
 use Rattle.stages.specs.declared.token_tree.types.Tables.{Tables}
 use Rattle.stages.specs.declared.component.start.Start.{Start}
 use Rattle.stages.specs.declared.concatenation.overall.Overall.{Overall}
 use Rattle.stages.specs.declared.concatenation.overall.OverallResult.{OverallResult}
 use Rattle.stages.specs.declared.concatenation.overall.OverallResult.the-variants as R
-use Rattle.stages.proofs.token_tree.Trees.{counts-fit}
-use Rattle.stages.proofs.run.Lengths.{counts-right, all-fixed, comps-kept}
+use Rattle.stages.proofs.concatenation.heads.Judging.{stage3-checked}
+use Rattle.stages.proofs.run.Lengths.{counts-right, all-fixed}
 use Rattle.stages.proofs.run.Ordered.{stages-two}
 use Rattle.stages.proofs.run.Starting.{base-small}
 
@@ -147,25 +147,22 @@ given-is image s = go (eqb (s .after .0) 0) (record { base = scannedBase image; 
     go true p = refl
     go false p = refl
 
-all-checked : (i : ℕ) (cc : List (List (Placed Component))) (ds : List Concatenation) → stage3 i cc ≡ ok ds → length (joined cc) ≤ 256 → AllChecked ds
-all-checked = ?
-
 module _ (image : List ℕ) (mode : ℕ) (before : List ℕ) (fits : RunFits image (length before)) (c : ℕ) (s : Start) (heads words : List ℕ)
     (f : JudgedFits image c s heads words) where
   pub judged-counts : CountsFit image (f .read .cc) c (length words) (length heads)
   judged-counts = read-counts image (length before) fits c s words (f .read) (length heads) (f .heads-long)
 
-  comps : map (λ (d : Concatenation). d .comps) (f .ds) ≡ f .read .cc
-  comps = comps-kept 0 (f .read .cc) (f .ds) (f .checked)
+  left : AllChecked (f .ds) × (compsOf (f .ds) ≡ f .read .cc)
+  left = stage3-checked 0 (f .read .cc) (f .ds) (f .checked) (judged-counts .few-components)
 
   pub judged-is : Judged image words heads c (f .ds)
   judged-is =
       record {
-        count = sym (length-map (f .ds) (λ (d : Concatenation). d .comps)) ∙ ap length comps ∙ judged-counts .count;
+        count = sym (length-map (f .ds) (λ (d : Concatenation). d .comps)) ∙ ap length (left .1) ∙ judged-counts .count;
         heads-are = f .heads-are;
-        checked = all-checked 0 (f .read .cc) (f .ds) (f .checked) (judged-counts .few-components);
-        sizes = rw comps (judged-counts .sizes);
-        kept = rw comps (f .read .kept);
+        checked = left .0;
+        sizes = rw (left .1) (judged-counts .sizes);
+        kept = rw (left .1) (f .read .kept);
       }
 
   module _ (q : OverallResult) (said : answerOf q ≡ stage4 mode (not (eqb (s .after .0) 0)) (f .ds)) where
@@ -208,7 +205,7 @@ module _ (image : List ℕ) (mode : ℕ) (before : List ℕ) (fits : RunFits ima
       answers =
           record {
             judged = judged-is;
-            fixed = rw comps (all-fixed image (fits .checked) (f .read .cc) (f .read .read));
+            fixed = rw (left .1) (all-fixed image (fits .checked) (f .read .cc) (f .read .read));
             start = f .read .text;
             small = base-small image (fits .grown);
             table = judged-counts .table;

@@ -47,7 +47,7 @@ cast-t14 c = search needs
 
 -- src/concatenation/check.rt:46:1
 returns : tie.Need-returns
-returns c = ?
+returns c = rw (c .width-in .ensures)
 
 pub shape-at-spec : {M : Type 1} → statement M
 shape-at-spec =

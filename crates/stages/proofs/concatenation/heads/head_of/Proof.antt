@@ -1,3 +1,7 @@
+use native.Mathlib.Omega.{arith}
+use Prim.Native.Nat.{_≤_}
+use Rattle.stages.specs.concatenation.alignment.Align.{alignOf}
+use Rattle.stages.proofs.concatenation.heads.HeadWords.{align-small}
 use borrow.Author.Needs.{needs}
 use Rattle.stages.proofs.concatenation.heads.head_of.Statement.{statement}
 use Rattle.stages.proofs.concatenation.heads.head_of.Tie as tie
@@ -28,7 +32,11 @@ flag-requires c κs = search needs
 
 -- src/concatenation/heads.rt:44:5
 add-result-2 : tie.Need-add-result-2
-add-result-2 c = ?
+add-result-2 c =
+    let a : c .before .align-number .result ≤ 5 = rw (c .before .align-number .ensures) (align-small (alignOf (c .before .before .args .r .align))) in
+    let m = c .before .before .fits .merged .fits in
+    let f = c .flag .ensures .1 in
+    record { fits = omega (arith, a, m, f) }
 
 -- src/concatenation/heads.rt:40:1
 returns : tie.Need-returns

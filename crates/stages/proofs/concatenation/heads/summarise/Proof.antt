@@ -1,3 +1,8 @@
+use native.Mathlib.Omega.{arith}
+use lib.ListN.{length-set}
+use mathlib.Core.Path.{_∙_, sym}
+use Prim.Native.Nat.{_*_}
+use Rattle.stages.proofs.concatenation.heads.HeadWords.{written-two}
 use borrow.Author.Needs.{needs}
 use Rattle.stages.proofs.concatenation.heads.summarise.Statement.{statement}
 use Rattle.stages.proofs.concatenation.heads.summarise.Tie as tie
@@ -36,7 +41,7 @@ mul-heads-2 c = search needs
 
 -- src/concatenation/heads.rt:56:5
 slice-write-heads-2 : tie.Need-slice-write-heads-2
-slice-write-heads-2 c = ?
+slice-write-heads-2 c = simp length-set (omega arith)
 
 -- src/concatenation/heads.rt:49:1
 same-length : tie.Need-same-length
@@ -44,7 +49,9 @@ same-length c = search needs
 
 -- src/concatenation/heads.rt:49:1
 returns : tie.Need-returns
-returns c = ?
+returns c =
+    let s = c .before .before .before .args in
+    rw (c .before .head-of .ensures, c .width-number .ensures) (written-two (s .heads .now) (2 * s .i) _ _)
 
 pub summarise-spec : {M : Type 1} → statement M
 summarise-spec =

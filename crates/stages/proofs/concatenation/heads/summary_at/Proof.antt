@@ -1,3 +1,8 @@
+use mathlib.Core.Path.{_≡_, sym}
+use Prim.Native.Nat.{_+_, _*_}
+use lib.ListN.{getD}
+use Rattle.stages.specs.concatenation.Heads.{summaryBy}
+use Rattle.stages.proofs.concatenation.heads.HeadWords.{summary-is}
 use borrow.Author.Needs.{needs}
 use Rattle.stages.proofs.concatenation.heads.summary_at.Statement.{statement}
 use Rattle.stages.proofs.concatenation.heads.summary_at.Tie as tie
@@ -40,7 +45,12 @@ width-from-requires c κs = search needs
 
 -- src/concatenation/heads.rt:119:1
 returns : tie.Need-returns
-returns c = ?
+returns c =
+    let s = c .before .before .before .before .before .args in
+    let l = s .heads .now in (
+      rw (c .before .before .align-in .ensures, c .width-from .ensures),
+      λ ds rest d h g e. rw (c .before .before .align-in .ensures, c .width-from .ensures) (summary-is l ds rest d (s .i) h g e),
+    )
 
 pub summary-at-spec : {M : Type 1} → statement M
 summary-at-spec =

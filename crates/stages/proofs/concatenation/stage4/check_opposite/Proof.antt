@@ -1,3 +1,4 @@
+use mathlib.Core.Path.{_≡_, refl, ap, sym, _∙_}
 use borrow.Author.Needs.{needs}
 use Rattle.stages.proofs.concatenation.stage4.check_opposite.Statement.{statement}
 use Rattle.stages.proofs.concatenation.stage4.check_opposite.Tie as tie
@@ -8,7 +9,7 @@ use Rattle.stages.proofs.concatenation.stage4.opposite_of.Reads as oppo
 
 -- src/concatenation/stage4.rt:238:9
 returns : tie.Need-returns
-returns c = ?
+returns c = λ ds n h g. rw (c .if1 .taken)
 
 -- src/concatenation/stage4.rt:240:8
 is-align-requires : tie.Need-is-align-requires
@@ -20,11 +21,12 @@ opposite-of-requires c κs = search needs
 
 -- src/concatenation/stage4.rt:241:9
 returns-2 : tie.Need-returns-2
-returns-2 c = ?
+returns-2 c = λ ds n h g.
+    rw (c .before .before .before .if1 .left, sym (c .before .before .is-align .ensures) ∙ c .before .if2 .taken) (c .opposite-of .ensures ds n h g)
 
 -- src/concatenation/stage4.rt:232:1
 returns-3 : tie.Need-returns-3
-returns-3 c = ?
+returns-3 c = λ ds n h g. rw (c .before .before .if1 .left, sym (c .before .is-align .ensures) ∙ c .if2 .left)
 
 pub check-opposite-spec : {M : Type 1} → statement M
 check-opposite-spec =

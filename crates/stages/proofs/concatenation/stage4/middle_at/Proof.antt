@@ -1,3 +1,7 @@
+use mathlib.Core.Path.{_≡_, refl, ap, sym, _∙_}
+use Rattle.stages.specs.concatenation.Overall.{placeOf}
+use Rattle.stages.proofs.concatenation.Summaries.{middle-here, middle-other}
+use Rattle.definition.specs.Concatenation.{isAlign, align-mid}
 use borrow.Author.Needs.{needs}
 use Rattle.stages.proofs.concatenation.stage4.middle_at.Statement.{statement}
 use Rattle.stages.proofs.concatenation.stage4.middle_at.Tie as tie
@@ -21,11 +25,16 @@ refused-by-requires c κs = search needs
 
 -- src/concatenation/stage4.rt:117:9
 returns : tie.Need-returns
-returns c = ?
+returns c = λ image d e n h.
+    let s = c .before .before .before .before .before .args in
+    let t = sym (ap (λ a. isAlign a align-mid) e) ∙ sym (c .before .before .before .is-align .ensures) ∙ c .before .before .if1 .taken in
+    c .refused-by .ensures ∙ middle-here (s .x .i) d t (placeOf (c .before .filler .result)) (c .before .filler .ensures image (d .comps) n h)
 
 -- src/concatenation/stage4.rt:111:1
 returns-2 : tie.Need-returns-2
-returns-2 c = ?
+returns-2 c = λ image d e n h.
+    let s = c .before .before .before .args in
+    middle-other (s .x .i) d (sym (ap (λ a. isAlign a align-mid) e) ∙ sym (c .before .is-align .ensures) ∙ c .if1 .left)
 
 pub middle-at-spec : {M : Type 1} → statement M
 middle-at-spec =

@@ -1,3 +1,8 @@
+use mathlib.Core.Path.{_≡_, refl, ap, sym, _∙_}
+use Rattle.stages.specs.concatenation.Overall.{placeOf}
+use Rattle.stages.proofs.concatenation.stage4.Loops.{opposite-from}
+use Prim.Native.Nat.{_+_}
+use lib.ListN.{drop}
 use borrow.Author.Needs.{needs}
 use Rattle.stages.proofs.concatenation.stage4.opposite_at.Statement.{statement}
 use Rattle.stages.proofs.concatenation.stage4.opposite_at.Tie as tie
@@ -25,7 +30,11 @@ opposite-requires c κs = search needs
 
 -- src/concatenation/stage4.rt:165:1
 returns : tie.Need-returns
-returns c = ?
+returns c = λ ds d n h g e.
+    let s = c .before .before .before .before .args in
+    let f = c .before .find-opposite in
+    let m = c .before .before .summary-at .ensures .1 ds (drop (s .i + 1) ds) d h g e in
+    c .opposite .ensures ∙ opposite-from (s .i) d (drop (s .i + 1) ds) (placeOf (f .result)) (f .ensures ds d n h g (m .align-is))
 
 pub opposite-at-spec : {M : Type 1} → statement M
 opposite-at-spec =

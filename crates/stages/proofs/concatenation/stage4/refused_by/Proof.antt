@@ -19,7 +19,7 @@ enum-told c = search needs
 
 -- src/concatenation/stage4.rt:48:1
 returns : tie.Need-returns
-returns c = ?
+returns c = rw (c .before .before .p .given .1) (c .refused-at .ensures)
 
 -- src/concatenation/stage4.rt:48:1
 returns-2 : tie.Need-returns-2
