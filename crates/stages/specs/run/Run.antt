@@ -10,7 +10,7 @@ use Rattle.definition.specs.Text.{Part}
 use Rattle.definition.specs.Component.{Component, startingValue, source}
 use Rattle.definition.specs.Concatenation.{Concatenation, stage3}
 use Rattle.definition.specs.Answer.{Answer, answerBytes}
-use Rattle.definition.specs.Run.{run, stages, areaAfter}
+use Rattle.definition.specs.Run.{stages, areaAfter}
 use Rattle.answer_facts.specs.stages.Statement.{later}
 use Rattle.errors.specs.Refused.{outcomeOf}
 use Rattle.errors.specs.declared.Outcome.{Outcome}
@@ -26,9 +26,6 @@ use Rattle.stages.specs.declared.component.start.Start.{Start}
 -- what a run on a lent area comes to, and the area afterwards
 abbrev pub cameTo : List ℕ → Result (List ℕ) → Result ℕ × List ℕ
 cameTo area r = ((r >>= λ bytes. ok (length bytes)), areaAfter area r)
-
-abbrev pub ranOn : List ℕ → ℕ → List ℕ → Result ℕ × List ℕ
-ranOn image mode area = let r = run image mode (length area) in ((r >>= λ bytes. ok (length bytes)), areaAfter area r)
 
 abbrev pub bytesOf : Result Answer → Result (List ℕ)
 bytesOf r = r >>= λ a. ok (answerBytes a)
@@ -69,6 +66,7 @@ StartedAs image mode s o before after = Came (behindStart image mode s) o before
 pub record ReadFits (image : List ℕ) (c : ℕ) (s : Start) (words : List ℕ) : Type 0 where
   pub count : c ≡ (counts image) .c
   pub text : TextFits image (treeIn image) (scannedBase image) s
+  pub is : startingValue 0 (source (treeOf image)) ≡ ok (initOf image s)
   pub cc : List (List (Placed Component))
   pub read : twoStages (treeOf image) ≡ ok cc
   pub kept : KeptFrom image words 0 (joined cc)

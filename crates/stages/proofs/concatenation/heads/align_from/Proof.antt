@@ -1,3 +1,4 @@
+use Rattle.stages.proofs.concatenation.heads.HeadWords.{from-0, from-1, from-2, from-3, from-4, from-other}
 use Rattle.stages.proofs.concatenation.heads.align_from.Statement.{statement}
 use Rattle.stages.proofs.concatenation.heads.align_from.Tie as tie
 use Rattle.stages.proofs.concatenation.heads.HeadWords.{from-0, from-1, from-2, from-3, from-4, from-other}

@@ -1,3 +1,8 @@
+use mathlib.Core.Path.{_≡_, sym}
+use Prim.Native.Nat.{_+_, _*_}
+use lib.ListN.{getD}
+use Rattle.stages.specs.concatenation.Heads.{summaryBy}
+use Rattle.stages.proofs.concatenation.heads.HeadWords.{summary-is}
 use borrow.Author.Needs.{needs}
 use Rattle.stages.proofs.concatenation.heads.HeadWords.{summary-is}
 use Rattle.stages.proofs.concatenation.heads.summary_at.Tie as tie
