@@ -2,12 +2,11 @@
 use mathlib.Core.Path.{_≡_, refl, sym, ap, _∙_, subst}
 use Prim.Native.Nat.{_≤_}
 use native.Mathlib.Omega.{arith}
-use Rattle.definition.specs.Prelude.{ℕ, List, length}
+use Rattle.definition.specs.Prelude.{ℕ, List}
 use Rattle.definition.specs.Basics.{Result, ok, refused, _>>=_}
 use Rattle.definition.specs.Image.{bitsAt}
 use Rattle.definition.specs.Ranges as D
-use Rattle.definition.specs.Component as Def
-use Rattle.definition.specs.Component.{literal, cutLiteral, simplifyLiteral, simplifyRange, simplify}
+use Rattle.definition.specs.Component.{cutLiteral, simplifyLiteral, simplifyRange, simplify}
 use Rattle.laws.specs.Lists.{length-tab}
 use Rattle.numbers.specs.declared.OptionI128.{OptionI128}
 use Rattle.stages.specs.ranges.Values.{Tree, usbrOf, simplifiedOf, Measured, SimplifiedReads}

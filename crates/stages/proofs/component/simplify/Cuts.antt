@@ -1,26 +1,25 @@
 -- The cut of a literal's bits by a range whose numbers are places among them: one law for each way through the code.
-use mathlib.Core.Path.{_≡_, refl, sym, ap, _∙_, subst}
+use mathlib.Core.Path.{_≡_, refl, sym, ap, _∙_}
 use Prim.Native.Nat.{_≤_, _<_, min}
 use native.Mathlib.Nat.{zero-add}
 use native.Mathlib.Omega.{arith}
-use Rattle.definition.specs.Prelude.{ℕ, _+_, _-_, _^_, Bool, true, false, Option, none, some, List, [], length, take, drop, ℤ, pos, natAbs, _-ℤ_}
-use Rattle.definition.specs.Basics.{Result, ok, if_then_else_, sameBytes, tab}
+use Rattle.definition.specs.Prelude.{ℕ, _-_, _^_, Option, none, some, List, [], length, take, drop, ℤ, pos, natAbs, _-ℤ_}
+use Rattle.definition.specs.Basics.{ok, if_then_else_, sameBytes, tab}
 use Rattle.definition.specs.Image.{bitsAt}
 use Rattle.definition.specs.Numbers.{narrow}
 use Rattle.definition.specs.Ranges as D
 use Rattle.definition.specs.Ranges.{val, staticVal, staticWidth}
-use Rattle.definition.specs.Component as Def
 use Rattle.definition.specs.Component.{literal, cutLiteral}
 use Rattle.laws.specs.Numbers.{difference}
-use Rattle.numbers.specs.Value.{valueOf, optionOf}
+use Rattle.numbers.specs.Value.{valueOf}
 use Rattle.numbers.specs.declared.I128.{I128}
 use Rattle.numbers.specs.declared.OptionI128.{OptionI128}
 use Rattle.numbers.proofs.Small.{small}
 use Rattle.stages.specs.answer.literal_bits.Put.{bitOf}
 use Rattle.stages.specs.answer.merging.Literals.{take-tab, drop-tab}
-use Rattle.stages.specs.ranges.Values.{Tree, zeroI, zeroBy, valBy, usbOf, endOf, usbrOf, UsbrFits, Measured}
+use Rattle.stages.specs.ranges.Values.{Tree, zeroI, zeroBy, valBy, usbOf, endOf, usbrOf, Measured}
 use Rattle.stages.specs.ranges.Checks.{endVal, bothOf}
-use Rattle.stages.specs.component.Values.{literalBy, endOr, bitsOf, componentOf, StagedReads}
+use Rattle.stages.specs.component.Values.{literalBy, endOr, bitsOf, StagedReads}
 use Rattle.stages.specs.component.Stage2.{Within, CutFits, cutBothBy}
 use Rattle.stages.specs.declared.ranges.types.Usb.{Usb}
 use Rattle.stages.specs.declared.ranges.types.Usbr.{Usbr}

@@ -1,10 +1,10 @@
 -- Tests of a component: one law for each way through the code.
 use mathlib.Core.Path.{_≡_, refl, sym, ap, _∙_, subst}
 use mathlib.Core.Logic.{_⊎_, ⊎-elim}
-use Prim.Native.Nat.{_≤_, _<_}
+use Prim.Native.Nat.{_<_}
 use native.Mathlib.Omega.{arith}
 use borrow.Author.Tests.{eqb-true, eqb-false, ne-eqb}
-use Rattle.definition.specs.Prelude.{ℕ, _+_, _*_, _-_, _^_, Bool, true, false, _&&_, not, Option, none, some, List, length, drop, ltb, eqb, ℤ, pos, natAbs, nonNeg}
+use Rattle.definition.specs.Prelude.{ℕ, _-_, _^_, Bool, true, false, _&&_, not, Option, none, some, List, length, drop, ltb, eqb, ℤ, pos, natAbs, nonNeg}
 use Rattle.definition.specs.Basics.{if_then_else_, isEmpty}
 use Rattle.definition.specs.Ranges as D
 use Rattle.definition.specs.Ranges.{val, staticVal, staticRange}
@@ -19,7 +19,7 @@ use Rattle.numbers.proofs.Small.{small}
 use Rattle.stages.specs.answer.literal_bits.Put.{bitOf}
 use Rattle.stages.specs.ranges.Values.{Tree, usbOf, endOf, usbrOf}
 use Rattle.stages.specs.ranges.Checks.{endVal, bothOf, rangeOf}
-use Rattle.stages.specs.component.Values.{bitsOf, typeOf, componentOf}
+use Rattle.stages.specs.component.Values.{typeOf, componentOf}
 use Rattle.stages.specs.component.Tests.{isRange, isThere, fullEnd}
 use Rattle.stages.specs.declared.token_tree.types.Part.{Part}
 use Rattle.stages.specs.declared.ranges.types.Usb.{Usb}

@@ -4,9 +4,9 @@ use mathlib.Core.Bool.{Bool, true, false, not, _||_}
 use Prim.Native.Nat.{_≤_, _<_}
 use native.Mathlib.Omega.{arith}
 use native.Mathlib.Nat.{le-of-lt}
-use borrow.Author.Tests.{ltb-true, ltb-false, leb-true, leb-false, le-leb, lt-leb, lt-ltb, le-ltb}
-use Rattle.definition.specs.Prelude.{ℕ, _+_, _-_, _^_, Option, none, some, List, [], _∷_, length, ltb, leb, ℤ, pos, negsuc, _-ℤ_, ltZ, leZ, nonNeg}
-use Rattle.definition.specs.Basics.{Result, ok, refused, _>>=_, if_then_else_, isEmpty, sameBytes}
+use borrow.Author.Tests.{ltb-true, ltb-false, le-leb, lt-leb}
+use Rattle.definition.specs.Prelude.{ℕ, _-_, _^_, Option, none, some, List, [], _∷_, ltb, leb, ℤ, pos, negsuc, _-ℤ_, ltZ, leZ, nonNeg}
+use Rattle.definition.specs.Basics.{Result, ok, _>>=_, if_then_else_, isEmpty, sameBytes}
 use Rattle.definition.specs.Numbers.{half128, narrow}
 use Rattle.definition.specs.Refusals.{need, start-above-width, end-above-width, range-above-width, end-zero, open-start}
 use Rattle.definition.specs.Ranges as D
@@ -14,7 +14,7 @@ use Rattle.definition.specs.Ranges.{val, staticVal, staticWidth}
 use Rattle.definition.specs.Component.{ifStatic, ifStaticEnd, ifKnown, isZero, hasEnd, withEnd}
 use Rattle.laws.specs.Numbers.{difference}
 use Rattle.laws.specs.Tests.{by-test}
-use Rattle.numbers.specs.Value.{valueOf, optionOf}
+use Rattle.numbers.specs.Value.{optionOf}
 use Rattle.numbers.specs.declared.I128.{I128}
 use Rattle.numbers.specs.declared.OptionI128.{OptionI128}
 use Rattle.numbers.proofs.Small.{small}
