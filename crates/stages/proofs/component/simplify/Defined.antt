@@ -100,7 +100,9 @@ module _ (w : ℕ) (s : Usb) where
 
 pub within : (w : ℕ) (v u : Usbr) → literalRange w v ≡ ok u → Positive v → Within w u
 within w v u h p =
-    let f = passed (withEnd w v) u (ifStatic (λ x. ltZ x (pos w)) (v .start)) (ifStaticEnd (λ x. leZ x (pos w)) v) (ifKnown (λ x. leZ x (pos w)) (withEnd w v)) (ifStaticEnd (ltZ (pos 0)) v) h in
+    let f =
+    passed (withEnd w v) u (ifStatic (λ x. ltZ x (pos w)) (v .start)) (ifStaticEnd (λ x. leZ x (pos w)) v)
+    (ifKnown (λ x. leZ x (pos w)) (withEnd w v)) (ifStaticEnd (ltZ (pos 0)) v) h in
     subst (Within w) (f .2) (record {
       ends = refl;
       start = passes-both nonNeg (λ x. ltZ x (pos w)) (staticVal (v .start)) (p .start) (f .0);

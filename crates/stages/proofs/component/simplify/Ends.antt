@@ -115,7 +115,8 @@ cut-given bits v l h = go (v .start) (v .«end») h
     positive : (b y : ℤ) → InOrder (length bits) b y → nonNeg (y -ℤ b) ≡ true
     positive b y o = rw (o .starts, o .ends, difference (o .to) (o .from) (o .order))
 
-    go : (s : Usb) (e : Option Usb) → Within (length bits) (record { start = s; «end» = e }) → ifStaticEnd nonNeg ((cutLiteral bits (record { start = s; «end» = e })) .range) ≡ true
+    go : (s : Usb) (e : Option Usb) → Within (length bits) (record { start = s; «end» = e })
+        → ifStaticEnd nonNeg ((cutLiteral bits (record { start = s; «end» = e })) .range) ≡ true
     go s none h = untrue (h .ends)
     go s (some e) h =
         given bits s e (staticVal s) (staticVal e) (left (staticVal e) (h .«end»)) (λ b y p q. positive b y (places (length bits) s e l h b y p q))

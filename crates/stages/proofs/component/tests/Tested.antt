@@ -145,7 +145,8 @@ module _ (image : List ℕ) (t : Tree) (base at : ℕ) (c : Component) where
         full-is (T.Literal b) h q
         (g ∙ ap (fullEnd (endOf image t base (c .range .«end»))) (sym (length-tab (bitOf (drop at image)) (b .from) (b .to - b .from))))
 
-    pub full-variable : (p : Part) (r : Bool) → z ≡ true → c .«c_type» ≡ T.Variable p → r ≡ isThere (c .range .«end») → not r ≡ hasFullRange (componentOf image t base at c)
+    pub full-variable : (p : Part) (r : Bool) → z ≡ true → c .«c_type» ≡ T.Variable p → r ≡ isThere (c .range .«end»)
+        → not r ≡ hasFullRange (componentOf image t base at c)
     full-variable p r h q g = full-is (T.Variable p) h q (ap not (g ∙ there-is (c .range .«end»)))
 
     pub full-filler : (r : Bool) → z ≡ true → c .«c_type» ≡ T.Filler → r ≡ isThere (c .range .«end») → r ≡ hasFullRange (componentOf image t base at c)
