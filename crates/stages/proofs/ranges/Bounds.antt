@@ -4,8 +4,8 @@ use Prim.Native.Nat.{_≤_, _<_}
 use native.Mathlib.Omega.{arith}
 use lib.Dec.{eqb·suc-zero}
 use borrow.Author.Tests.{eq-eqb, ne-eqb}
-use Rattle.definition.specs.Prelude.{ℕ, zero, suc, _+_, _*_, _-_, _^_, Bool, true, false, Option, none, some, List, [], _∷_, length, ltb, eqb, ℤ, pos, negsuc, natAbs, _+ℤ_}
-use Rattle.definition.specs.Basics.{Result, ok, refused, if_then_else_, isEmpty}
+use Rattle.definition.specs.Prelude.{ℕ, zero, suc, _+_, _*_, _-_, _^_, Bool, false, Option, none, some, List, [], _∷_, length, ltb, eqb, ℤ, pos, negsuc, natAbs, _+ℤ_}
+use Rattle.definition.specs.Basics.{Result, ok, if_then_else_, isEmpty}
 use Rattle.definition.specs.Numbers.{narrow, tryParse}
 use Rattle.definition.specs.Refusals.{Reason, refuse, overflow, bound-overflow}
 use Rattle.definition.specs.Image.{padded}

@@ -4,7 +4,7 @@ use native.Mathlib.Omega.{arith}
 use Rattle.definition.specs.Prelude.{ℕ, Bool, true, false, _&&_, Option, none, some, pos, ltZ, nonNeg}
 use Rattle.definition.specs.Basics.{Result, ok, refused, _>>=_}
 use Rattle.definition.specs.Refusals.{need, negative-bound, reversed, zero-width}
-use Rattle.definition.specs.Ranges.{Usb, Usbr}
+use Rattle.definition.specs.Ranges.{Usbr}
 use Rattle.definition.specs.Component.{simplifyUsb, simplifyEnd, simplifyRange, ifStatic, ifStaticEnd, ifKnown}
 use Rattle.laws.specs.Results.{bind-ok, bind-assoc}
 use Rattle.laws.specs.Tests.{and-iff}

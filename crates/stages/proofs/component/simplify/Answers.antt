@@ -2,12 +2,11 @@
 use mathlib.Core.Path.{_≡_, refl, sym, ap, _∙_, subst}
 use Prim.Native.Nat.{_≤_}
 use native.Mathlib.Omega.{arith}
-use Rattle.definition.specs.Prelude.{ℕ, List, length}
+use Rattle.definition.specs.Prelude.{ℕ, List}
 use Rattle.definition.specs.Basics.{Result, ok, refused, _>>=_}
 use Rattle.definition.specs.Image.{bitsAt}
 use Rattle.definition.specs.Ranges as D
-use Rattle.definition.specs.Component as Def
-use Rattle.definition.specs.Component.{literal, cutLiteral, simplifyLiteral, simplifyRange, simplify}
+use Rattle.definition.specs.Component.{cutLiteral, simplifyLiteral, simplifyRange, simplify}
 use Rattle.laws.specs.Lists.{length-tab}
 use Rattle.numbers.specs.declared.OptionI128.{OptionI128}
 use Rattle.stages.specs.ranges.Values.{Tree, usbrOf, simplifiedOf, Measured, SimplifiedReads}
@@ -96,11 +95,15 @@ module _ (image : List ℕ) (t : Tree) (base : ℕ) where
 
     pub as-variable : (p : Part) → k ≡ T.Variable p → StagedReads image t base at q (withType (typeOf image t base at k) (ok v))
         → StagedReads image t base at q (byType (typeOf image t base at k) v)
-    as-variable p e h = subst (λ (k : ComponentType). StagedReads image t base at q (withType (typeOf image t base at k) (ok v)) → StagedReads image t base at q (byType (typeOf image t base at k) v)) (sym e) (λ g. g) h
+    as-variable p e h =
+        subst (λ (k : ComponentType). StagedReads image t base at q (withType (typeOf image t base at k) (ok v))
+        → StagedReads image t base at q (byType (typeOf image t base at k) v)) (sym e) (λ g. g) h
 
     pub as-filler : k ≡ T.Filler → StagedReads image t base at q (withType (typeOf image t base at k) (fillerRange v))
         → StagedReads image t base at q (byType (typeOf image t base at k) v)
-    as-filler e h = subst (λ (k : ComponentType). StagedReads image t base at q (withType (typeOf image t base at k) (fillerRange v)) → StagedReads image t base at q (byType (typeOf image t base at k) v)) (sym e) (λ g. g) h
+    as-filler e h =
+        subst (λ (k : ComponentType). StagedReads image t base at q (withType (typeOf image t base at k) (fillerRange v))
+        → StagedReads image t base at q (byType (typeOf image t base at k) v)) (sym e) (λ g. g) h
 
   pub same-range : (r : Usbr) (x : OptionI128) → Measured image t base r x → SimplifiedReads image t base (S.Ok r x) (ok (usbrOf image t base r))
   same-range r x m = record { is = refl; held = m }
@@ -109,18 +112,21 @@ module _ (image : List ℕ) (t : Tree) (base : ℕ) where
 
   module _ (c : Component) (q : Simplified) (h : SimplifiedReads image t base q (simplifyRange (usbrOf image t base (c .range)))) where
     pub whole-positive : (r : Usbr) (x : OptionI128) → q ≡ S.Ok r x → Positive (usbrOf image t base r)
-    whole-positive r x e = range-positive (usbrOf image t base (c .range)) (usbrOf image t base r) (reads-ok q (simplifyRange (usbrOf image t base (c .range))) h r x e)
+    whole-positive r x e =
+        range-positive (usbrOf image t base (c .range)) (usbrOf image t base r) (reads-ok q (simplifyRange (usbrOf image t base (c .range))) h r x e)
 
     pub whole-ok : (at : ℕ) (r : Usbr) (x : OptionI128) (k : ComponentResult) → q ≡ S.Ok r x
         → StagedReads image t base at k (byType (typeOf image t base at (c .«c_type»)) (usbrOf image t base r))
         → StagedReads image t base at k (simplify (componentOf image t base at c))
     whole-ok at r x k e g =
         subst (StagedReads image t base at k)
-        (sym (ap (λ (m : Result D.Usbr). m >>= byType (typeOf image t base at (c .«c_type»))) (reads-ok q (simplifyRange (usbrOf image t base (c .range))) h r x e)) ∙ stage-is (componentOf image t base at c)) g
+        (sym (ap (λ (m : Result D.Usbr). m >>= byType (typeOf image t base at (c .«c_type»))) (reads-ok q (simplifyRange (usbrOf image t base (c .range))) h r x e))
+        ∙ stage-is (componentOf image t base at c)) g
 
     pub whole-refused : (at n : ℕ) → q ≡ S.Refused n → StagedReads image t base at (R.Refused n) (simplify (componentOf image t base at c))
     whole-refused at n e =
         record {
-          is = sym (ap (λ (m : Result D.Usbr). m >>= byType (typeOf image t base at (c .«c_type»))) (reads-refused q (simplifyRange (usbrOf image t base (c .range))) h n e)) ∙ stage-is (componentOf image t base at c);
+          is = sym (ap (λ (m : Result D.Usbr). m >>= byType (typeOf image t base at (c .«c_type»))) (reads-refused q (simplifyRange (usbrOf image t base (c .range))) h n e))
+              ∙ stage-is (componentOf image t base at c);
           held = tt;
         }

@@ -1,26 +1,25 @@
 -- The cut of a literal's bits by a range whose numbers are places among them: one law for each way through the code.
-use mathlib.Core.Path.{_≡_, refl, sym, ap, _∙_, subst}
+use mathlib.Core.Path.{_≡_, refl, sym, ap, _∙_}
 use Prim.Native.Nat.{_≤_, _<_, min}
 use native.Mathlib.Nat.{zero-add}
 use native.Mathlib.Omega.{arith}
-use Rattle.definition.specs.Prelude.{ℕ, _+_, _-_, _^_, Bool, true, false, Option, none, some, List, [], length, take, drop, ℤ, pos, natAbs, _-ℤ_}
-use Rattle.definition.specs.Basics.{Result, ok, if_then_else_, sameBytes, tab}
+use Rattle.definition.specs.Prelude.{ℕ, _-_, _^_, Option, none, some, List, [], length, take, drop, ℤ, pos, natAbs, _-ℤ_}
+use Rattle.definition.specs.Basics.{ok, if_then_else_, sameBytes, tab}
 use Rattle.definition.specs.Image.{bitsAt}
 use Rattle.definition.specs.Numbers.{narrow}
 use Rattle.definition.specs.Ranges as D
 use Rattle.definition.specs.Ranges.{val, staticVal, staticWidth}
-use Rattle.definition.specs.Component as Def
 use Rattle.definition.specs.Component.{literal, cutLiteral}
 use Rattle.laws.specs.Numbers.{difference}
-use Rattle.numbers.specs.Value.{valueOf, optionOf}
+use Rattle.numbers.specs.Value.{valueOf}
 use Rattle.numbers.specs.declared.I128.{I128}
 use Rattle.numbers.specs.declared.OptionI128.{OptionI128}
 use Rattle.numbers.proofs.Small.{small}
 use Rattle.stages.specs.answer.literal_bits.Put.{bitOf}
 use Rattle.stages.specs.answer.merging.Literals.{take-tab, drop-tab}
-use Rattle.stages.specs.ranges.Values.{Tree, zeroI, zeroBy, valBy, usbOf, endOf, usbrOf, UsbrFits, Measured}
+use Rattle.stages.specs.ranges.Values.{Tree, zeroI, zeroBy, valBy, usbOf, endOf, usbrOf, Measured}
 use Rattle.stages.specs.ranges.Checks.{endVal, bothOf}
-use Rattle.stages.specs.component.Values.{literalBy, endOr, bitsOf, componentOf, StagedReads}
+use Rattle.stages.specs.component.Values.{literalBy, endOr, bitsOf, StagedReads}
 use Rattle.stages.specs.component.Stage2.{Within, CutFits, cutBothBy}
 use Rattle.stages.specs.declared.ranges.types.Usb.{Usb}
 use Rattle.stages.specs.declared.ranges.types.Usbr.{Usbr}
@@ -113,7 +112,8 @@ module _ (image : List ℕ) (t : Tree) (base at : ℕ) (w : ℕ) (few : w ≤ 40
   cut-none (O.Some e) h m q =
       record {
         is = ap (λ (b : List ℕ). ok (record { c-type = literal b; range = usbrOf image t base (record { start = s; «end» = O.Some e }) })) (whole-bits image at w)
-            ∙ ap (λ (y : Option ℤ). ok (cutBy (bitsAt image at w) (usbOf image t base s) (usbOf image t base e) (staticVal (usbOf image t base s)) y)) (static-no image t base e q);
+            ∙ ap (λ (y : Option ℤ). ok (cutBy (bitsAt image at w) (usbOf image t base s) (usbOf image t base e) (staticVal (usbOf image t base s)) y))
+            (static-no image t base e q);
         held = record { c-type = (omega arith, few); measured = m };
       }
   cut-none O.None h m q = untrue (h .ends)
@@ -130,8 +130,10 @@ module _ (image : List ℕ) (t : Tree) (base at : ℕ) (w : ℕ) (few : w ≤ 40
       let f = end-place image t base w (omega arith) s e h q in
       let alone : staticVal u ≡ none = start-none (staticVal u) (valueOf (e .x)) (p ∙ ap (bothOf (staticVal u)) (sym known)) in
       record {
-        is = ap (λ (b : List ℕ). ok (record { c-type = literal b; range = usbrOf image t base (record { start = s; «end» = O.Some e }) })) (sym (first-bits image at w (e .x .low) (f .1)))
-            ∙ ap (λ (n : ℕ). ok (record { c-type = literal (take n bits); range = usbrOf image t base (record { start = s; «end» = O.Some e }) })) (ap natAbs (sym (f .0)))
+        is = ap (λ (b : List ℕ). ok (record { c-type = literal b; range = usbrOf image t base (record { start = s; «end» = O.Some e }) }))
+            (sym (first-bits image at w (e .x .low) (f .1)))
+            ∙ ap (λ (n : ℕ). ok (record { c-type = literal (take n bits); range = usbrOf image t base (record { start = s; «end» = O.Some e }) }))
+            (ap natAbs (sym (f .0)))
             ∙ ap (λ (a : Option ℤ). ok (cutBy bits u v a (some (valueOf (e .x))))) (sym alone)
             ∙ ap (λ (y : Option ℤ). ok (cutBy bits u v (staticVal u) y)) known;
         held = record { c-type = (omega arith, omega (arith, f .1)); measured = m };
@@ -145,15 +147,18 @@ module _ (image : List ℕ) (t : Tree) (base at : ℕ) (w : ℕ) (few : w ≤ 40
   between a b f =
       let d : I128 = record { high = 0; low = b .low - a .low } in
       let e : valueOf d ≡ valueOf b -ℤ valueOf a =
-      small d refl ∙ sym (difference (b .low) (a .low) (f .order)) ∙ ap (λ (z : ℤ). z -ℤ pos (a .low)) (sym (f .«end»)) ∙ ap (λ (z : ℤ). valueOf b -ℤ z) (sym (f .start)) in
+      small d refl ∙ sym (difference (b .low) (a .low) (f .order)) ∙ ap (λ (z : ℤ). z -ℤ pos (a .low)) (sym (f .«end»))
+      ∙ ap (λ (z : ℤ). valueOf b -ℤ z) (sym (f .start)) in
       ap (λ (u : D.Usb). record { start = u; «end» = some (usbOf image t base (valBy d)) }) (val-is image t base zeroI ∙ ap val (small zeroI refl))
       ∙ ap (λ (u : D.Usb). record { start = val (pos 0); «end» = some u }) (val-is image t base d ∙ ap val e)
 
-  same-width : (a b : I128) → Halves w a b → staticWidth (record { start = val (pos 0); «end» = some (val (valueOf b -ℤ valueOf a)) }) ≡ narrow (valueOf b -ℤ valueOf a)
+  same-width : (a b : I128) → Halves w a b
+      → staticWidth (record { start = val (pos 0); «end» = some (val (valueOf b -ℤ valueOf a)) }) ≡ narrow (valueOf b -ℤ valueOf a)
   unfolding sameBytes
   same-width a b f =
       let k : ℕ = b .low - a .low in
-      let e : valueOf b -ℤ valueOf a ≡ pos k = ap (λ (z : ℤ). z -ℤ valueOf a) (f .«end») ∙ ap (λ (z : ℤ). pos (b .low) -ℤ z) (f .start) ∙ difference (b .low) (a .low) (f .order) in
+      let e : valueOf b -ℤ valueOf a ≡ pos k =
+      ap (λ (z : ℤ). z -ℤ valueOf a) (f .«end») ∙ ap (λ (z : ℤ). pos (b .low) -ℤ z) (f .start) ∙ difference (b .low) (a .low) (f .order) in
       let g : pos k -ℤ pos 0 ≡ pos k = difference k 0 (omega arith) ∙ ap pos (omega arith) in
       ap narrow (ap (λ (z : ℤ). z -ℤ pos 0) e ∙ g ∙ sym e)
 

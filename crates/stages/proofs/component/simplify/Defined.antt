@@ -1,12 +1,11 @@
 -- Stage 2 of a component, on the definition alone: by type, a literal's range and then its cut, and what the tests of a literal leave.
-use mathlib.Core.Path.{_≡_, refl, ap, _∙_, subst}
-use mathlib.Core.Bool.{true≢false}
-use Prim.Native.Nat.{_≤_, _<_}
+use mathlib.Core.Path.{_≡_, refl, subst}
+use Prim.Native.Nat.{_<_}
 use native.Mathlib.Nat.{le-refl, le-of-lt}
 use native.Mathlib.Omega.{arith}
 use borrow.Author.Tests.{ltb-true, le-leb}
 use Rattle.definition.specs.Prelude.{ℕ, _-_, Bool, true, false, _&&_, _||_, Option, none, some, List, [], _∷_, length, ltb, ℤ, pos, negsuc, _-ℤ_, ltZ, leZ, nonNeg}
-use Rattle.definition.specs.Basics.{Result, ok, refused, _>>=_, if_then_else_, isEmpty, sameBytes}
+use Rattle.definition.specs.Basics.{ok, refused, _>>=_, if_then_else_, isEmpty, sameBytes}
 use Rattle.definition.specs.Numbers.{half128, narrow}
 use Rattle.definition.specs.Refusals.{need, start-above-width, end-above-width, range-above-width, end-zero, open-start}
 use Rattle.definition.specs.Ranges.{Usb, Usbr, staticVal}
@@ -101,7 +100,9 @@ module _ (w : ℕ) (s : Usb) where
 
 pub within : (w : ℕ) (v u : Usbr) → literalRange w v ≡ ok u → Positive v → Within w u
 within w v u h p =
-    let f = passed (withEnd w v) u (ifStatic (λ x. ltZ x (pos w)) (v .start)) (ifStaticEnd (λ x. leZ x (pos w)) v) (ifKnown (λ x. leZ x (pos w)) (withEnd w v)) (ifStaticEnd (ltZ (pos 0)) v) h in
+    let f =
+    passed (withEnd w v) u (ifStatic (λ x. ltZ x (pos w)) (v .start)) (ifStaticEnd (λ x. leZ x (pos w)) v)
+    (ifKnown (λ x. leZ x (pos w)) (withEnd w v)) (ifStaticEnd (ltZ (pos 0)) v) h in
     subst (Within w) (f .2) (record {
       ends = refl;
       start = passes-both nonNeg (λ x. ltZ x (pos w)) (staticVal (v .start)) (p .start) (f .0);

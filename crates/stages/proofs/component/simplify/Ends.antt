@@ -1,12 +1,12 @@
 -- Numbers of a range that a literal's tests leave are places among its bits, in order; so no end that stage 2 leaves is a number below 0.
-use mathlib.Core.Path.{_≡_, refl, sym, ap, _∙_, subst}
+use mathlib.Core.Path.{_≡_, refl, sym, _∙_, subst}
 use Prim.Native.Nat.{_≤_, _<_}
 use native.Mathlib.Nat.{lt-of-lt-of-le}
 use native.Mathlib.Omega.{arith}
 use lib.Dec.{lit≤}
 use borrow.Author.Tests.{ltb-true, ltb-false, leb-true, lt-ltb}
-use Rattle.definition.specs.Prelude.{ℕ, zero, suc, _+_, _-_, _^_, Bool, true, false, _&&_, _||_, Option, none, some, List, [], _∷_, length, take, drop, ltb, leb, ℤ, pos, negsuc, natAbs, _-ℤ_, ltZ, leZ, nonNeg}
-use Rattle.definition.specs.Basics.{Result, ok, _>>=_, if_then_else_, isEmpty, sameBytes}
+use Rattle.definition.specs.Prelude.{ℕ, zero, suc, _-_, _^_, Bool, true, false, _&&_, _||_, Option, none, some, List, [], _∷_, length, take, drop, ltb, ℤ, pos, negsuc, natAbs, _-ℤ_, ltZ, leZ, nonNeg}
+use Rattle.definition.specs.Basics.{ok, _>>=_, if_then_else_, isEmpty, sameBytes}
 use Rattle.definition.specs.Refusals.{need, open-start}
 use Rattle.definition.specs.Numbers.{half128, narrow}
 use Rattle.definition.specs.Ranges.{Usb, Usbr, val, staticVal}
@@ -14,8 +14,8 @@ use Rattle.definition.specs.Component.{Component, ComponentType, literal, varia
 use Rattle.laws.specs.Numbers.{difference}
 use Rattle.laws.specs.Results.{bind-ok}
 use Rattle.laws.specs.Tests.{by-test, and-iff}
-use Rattle.stages.specs.ranges.Checks.{passes, Positive, literalRange, fillerRange}
-use Rattle.stages.specs.component.Stage2.{Within, cutAll, byType, withType}
+use Rattle.stages.specs.ranges.Checks.{passes, Positive, literalRange}
+use Rattle.stages.specs.component.Stage2.{Within, byType, withType}
 use Rattle.stages.proofs.ranges.Checked.{range-positive}
 use Rattle.stages.proofs.component.simplify.Defined.{stage-is, literal-is, within, untrue, never}
 
@@ -115,7 +115,8 @@ cut-given bits v l h = go (v .start) (v .«end») h
     positive : (b y : ℤ) → InOrder (length bits) b y → nonNeg (y -ℤ b) ≡ true
     positive b y o = rw (o .starts, o .ends, difference (o .to) (o .from) (o .order))
 
-    go : (s : Usb) (e : Option Usb) → Within (length bits) (record { start = s; «end» = e }) → ifStaticEnd nonNeg ((cutLiteral bits (record { start = s; «end» = e })) .range) ≡ true
+    go : (s : Usb) (e : Option Usb) → Within (length bits) (record { start = s; «end» = e })
+        → ifStaticEnd nonNeg ((cutLiteral bits (record { start = s; «end» = e })) .range) ≡ true
     go s none h = untrue (h .ends)
     go s (some e) h =
         given bits s e (staticVal s) (staticVal e) (left (staticVal e) (h .«end»)) (λ b y p q. positive b y (places (length bits) s e l h b y p q))

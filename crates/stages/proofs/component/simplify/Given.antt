@@ -1,8 +1,8 @@
 -- Of a component as stage 1 leaves it, stage 2 in code leaves no end that is a number below 0.
-use mathlib.Core.Path.{_≡_, sym}
+use mathlib.Core.Path.{sym}
 use native.Mathlib.Omega.{arith}
 use Prim.Native.Nat.{_≤_}
-use Rattle.definition.specs.Prelude.{ℕ, _-_, List, length, drop}
+use Rattle.definition.specs.Prelude.{ℕ, _-_, List, drop}
 use Rattle.definition.specs.Component.{simplify}
 use Rattle.laws.specs.Lists.{length-tab}
 use Rattle.stages.specs.answer.literal_bits.Put.{bitOf}

@@ -1,10 +1,10 @@
 -- Tests of a component: one law for each way through the code.
 use mathlib.Core.Path.{_≡_, refl, sym, ap, _∙_, subst}
 use mathlib.Core.Logic.{_⊎_, ⊎-elim}
-use Prim.Native.Nat.{_≤_, _<_}
+use Prim.Native.Nat.{_<_}
 use native.Mathlib.Omega.{arith}
 use borrow.Author.Tests.{eqb-true, eqb-false, ne-eqb}
-use Rattle.definition.specs.Prelude.{ℕ, _+_, _*_, _-_, _^_, Bool, true, false, _&&_, not, Option, none, some, List, length, drop, ltb, eqb, ℤ, pos, natAbs, nonNeg}
+use Rattle.definition.specs.Prelude.{ℕ, _-_, _^_, Bool, true, false, _&&_, not, Option, none, some, List, length, drop, ltb, eqb, ℤ, pos, natAbs, nonNeg}
 use Rattle.definition.specs.Basics.{if_then_else_, isEmpty}
 use Rattle.definition.specs.Ranges as D
 use Rattle.definition.specs.Ranges.{val, staticVal, staticRange}
@@ -19,7 +19,7 @@ use Rattle.numbers.proofs.Small.{small}
 use Rattle.stages.specs.answer.literal_bits.Put.{bitOf}
 use Rattle.stages.specs.ranges.Values.{Tree, usbOf, endOf, usbrOf}
 use Rattle.stages.specs.ranges.Checks.{endVal, bothOf, rangeOf}
-use Rattle.stages.specs.component.Values.{bitsOf, typeOf, componentOf}
+use Rattle.stages.specs.component.Values.{typeOf, componentOf}
 use Rattle.stages.specs.component.Tests.{isRange, isThere, fullEnd}
 use Rattle.stages.specs.declared.token_tree.types.Part.{Part}
 use Rattle.stages.specs.declared.ranges.types.Usb.{Usb}
@@ -145,7 +145,8 @@ module _ (image : List ℕ) (t : Tree) (base at : ℕ) (c : Component) where
         full-is (T.Literal b) h q
         (g ∙ ap (fullEnd (endOf image t base (c .range .«end»))) (sym (length-tab (bitOf (drop at image)) (b .from) (b .to - b .from))))
 
-    pub full-variable : (p : Part) (r : Bool) → z ≡ true → c .«c_type» ≡ T.Variable p → r ≡ isThere (c .range .«end») → not r ≡ hasFullRange (componentOf image t base at c)
+    pub full-variable : (p : Part) (r : Bool) → z ≡ true → c .«c_type» ≡ T.Variable p → r ≡ isThere (c .range .«end»)
+        → not r ≡ hasFullRange (componentOf image t base at c)
     full-variable p r h q g = full-is (T.Variable p) h q (ap not (g ∙ there-is (c .range .«end»)))
 
     pub full-filler : (r : Bool) → z ≡ true → c .«c_type» ≡ T.Filler → r ≡ isThere (c .range .«end») → r ≡ hasFullRange (componentOf image t base at c)

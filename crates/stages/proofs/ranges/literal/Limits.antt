@@ -1,12 +1,12 @@
 -- Tests of a number that may be unknown against a literal's width, and 25 to 27 of a range that has an end.
 use mathlib.Core.Path.{_≡_, refl, sym, ap, _∙_, subst}
 use mathlib.Core.Bool.{Bool, true, false, not}
-use Prim.Native.Nat.{_≤_, _<_}
+use Prim.Native.Nat.{_<_}
 use native.Mathlib.Omega.{arith}
 use lib.Dec.{eqb·suc-zero}
 use borrow.Author.Tests.{ltb-true, ltb-false, lt-ltb, lt-leb, le-leb, ne-eqb}
-use Rattle.definition.specs.Prelude.{ℕ, zero, suc, _+_, _*_, _^_, Option, none, some, List, ltb, leb, eqb, ℤ, pos, negsuc, natAbs, ltZ, leZ, nonNeg}
-use Rattle.definition.specs.Basics.{Result, ok, refused, _>>=_}
+use Rattle.definition.specs.Prelude.{ℕ, zero, suc, _^_, Option, none, some, List, ltb, leb, eqb, ℤ, pos, negsuc, ltZ, leZ, nonNeg}
+use Rattle.definition.specs.Basics.{Result, ok, _>>=_}
 use Rattle.definition.specs.Refusals.{need, end-above-width, range-above-width, end-zero}
 use Rattle.definition.specs.Ranges as D
 use Rattle.definition.specs.Ranges.{staticVal, staticWidth}

@@ -4,9 +4,9 @@ use mathlib.Core.Bool.{Bool, true, false, not, _||_}
 use Prim.Native.Nat.{_≤_, _<_}
 use native.Mathlib.Omega.{arith}
 use native.Mathlib.Nat.{le-of-lt}
-use borrow.Author.Tests.{ltb-true, ltb-false, leb-true, leb-false, le-leb, lt-leb, lt-ltb, le-ltb}
-use Rattle.definition.specs.Prelude.{ℕ, _+_, _-_, _^_, Option, none, some, List, [], _∷_, length, ltb, leb, ℤ, pos, negsuc, _-ℤ_, ltZ, leZ, nonNeg}
-use Rattle.definition.specs.Basics.{Result, ok, refused, _>>=_, if_then_else_, isEmpty, sameBytes}
+use borrow.Author.Tests.{ltb-true, ltb-false, le-leb, lt-leb}
+use Rattle.definition.specs.Prelude.{ℕ, _-_, _^_, Option, none, some, List, [], _∷_, ltb, leb, ℤ, pos, negsuc, _-ℤ_, ltZ, leZ, nonNeg}
+use Rattle.definition.specs.Basics.{Result, ok, _>>=_, if_then_else_, isEmpty, sameBytes}
 use Rattle.definition.specs.Numbers.{half128, narrow}
 use Rattle.definition.specs.Refusals.{need, start-above-width, end-above-width, range-above-width, end-zero, open-start}
 use Rattle.definition.specs.Ranges as D
@@ -14,7 +14,7 @@ use Rattle.definition.specs.Ranges.{val, staticVal, staticWidth}
 use Rattle.definition.specs.Component.{ifStatic, ifStaticEnd, ifKnown, isZero, hasEnd, withEnd}
 use Rattle.laws.specs.Numbers.{difference}
 use Rattle.laws.specs.Tests.{by-test}
-use Rattle.numbers.specs.Value.{valueOf, optionOf}
+use Rattle.numbers.specs.Value.{optionOf}
 use Rattle.numbers.specs.declared.I128.{I128}
 use Rattle.numbers.specs.declared.OptionI128.{OptionI128}
 use Rattle.numbers.proofs.Small.{small}
@@ -106,7 +106,8 @@ module _ (image : List ℕ) (t : Tree) (base : ℕ) (r : Usbr) (w : ℕ) (some-b
   literal-over h =
       let v = usbrOf image t base r in
       record {
-        is = sym (ap (λ (a : Bool). gate (withEnd w v) a (ifStaticEnd (λ x. leZ x (pos w)) v) (ifKnown (λ x. leZ x (pos w)) (withEnd w v)) (ifStaticEnd (ltZ (pos 0)) v)) (starts true h));
+        is = sym (ap (λ (a : Bool). gate (withEnd w v) a (ifStaticEnd (λ x. leZ x (pos w)) v) (ifKnown (λ x. leZ x (pos w)) (withEnd w v)) (ifStaticEnd (ltZ (pos 0)) v))
+            (starts true h));
         held = tt;
       }
 
@@ -122,7 +123,8 @@ module _ (image : List ℕ) (t : Tree) (base : ℕ) (r : Usbr) (w : ℕ) (some-b
   pub literal-open : (q : Simplified) → a ≡ false → r .«end» ≡ O.None → SimplifiedReads image t base q (toWidth w (usbOf image t base (r .start)))
       → SimplifiedReads image t base q (literalRange w (usbrOf image t base r))
   literal-open q h g k =
-      subst (λ (o : OptionUsb). SimplifiedReads image t base q (literalRange w (record { start = usbOf image t base (r .start); «end» = endOf image t base o }))) (sym g)
+      subst (λ (o : OptionUsb). SimplifiedReads image t base q (literalRange w (record { start = usbOf image t base (r .start); «end» = endOf image t base o })))
+      (sym g)
       (subst (SimplifiedReads image t base q) (sym (open-range w (usbOf image t base (r .start)) (p .start) (starts false h))) k)
 
 -- ---- 28
@@ -139,7 +141,8 @@ module _ (image : List ℕ) (t : Tree) (base : ℕ) (r : Usbr) (x : OptionI128) 
   filler-ended e p = record { is = go (r .«end») p; held = m }
     where
       go : (o : OptionUsb) → o ≡ O.Some e → let v : D.Usbr = record { start = usbOf image t base (r .start); «end» = endOf image t base o } in ok v ≡ fillerRange v
-      go (O.Some u) g = sym (ap (sink (record { start = usbOf image t base (r .start); «end» = some (usbOf image t base u) })) (or-true (isZero (usbOf image t base (r .start)))))
+      go (O.Some u) g =
+          sym (ap (sink (record { start = usbOf image t base (r .start); «end» = some (usbOf image t base u) })) (or-true (isZero (usbOf image t base (r .start)))))
       go O.None g = let z : _≡_ {A = ℕ} 0 1 = cc in absurd (omega arith)
 
   module _ (b : Bool) (eb : b ≡ isZero (usbOf image t base (r .start))) where

@@ -4,13 +4,12 @@ use mathlib.Core.Bool.{Bool, true, false, _&&_, not}
 use native.Mathlib.Omega.{arith}
 use Prim.Native.Nat.{_≤_, _<_}
 use borrow.Author.Tests.{eqb-true, lt-ltb, le-leb, lt-leb, eq-eqb, ne-eqb}
-use Rattle.definition.specs.Prelude.{ℕ, zero, suc, _^_, Option, none, some, List, eqb, ltb, ℤ, pos, negsuc, natAbs, ltZ, nonNeg}
+use Rattle.definition.specs.Prelude.{ℕ, zero, suc, _^_, Option, none, some, List, eqb, ℤ, pos, negsuc, natAbs, ltZ, nonNeg}
 use Rattle.definition.specs.Basics.{Result, ok, refused, _>>=_, if_then_else_}
 use Rattle.definition.specs.Refusals.{need, negative-bound, reversed, zero-width}
 use Rattle.definition.specs.Ranges as D
 use Rattle.definition.specs.Ranges.{staticVal, staticWidth}
 use Rattle.definition.specs.Component.{ifStaticEnd}
-use Rattle.laws.specs.Tests.{by-test}
 use Rattle.numbers.specs.Value.{valueOf, optionOf}
 use Rattle.numbers.specs.declared.I128.{I128}
 use Rattle.numbers.specs.declared.OptionI128.{OptionI128}

@@ -3,17 +3,17 @@ use mathlib.Core.Path.{_≡_, refl, sym, ap, _∙_, subst}
 use mathlib.Core.Bool.{Bool, true, false}
 use native.Mathlib.Omega.{arith}
 use Rattle.definition.specs.Prelude.{ℕ, Option, none, some, List, ℤ, _-ℤ_}
-use Rattle.definition.specs.Basics.{Result, ok, refused, _>>=_, if_then_else_, sameBytes}
+use Rattle.definition.specs.Basics.{Result, ok, _>>=_, if_then_else_, sameBytes}
 use Rattle.definition.specs.Numbers.{narrow}
 use Rattle.definition.specs.Ranges as D
-use Rattle.definition.specs.Ranges.{staticVal, staticWidth}
+use Rattle.definition.specs.Ranges.{staticWidth}
 use Rattle.definition.specs.Component.{simplifyUsb, simplifyRange}
 use Rattle.laws.specs.Results.{bind-assoc}
 use Rattle.numbers.specs.Value.{valueOf, optionOf}
 use Rattle.numbers.specs.declared.I128.{I128}
 use Rattle.numbers.specs.declared.OptionI128.{OptionI128}
 use Rattle.numbers.specs.declared.OptionI128.the-variants as I
-use Rattle.stages.specs.token_tree.Parts.{bytesIn, Room}
+use Rattle.stages.specs.token_tree.Parts.{bytesIn}
 use Rattle.stages.specs.ranges.Values.{Tree, usbOf, endOf, usbrOf, usbResult, rangeResult, UsbFits, EndFits, UsbrFits, UsbReads, RangeReads, SimplifiedReads}
 use Rattle.stages.specs.ranges.Checks.{bothOf, rangeOf, endedWith, endSimple, bothSimple, checkedRange}
 use Rattle.stages.specs.declared.ranges.types.Usb.{Usb}

@@ -3,15 +3,7 @@ use Rattle.stages.specs.ranges.Checks.{literalRange}
 use borrow.Author.Needs.{needs}
 use Rattle.stages.proofs.component.simplify.cut_of.Statement.{statement}
 use Rattle.stages.proofs.component.simplify.cut_of.Tie as tie
-use Rattle.stages.proofs.component.simplify.cut_of.Reads as reads
-use Rattle.stages.proofs.component.simplify.cut_of.Lts as lts
-use Rattle.stages.proofs.component.simplify.cut.Reads as cut-reads
 
--- src/component/simplify.rt:104:24
-enum-known-q : tie.Need-enum-known-q
-enum-known-q c = search needs
-
--- src/component/simplify.rt:104:41
 cut-requires : tie.Need-cut-requires
 cut-requires c κs =
     let s = c .before .before .before in
@@ -19,11 +11,6 @@ cut-requires c κs =
     let q = c .before .q .given in
     (p .0, p .1, p .2, cut-within (p .0) (p .1) (p .2) (s .args .w) (s .args .q) (p .3) (p .5) (p .4) (q .0 .0) (q .0 .1 .0) (q .1))
 
--- src/component/simplify.rt:105:29
-enum-known-q-2 : tie.Need-enum-known-q-2
-enum-known-q-2 c = search needs
-
--- src/component/simplify.rt:98:1
 returns : tie.Need-returns
 returns c image t base at v few p h =
     let a = c .before .before .before .before .args in
@@ -32,7 +19,6 @@ returns c image t base at v few p h =
     (c .cut .ensures image t base at few (cut-within image t base (a .w) (a .q) v h p (q .0 .0) (q .0 .1 .0) (q .1))
     (reads-measured image t base (a .q) (literalRange (a .w) v) h (q .0 .0) (q .0 .1 .0) (q .1)))
 
--- src/component/simplify.rt:98:1
 returns-2 : tie.Need-returns-2
 returns-2 c image t base at v few p h =
     let a = c .before .before .before .args in
@@ -40,4 +26,4 @@ returns-2 c image t base at v few p h =
     cut-refused image t base (a .w) (a .q) v h at (q .0 .0) (q .1)
 
 pub cut-of-spec : {M : Type 1} → statement M
-cut-of-spec = tie.close (tie.spec enum-known-q cut-requires enum-known-q-2 returns returns-2)
+cut-of-spec = tie.close (tie.spec (λ c. search needs) cut-requires (λ c. search needs) returns returns-2)

@@ -6,18 +6,7 @@ use Rattle.stages.proofs.component.tests.Tested.{ends-none, ends-yes, e
 use borrow.Author.Needs.{needs}
 use Rattle.stages.proofs.component.tests.ends_at.Statement.{statement}
 use Rattle.stages.proofs.component.tests.ends_at.Tie as tie
-use Rattle.stages.proofs.component.tests.ends_at.Reads as reads
-use Rattle.stages.proofs.component.tests.ends_at.Lts as lts
 
--- src/component/tests.rt:37:25
-enum-known-end : tie.Need-enum-known-end
-enum-known-end c = search needs
-
--- src/component/tests.rt:38:28
-enum-told : tie.Need-enum-told
-enum-told c = search needs
-
--- src/component/tests.rt:33:1
 returns : tie.Need-returns
 returns c image t base g =
     let j = c .before .before in
@@ -27,7 +16,6 @@ returns c image t base g =
     ends-yes image t base (a .«end») (a .w) (u .0 .0) (u .1) (j .if1 .if2)
     (⊎-elim (λ w. inl (w .0 .taken, w .2)) (λ w. inr (w .0 .left, w .1 ∙ ne-eqb (u .0 .0 .s .len) 0 (w .0 .left))) (j .if1 .came)) (c .before .if2 .taken)
 
--- src/component/tests.rt:33:1
 returns-2 : tie.Need-returns-2
 returns-2 c image t base g =
     let j = c .before in
@@ -38,9 +26,8 @@ returns-2 c image t base g =
     (⊎-elim (λ w. inl (w .0 .taken, w .2)) (λ w. inr (w .0 .left, w .1 ∙ ne-eqb (u .0 .0 .s .len) 0 (w .0 .left))) (j .if1 .came)) (c .if2 .left)
     (omega (arith, s .before .before .fits .w)) g
 
--- src/component/tests.rt:33:1
 returns-3 : tie.Need-returns-3
 returns-3 c image t base g = ends-none image t base (c .before .before .args .«end») (c .before .before .args .w) (c .enum-told .given .1)
 
 pub ends-at-spec : {M : Type 1} → statement M
-ends-at-spec = tie.close (tie.spec enum-known-end enum-told returns returns-2 returns-3)
+ends-at-spec = tie.close (tie.spec (λ c. search needs) (λ c. search needs) returns returns-2 returns-3)

@@ -2,21 +2,7 @@ use Rattle.stages.proofs.ranges.literal.Limits.{end-over, range-over, e
 use borrow.Author.Needs.{needs}
 use Rattle.stages.proofs.ranges.literal.end_checked.Statement.{statement}
 use Rattle.stages.proofs.ranges.literal.end_checked.Tie as tie
-use Rattle.stages.proofs.ranges.literal.end_checked.Reads as reads
-use Rattle.stages.proofs.ranges.literal.end_checked.Lts as lts
-use Rattle.stages.proofs.ranges.literal.above.Reads as above-reads
-use Rattle.stages.proofs.ranges.literal.end_zero.Reads as end-zero-reads
-use Rattle.stages.proofs.ranges.usbr.end_val.Reads as end-val-reads
 
--- src/ranges/literal.rt:46:14
-end-val-requires : tie.Need-end-val-requires
-end-val-requires c κs = search needs
-
--- src/ranges/literal.rt:46:8
-above-requires : tie.Need-above-requires
-above-requires c κs = search needs
-
--- src/ranges/literal.rt:47:9
 returns : tie.Need-returns
 returns c image t base m p =
     let e = c .before .before in
@@ -24,11 +10,6 @@ returns c image t base m p =
     end-over image t base (a .range) (a .w) (a .x) m p (e .end-val .result) (e .end-val .ensures image t base)
     (c .before .above .result) (c .before .above .ensures) (c .if1 .taken)
 
--- src/ranges/literal.rt:49:8
-above-requires-2 : tie.Need-above-requires-2
-above-requires-2 c κs = search needs
-
--- src/ranges/literal.rt:50:9
 returns-2 : tie.Need-returns-2
 returns-2 c image t base m p =
     let y = c .before .before in
@@ -37,11 +18,6 @@ returns-2 c image t base m p =
     range-over image t base (a .range) (a .w) (a .x) m p (e .end-val .result) (e .end-val .ensures image t base)
     (y .before .above .result) (y .before .above .ensures) (y .if1 .left) (c .before .above2 .result) (c .before .above2 .ensures) (c .if2 .taken)
 
--- src/ranges/literal.rt:52:8
-end-zero-requires : tie.Need-end-zero-requires
-end-zero-requires c κs = search needs
-
--- src/ranges/literal.rt:53:9
 returns-3 : tie.Need-returns-3
 returns-3 c image t base m p =
     let z = c .before .before in
@@ -52,7 +28,6 @@ returns-3 c image t base m p =
     (y .before .above .result) (y .before .above .ensures) (y .if1 .left) (z .before .above2 .result) (z .before .above2 .ensures) (z .if2 .left)
     (c .before .end-zero .result) (c .before .end-zero .ensures image t base) (c .if3 .taken)
 
--- src/ranges/literal.rt:41:1
 returns-4 : tie.Need-returns-4
 returns-4 c image t base m p =
     let z = c .before .before in
@@ -65,13 +40,5 @@ returns-4 c image t base m p =
 
 pub end-checked-spec : {M : Type 1} → statement M
 end-checked-spec =
-    tie.close
-    (tie.spec
-    end-val-requires
-    above-requires
-    returns
-    above-requires-2
-    returns-2
-    end-zero-requires
-    returns-3
-    returns-4)
+    tie.close (tie.spec (λ c κs. search needs) (λ c κs. search needs) returns (λ c κs. search needs) returns-2 (λ c κs. search needs)
+    returns-3 returns-4)

@@ -4,23 +4,13 @@ use Rattle.stages.proofs.ranges.literal.Whole.{to-width-fits, to-width-
 use borrow.Author.Needs.{needs}
 use Rattle.stages.proofs.ranges.literal.to_width.Statement.{statement}
 use Rattle.stages.proofs.ranges.literal.to_width.Tie as tie
-use Rattle.stages.proofs.ranges.literal.to_width.Reads as reads
-use Rattle.stages.proofs.ranges.literal.to_width.Lts as lts
-use Rattle.stages.proofs.ranges.types.Usb.val.Reads as val-reads
-use Rattle.stages.proofs.ranges.types.Usbr.static_width.Reads as static-width-reads
 
--- src/ranges/literal.rt:67:30
-val-requires : tie.Need-val-requires
-val-requires c κs = search needs
-
--- src/ranges/literal.rt:72:23
 static-width-requires : tie.Need-static-width-requires
 static-width-requires c κs =
     let s = c .before .before in
     let a = s .args in
     (s .pre .0, to-width-fits (now (a .image)) (a .tree) (s .pre .0) (a .start) (c .val .result) (a .w) (c .val .ensures) (omega (arith, s .fits .w)) (s .pre .1))
 
--- src/ranges/literal.rt:59:1
 returns : tie.Need-returns
 returns c base f =
     let s = c .before .before .before in
@@ -29,4 +19,4 @@ returns c base f =
     (c .static-width .result) (c .static-width .ensures base)
 
 pub to-width-spec : {M : Type 1} → statement M
-to-width-spec = tie.close (tie.spec val-requires static-width-requires returns)
+to-width-spec = tie.close (tie.spec (λ c κs. search needs) static-width-requires returns)

@@ -5,31 +5,13 @@ use Rattle.stages.proofs.ranges.usbr.Joins.{end-fits, end-there, end-mi
 use borrow.Author.Needs.{needs}
 use Rattle.stages.proofs.ranges.usbr.simplified_end.Statement.{statement}
 use Rattle.stages.proofs.ranges.usbr.simplified_end.Tie as tie
-use Rattle.stages.proofs.ranges.usbr.simplified_end.Reads as reads
-use Rattle.stages.proofs.ranges.usbr.simplified_end.Lts as lts
-use Rattle.stages.proofs.ranges.types.Usb.simplify.Reads as simplify-reads
-use Rattle.stages.proofs.ranges.usbr.ended.Reads as ended-reads
 
--- src/ranges/usbr.rt:91:25
-enum-known-end : tie.Need-enum-known-end
-enum-known-end c = search needs
-
--- src/ranges/usbr.rt:91:44
 simplify-requires : tie.Need-simplify-requires
 simplify-requires c κs =
     let s = c .before .before .before .before in
     let e = c .before .end .given in
     (s .pre .0, end-fits (now (s .args .image)) (s .args .tree) (s .pre .0) (s .args .«end») (e .0 .0) (e .1) (s .pre .1))
 
--- src/ranges/usbr.rt:91:31
-ended-requires : tie.Need-ended-requires
-ended-requires c κs = search needs
-
--- src/ranges/usbr.rt:92:44
-enum-told : tie.Need-enum-told
-enum-told c = search needs
-
--- src/ranges/usbr.rt:85:1
 returns : tie.Need-returns
 returns c base f g =
     let s = c .before .before .before in
@@ -39,13 +21,10 @@ returns c base f g =
     (c .ended .ensures (now (a .image)) (a .tree) base (simplifyUsb (usbOf (now (a .image)) (a .tree) base (u .0 .0))) f
     (c .before .simplify .ensures base (end-fits (now (a .image)) (a .tree) base (a .«end») (u .0 .0) (u .1) g)))
 
--- src/ranges/usbr.rt:85:1
 returns-2 : tie.Need-returns-2
 returns-2 c base f g =
     let a = c .before .before .before .args in
     end-missing (now (a .image)) (a .tree) base (a .start) (a .«end») (c .enum-told .given .1) f g
 
 pub simplified-end-spec : {M : Type 1} → statement M
-simplified-end-spec =
-    tie.close
-    (tie.spec enum-known-end simplify-requires ended-requires enum-told returns returns-2)
+simplified-end-spec = tie.close (tie.spec (λ c. search needs) simplify-requires (λ c κs. search needs) (λ c. search needs) returns returns-2)

@@ -5,20 +5,7 @@ use Rattle.stages.proofs.component.simplify.Answers.{reads-measured, wh
 use borrow.Author.Needs.{needs}
 use Rattle.stages.proofs.component.types.Component.simplify.Statement.{statement}
 use Rattle.stages.proofs.component.types.Component.simplify.Tie as tie
-use Rattle.stages.proofs.component.types.Component.simplify.Reads as reads
-use Rattle.stages.proofs.component.types.Component.simplify.Lts as lts
-use Rattle.stages.proofs.component.simplify.by_type.Reads as by-type-reads
-use Rattle.stages.proofs.ranges.types.Usbr.simplify.Reads as simplify-reads
 
--- src/component/simplify.rt:138:15
-simplify-requires : tie.Need-simplify-requires
-simplify-requires c κs = search needs
-
--- src/component/simplify.rt:139:28
-enum-known-r : tie.Need-enum-known-r
-enum-known-r c = search needs
-
--- src/component/simplify.rt:139:37
 by-type-requires : tie.Need-by-type-requires
 by-type-requires c κs =
     let s = c .before .before .before in
@@ -32,11 +19,6 @@ by-type-requires c κs =
     reads-measured i (a .tree) (p .0) (s .simplify .result) (simplifyRange (usbrOf i (a .tree) (p .0) (a .self .range))) h (q .0 .0) (q .0 .1 .0) (q .1),
     whole-positive i (a .tree) (p .0) (a .self) (s .simplify .result) h (q .0 .0) (q .0 .1 .0) (q .1))
 
--- src/component/simplify.rt:140:33
-enum-known-n : tie.Need-enum-known-n
-enum-known-n c = search needs
-
--- src/component/simplify.rt:131:5
 returns : tie.Need-returns
 returns c base at p =
     let s = c .before .before .before .before in
@@ -49,7 +31,6 @@ returns c base at p =
     (reads-measured i (a .tree) base (s .simplify .result) (simplifyRange (usbrOf i (a .tree) base (a .self .range))) h (q .0 .0) (q .0 .1 .0) (q .1))
     (whole-positive i (a .tree) base (a .self) (s .simplify .result) h (q .0 .0) (q .0 .1 .0) (q .1)))
 
--- src/component/simplify.rt:131:5
 returns-2 : tie.Need-returns-2
 returns-2 c base at p =
     let s = c .before .before .before in
@@ -58,6 +39,4 @@ returns-2 c base at p =
     whole-refused (now (a .image)) (a .tree) base (a .self) (s .simplify .result) (s .simplify .ensures base (p .range)) at (n .0 .0) (n .1)
 
 pub simplify-spec : {M : Type 1} → statement M
-simplify-spec =
-    tie.close
-    (tie.spec simplify-requires enum-known-r by-type-requires enum-known-n returns returns-2)
+simplify-spec = tie.close (tie.spec (λ c κs. search needs) (λ c. search needs) by-type-requires (λ c. search needs) returns returns-2)

@@ -3,23 +3,7 @@ use Rattle.stages.proofs.ranges.usbr.Gates.{start-below, end-below, wid
 use borrow.Author.Needs.{needs}
 use Rattle.stages.proofs.ranges.types.Usbr.checked.Statement.{statement}
 use Rattle.stages.proofs.ranges.types.Usbr.checked.Tie as tie
-use Rattle.stages.proofs.ranges.types.Usbr.checked.Reads as reads
-use Rattle.stages.proofs.ranges.types.Usbr.checked.Lts as lts
-use Rattle.stages.proofs.ranges.types.Usb.static_val.Reads as static-val-reads
-use Rattle.stages.proofs.ranges.types.Usbr.static_width.Reads as static-width-reads
-use Rattle.stages.proofs.ranges.usbr.below_zero.Reads as below-zero-reads
-use Rattle.stages.proofs.ranges.usbr.end_val.Reads as end-val-reads
-use Rattle.stages.proofs.ranges.usbr.refused_width.Reads as refused-width-reads
 
--- src/ranges/usbr.rt:155:23
-static-val-requires : tie.Need-static-val-requires
-static-val-requires c κs = search needs
-
--- src/ranges/usbr.rt:155:12
-below-zero-requires : tie.Need-below-zero-requires
-below-zero-requires c κs = search needs
-
--- src/ranges/usbr.rt:156:13
 returns : tie.Need-returns
 returns c base f =
     let s = c .before .before in
@@ -27,15 +11,6 @@ returns c base f =
     start-below (now (a .image)) (a .tree) base (a .self) f (s .static-val .result) (s .static-val .ensures (now (a .image)) (a .tree) base)
     (c .before .below-zero .result) (c .before .below-zero .ensures) (c .if1 .taken)
 
--- src/ranges/usbr.rt:158:23
-end-val-requires : tie.Need-end-val-requires
-end-val-requires c κs = search needs
-
--- src/ranges/usbr.rt:158:12
-below-zero-requires-2 : tie.Need-below-zero-requires-2
-below-zero-requires-2 c κs = search needs
-
--- src/ranges/usbr.rt:159:13
 returns-2 : tie.Need-returns-2
 returns-2 c base f =
     let s = c .before .before .before .before .before in
@@ -46,15 +21,6 @@ returns-2 c base f =
     (z .before .below-zero .result) (z .before .below-zero .ensures) (z .if1 .left)
     (e .result) (e .ensures (now (a .image)) (a .tree) base) (c .before .below-zero2 .result) (c .before .below-zero2 .ensures) (c .if2 .taken)
 
--- src/ranges/usbr.rt:161:13
-static-width-requires : tie.Need-static-width-requires
-static-width-requires c κs = search needs
-
--- src/ranges/usbr.rt:162:13
-refused-width-requires : tie.Need-refused-width-requires
-refused-width-requires c κs = search needs
-
--- src/ranges/usbr.rt:164:13
 returns-3 : tie.Need-returns-3
 returns-3 c base f =
     let y = c .before .before .before in
@@ -68,7 +34,6 @@ returns-3 c base f =
     (c .before .before .static-width .result) (c .before .before .static-width .ensures base) (c .before .refused-width .result) (c .before .refused-width .ensures)
     (c .if3 .taken)
 
--- src/ranges/usbr.rt:148:5
 returns-4 : tie.Need-returns-4
 returns-4 c base f =
     let y = c .before .before .before in
@@ -84,15 +49,5 @@ returns-4 c base f =
 
 pub checked-spec : {M : Type 1} → statement M
 checked-spec =
-    tie.close
-    (tie.spec
-    static-val-requires
-    below-zero-requires
-    returns
-    end-val-requires
-    below-zero-requires-2
-    returns-2
-    static-width-requires
-    refused-width-requires
-    returns-3
-    returns-4)
+    tie.close (tie.spec (λ c κs. search needs) (λ c κs. search needs) returns (λ c κs. search needs) (λ c κs. search needs) returns-2
+    (λ c κs. search needs) (λ c κs. search needs) returns-3 returns-4)

@@ -4,20 +4,7 @@ use Rattle.stages.proofs.ranges.usbr.Joins.{range-fits, simplify-ok, si
 use borrow.Author.Needs.{needs}
 use Rattle.stages.proofs.ranges.types.Usbr.simplify.Statement.{statement}
 use Rattle.stages.proofs.ranges.types.Usbr.simplify.Tie as tie
-use Rattle.stages.proofs.ranges.types.Usbr.simplify.Reads as reads
-use Rattle.stages.proofs.ranges.types.Usbr.simplify.Lts as lts
-use Rattle.stages.proofs.ranges.types.Usbr.checked.Reads as checked-reads
-use Rattle.stages.proofs.ranges.types.Usbr.numbers.Reads as numbers-reads
 
--- src/ranges/usbr.rt:175:15
-numbers-requires : tie.Need-numbers-requires
-numbers-requires c κs = search needs
-
--- src/ranges/usbr.rt:176:29
-enum-known-r : tie.Need-enum-known-r
-enum-known-r c = search needs
-
--- src/ranges/usbr.rt:176:35
 checked-requires : tie.Need-checked-requires
 checked-requires c κs =
     let s = c .before .before .before in
@@ -27,15 +14,6 @@ checked-requires c κs =
     (b, range-fits (now (p .args .image)) (p .args .tree) b (usbrOf (now (p .args .image)) (p .args .tree) b (p .args .self)) (s .numbers .result)
     (s .numbers .ensures b (p .pre .1)) (r .0 .0) (r .1))
 
--- src/ranges/usbr.rt:177:37
-enum-told : tie.Need-enum-told
-enum-told c = search needs
-
--- src/ranges/usbr.rt:178:34
-enum-known-n : tie.Need-enum-known-n
-enum-known-n c = search needs
-
--- src/ranges/usbr.rt:170:5
 returns : tie.Need-returns
 returns c base f =
     let s = c .before .before .before .before in
@@ -46,7 +24,6 @@ returns c base f =
     simplify-ok (now (a .image)) (a .tree) base v (s .numbers .result) h (r .0 .0) (c .checked .result) (r .1)
     (c .checked .ensures base (range-fits (now (a .image)) (a .tree) base v (s .numbers .result) h (r .0 .0) (r .1)))
 
--- src/ranges/usbr.rt:170:5
 returns-2 : tie.Need-returns-2
 returns-2 c base f =
     let s = c .before .before in
@@ -54,7 +31,6 @@ returns-2 c base f =
     simplify-never (now (a .image)) (a .tree) base (usbrOf (now (a .image)) (a .tree) base (a .self)) (s .numbers .result) (s .numbers .ensures base f)
     (c .enum-told .given .1)
 
--- src/ranges/usbr.rt:170:5
 returns-3 : tie.Need-returns-3
 returns-3 c base f =
     let s = c .before .before .before in
@@ -65,13 +41,5 @@ returns-3 c base f =
 
 pub simplify-spec : {M : Type 1} → statement M
 simplify-spec =
-    tie.close
-    (tie.spec
-    numbers-requires
-    enum-known-r
-    checked-requires
-    enum-told
-    enum-known-n
-    returns
-    returns-2
-    returns-3)
+    tie.close (tie.spec (λ c κs. search needs) (λ c. search needs) checked-requires (λ c. search needs) (λ c. search needs) returns
+    returns-2 returns-3)
