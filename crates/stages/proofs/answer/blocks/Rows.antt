@@ -72,7 +72,7 @@ told f d e = go (d .c-type) e
     one t = record { c-type = t; range = d .range }
 
     by-bits : (t : Def.ComponentType) → f ≡ flagsOf (one t) → Bits (flagsOf (one t)) (kindNumber t) (isStaticLiteral (one t)) (hasEnd (d .range)) → Told f (one t)
-    by-bits t e b = rw e (record { kind = b .0; ends = b .1 .0; static = b .1 .1 })
+    by-bits t e b = rw e (record { kind = b .0; ends = b .1; static = b .2 })
 
     go : (t : Def.ComponentType) → f ≡ flagsOf (one t) → Told f (one t)
     go (Def.literal b) e = by-bits (Def.literal b) e (literal-flags (isStaticLiteral (one (Def.literal b))) (hasEnd (d .range)) (staticWidth (d .range)))
@@ -130,10 +130,10 @@ module _ (words : List ℕ) (w : ℕ) (r : Row) (h : FieldsAt words w r) where
       rw (a, b, c, d, e, h 4 (omega arith), h 5 (omega arith), h 6 (omega arith), h 7 (omega arith), h 8 (omega arith), h 9 (omega arith)) refl
 
   pub plain-at : plainBlock words w ≡ headBlock (r .flags) (r .content) ++ rowRange r
-  plain-at = ap₂ join (rw (flags-at, h 1 (omega arith)) refl) (sym range-at)
+  plain-at = ap₂ join (ap₂ (λ f g. headBlock f g) flags-at (h 1 (omega arith))) (sym range-at)
 
   pub open-at : (bits offset : ℕ) → openBlock words w bits offset ≡ literalBlock bits offset (r .flags / 4 % 2) ++ rowRange r
-  open-at bits offset = ap₂ join (rw flags-at refl) (sym range-at)
+  open-at bits offset = ap₂ join (ap (λ f. literalBlock bits offset (f / 4 % 2)) flags-at) (sym range-at)
 
 -- ---- the four blocks
 
@@ -146,7 +146,7 @@ module _ (image words : List ℕ) (w : ℕ) (r : Row) (at : FieldsAt words w r) 
       plain-at words w r at
       ∙ ap (λ (l : List ℕ). l ++ u32 (r .flags / 4 % 2) ++ rowRange r)
       (ap₂ (λ k n. u32 k ++ wordBytes n ++ wordBytes 0) (told (r .flags) (of (Def.variable q) .value) (h .flags) .kind) (h .content .0)
-      ∙ ap (λ (l : List ℕ). u32 2 ++ l ++ wordBytes 0) (text-word base q (h .content .1 .0))
+      ∙ ap (λ (l : List ℕ). u32 2 ++ l ++ wordBytes 0) (text-word base q (h .content .1))
       ∙ sym (append-assoc (u32 2 ++ textBytes base q) (u32 0) (u32 0)))
       ∙ rest-is image r (of (Def.variable q)) h (u32 2 ++ textBytes base q ++ u32 0 ++ u32 0)
 
