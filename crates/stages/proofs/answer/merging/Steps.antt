@@ -24,7 +24,7 @@ use Rattle.stages.specs.answer.merging.State.{Holds, LongerIs, Closes, C
 use Rattle.stages.specs.declared.answer.merging.Writing.{Writing}
 use Rattle.stages.specs.declared.answer.merging.Merging.{Merging}
 use Rattle.stages.proofs.answer.blocks.Rows.{kindNumber, variable-block, filler-block, literal-block}
-use Rattle.stages.proofs.answer.merging.Stored.{RowAt, BitsAt, bits-at}
+use Rattle.stages.proofs.answer.merging.Stored.{RowAt, BitsAt, placeAt, fromAt, toAt}
 use Rattle.stages.proofs.answer.merging.Closing.{at-rest, no-run, same-area, Behind, block-put, block-first}
 
 -- the literal of an open run is among the literals to come
@@ -141,9 +141,9 @@ module _ (d : Placed Component) where
         go (Def.variable q) e at c = absurd (omega arith)
         go Def.filler e at c = absurd (omega arith)
 
-    module _ (place from to : ℕ) (few : to < 2 ^ 32) (same : bitsOf (d .value) ≡ bitsFrom (drop place image) from (to - from)) where
+    module _ (b : BitsAt image words k d) where
       pub open-room : (ms : List (Placed Component)) (s o : Merging) (entry mid : List ℕ) → s .running ≡ false → Prepared.Bits (bitsOf (d .value))
-          → Closable entry s (d ∷ ms) → LongerIs image place from to s o entry mid → length mid ≡ length entry → o .w .at + 72 ≤ length mid
+          → Closable entry s (d ∷ ms) → LongerIs image (placeAt words k) (fromAt words k) (toAt words k) s o entry mid → length mid ≡ length entry → o .w .at + 72 ≤ length mid
       open-room ms s o entry mid e bits h more long = go (h .run) (no-run (h .base) entry s (h .run) (h .holds) e) (h .holds) (h .room)
         where
           go : (u : Run) → u ≡ none → Holds (h .base) entry s u → Room (h .base) (s .w) (closed u (d ∷ ms)) → o .w .at + 72 ≤ length mid
@@ -154,12 +154,12 @@ module _ (d : Placed Component) where
               let r₃ = room .offsets in
               let l = same-area (h .base) entry s none held in
               let n = length-literals d ms in
-              let (_, w-is) = more (h .base) none d held bits few same (omega arith) (omega arith) in
+              let (_, w-is) = more (h .base) none d held bits (b .few) (b .same) (omega arith) (omega arith) in
               let at-is : o .w .at ≡ s .w .at = ap (λ (v : Writing). v .at) w-is in
               omega arith
 
       pub open-other : (s o r : Merging) (entry mid after : List ℕ) → length entry < 2 ^ 64 → s .running ≡ false → kindNumber (d .value .c-type) ≡ 1
-          → LongerIs image place from to s o entry mid
+          → LongerIs image (placeAt words k) (fromAt words k) (toAt words k) s o entry mid
           → after ≡ sets mid (o .w .at) (openBlock words (11 * k) (o .bits % 2 ^ 32) (o .w .offset % 2 ^ 32)) → Behind (o .w) (o .bits) r
           → OtherIs d s r entry after
       open-other s o r entry mid after long e one more put behind =
@@ -168,15 +168,15 @@ module _ (d : Placed Component) where
           let n = length-literals d ms in
           let r₁ = room .literal-block in
           let r₂ = room .offsets in
-          let (held, w-is) = more base none d h bits few same (omega arith) (omega arith) in
+          let (held, w-is) = more base none d h bits (b .few) (b .same) (omega arith) (omega arith) in
           go base ms h room held w-is)
         where
           block : o .bits ≡ length (bitsOf (d .value)) → o .w .offset < 2 ^ 32 → length (bitsOf (d .value)) < 2 ^ 32
               → openBlock words (11 * k) (o .bits % 2 ^ 32) (o .w .offset % 2 ^ 32) ≡ componentBytes (o .w .offset) d
           block c low small =
-              let b : o .bits % 2 ^ 32 ≡ length (bitsOf (d .value)) = omega arith in
+              let n : o .bits % 2 ^ 32 ≡ length (bitsOf (d .value)) = omega arith in
               let f : o .w .offset % 2 ^ 32 ≡ o .w .offset = omega arith in
-              ap (openBlock words (11 * k) (o .bits % 2 ^ 32)) f ∙ open-is (o .bits % 2 ^ 32) (o .w .offset) one b
+              ap (openBlock words (11 * k) (o .bits % 2 ^ 32)) f ∙ open-is (o .bits % 2 ^ 32) (o .w .offset) one n
 
           go : (base : List ℕ) (ms : List (Placed Component)) → Holds base entry s none → Room base (s .w) (d ∷ ms)
               → Holds base mid o (some (longer none d)) → o .w ≡ s .w → (after ≡ putOne base (s .w) d) × (r ≡ at-rest (writtenOne (s .w) d))
@@ -201,15 +201,15 @@ module _ (d : Placed Component) where
           same = subst (λ (ms : List (Placed Component)). Same base (s .w) ms (cl .area) (r .w) (mergeFrom none cs)) (sym e) (cl .same);
         }
 
-    pub static-step : (image : List ℕ) (at from to : ℕ) (r : Merging) (after : List ℕ) → isStaticLiteral (d .value) ≡ true → to < 2 ^ 32
-        → bitsOf (d .value) ≡ bitsFrom (drop at image) from (to - from) → LongerIs image at from to s r entry after → StepIs d s r entry after
-    static-step image at from to r after t last same more base o cs h bits room =
+    pub static-step : (image words : List ℕ) (k : ℕ) (r : Merging) (after : List ℕ) → isStaticLiteral (d .value) ≡ true → BitsAt image words k d
+        → LongerIs image (placeAt words k) (fromAt words k) (toAt words k) s r entry after → StepIs d s r entry after
+    static-step image words k r after t at more base o cs h bits room =
         let e : mergeFrom o (d ∷ cs) ≡ mergeFrom (some (longer o d)) cs = from-static o d cs t in
         let room₁ : Room base (s .w) (mergeFrom (some (longer o d)) cs) = subst (λ (ms : List (Placed Component)). Room base (s .w) ms) e room in
         let f = room₁ .literal-block in
         let g = room₁ .offsets in
         let l = run-first (some (longer o d)) cs in
-        let (held, w-is) = more base o d h bits last same (omega arith) (omega arith) in
+        let (held, w-is) = more base o d h bits (at .few) (at .same) (omega arith) (omega arith) in
         go e room₁ held w-is
       where
         go : mergeFrom o (d ∷ cs) ≡ mergeFrom (some (longer o d)) cs → Room base (s .w) (mergeFrom (some (longer o d)) cs)

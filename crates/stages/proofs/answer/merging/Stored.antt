@@ -103,14 +103,21 @@ row-at image words k d h = go (h .rows) (h .are) (h .holds)
 pub row-fits : {image words : List ℕ} {k : ℕ} {d : Placed Component} → IsAt image words k d → 11 * k + 11 ≤ length words
 row-fits {image} {words} {k} {d} h = row-at image words k d h .fits
 
--- a literal's bits in the image: from, to and the byte where they begin are words
+-- a literal's bits in the image: the byte where they begin, from and to are words
+abbrev pub placeAt : List ℕ → ℕ → ℕ
+placeAt words k = getD words (11 * k + 10) 0
+
+abbrev pub fromAt : List ℕ → ℕ → ℕ
+fromAt words k = getD words (11 * k + 1) 0 % 2 ^ 32
+
+abbrev pub toAt : List ℕ → ℕ → ℕ
+toAt words k = getD words (11 * k + 1) 0 / 2 ^ 32
+
 pub record BitsAt (image words : List ℕ) (k : ℕ) (d : Placed Component) : Type 0 where
-  pub order : getD words (11 * k + 1) 0 % 2 ^ 32 ≤ getD words (11 * k + 1) 0 / 2 ^ 32
-  pub few : getD words (11 * k + 1) 0 / 2 ^ 32 < 2 ^ 32
-  pub room : getD words (11 * k + 10) 0 ≤ length image
-  pub same : bitsOf (d .value)
-      ≡ bitsFrom (drop (getD words (11 * k + 10) 0) image) (getD words (11 * k + 1) 0 % 2 ^ 32)
-      (getD words (11 * k + 1) 0 / 2 ^ 32 - getD words (11 * k + 1) 0 % 2 ^ 32)
+  pub order : fromAt words k ≤ toAt words k
+  pub few : toAt words k < 2 ^ 32
+  pub room : placeAt words k ≤ length image
+  pub same : bitsOf (d .value) ≡ bitsFrom (drop (placeAt words k) image) (fromAt words k) (toAt words k - fromAt words k)
 
 module _ (image words : List ℕ) (k : ℕ) (d : Placed Component) (h : RowAt image words k d) where
   flags-are : getD words (11 * k) 0 ≡ h .row .flags

@@ -50,7 +50,7 @@ returns c =
     let at = row-at (a .image .now) (a .words .now) (a .k) d is in
     let t = is-static _ _ (static-at (a .image .now) (a .words .now) (a .k) d at) (c .before .before .before .before .before .before .if1 .taken) in
     let b = bits-at (a .image .now) (a .words .now) (a .k) d at (static-kind (d .value) t) in
-    static-step d (a .area .now) (a .s) (a .image .now) _ _ _ (l .result) _ t (b .few) (b .same) (l .ensures)
+    static-step d (a .area .now) (a .s) (a .image .now) (a .words .now) (a .k) (l .result) _ t b (l .ensures)
 
 put-other-requires : tie.Need-put-other-requires
 put-other-requires c κs =

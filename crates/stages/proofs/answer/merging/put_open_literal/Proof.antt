@@ -42,7 +42,7 @@ put-open-requires c κs =
     let l = c .before .before .before .before .before .before .lengthen in
     let at = row-at (a .image .now) (a .words .now) (a .k) d is in
     let b = bits-at (a .image .now) (a .words .now) (a .k) d at (sym (kind-at (a .image .now) (a .words .now) (a .k) d at) ∙ kind) in
-    (at .fits, open-room d (a .image .now) (a .words .now) (a .k) at _ _ _ (b .few) (b .same) ms (a .s) (l .result) (a .area .now) _ rests (fixed .bits) room
+    (at .fits, open-room d (a .image .now) (a .words .now) (a .k) at b ms (a .s) (l .result) (a .area .now) _ rests (fixed .bits) room
     (l .ensures) (l .kept .0))
 
 returns : tie.Need-returns
@@ -53,7 +53,7 @@ returns c =
     let at = row-at (a .image .now) (a .words .now) (a .k) d is in
     let one = sym (kind-at (a .image .now) (a .words .now) (a .k) d at) ∙ kind in
     let b = bits-at (a .image .now) (a .words .now) (a .k) d at one in
-    open-other d (a .image .now) (a .words .now) (a .k) at _ _ _ (b .few) (b .same) (a .s) (l .result) (c .behind .result) (a .area .now) _ _
+    open-other d (a .image .now) (a .words .now) (a .k) at b (a .s) (l .result) (c .behind .result) (a .area .now) _ _
     (c .before .before .before .before .before .before .before .before .before .before .before .before .before .before .before .before .before .good .0 .0) rests one (l .ensures) (c .before .before .before .put-open .ensures) (c .behind .ensures)
 
 pub put-open-literal-spec : {M : Type 1} → statement M

@@ -30,7 +30,7 @@ loop-holds c =
 put-requires : tie.Need-put-requires Inv-loop μ-loop
 put-requires c κs =
     let a = c .before .before .before .before .before .before .before .before .before .args in
-    let (_, cs, n, kept, fixed, room) = c .before .before .before .before .before .before .before .before .before .pre in
+    let (cs, n, kept, fixed, room) = c .before .before .before .before .before .before .before .before .before .pre .1 in
     let l = c .before .before .before .before .loop in
     let h = c .before .before .if1 .taken in
     to-put (a .image .now) (a .words .now) (a .self .first .0 + l .j) (a .self .len - l .j) (a .area .now) (a .w) (merge cs) (l .area) (l .s) (omega arith)
@@ -50,7 +50,7 @@ loop-again c =
 close-requires : tie.Need-close-requires Inv-loop μ-loop
 close-requires c κs =
     let a = c .before .before .before .before .before .before .before .before .args in
-    let (_, cs, n, kept, fixed, room) = c .before .before .before .before .before .before .before .before .pre in
+    let (cs, n, kept, fixed, room) = c .before .before .before .before .before .before .before .before .pre .1 in
     let l = c .before .before .before .loop in
     let h = c .before .if1 .left in
     to-end (a .image .now) (a .words .now) (a .self .first .0 + l .j) (a .self .len - l .j) (a .area .now) (a .w) (merge cs) (l .area) (l .s) (omega arith)
