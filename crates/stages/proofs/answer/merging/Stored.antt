@@ -71,6 +71,12 @@ kept-split image words k a b h = go (parted image (h .rows) a b (h .are))
           },
         )
 
+rows-length : (image : List ℕ) (rs : List Row) (ps : List (Placed Component)) → RowsAre image rs ps → length rs ≡ length ps
+rows-length image [] [] h = refl
+rows-length image [] (p ∷ ps) h = absurd h
+rows-length image (r ∷ rs) [] h = absurd h
+rows-length image (r ∷ rs) (p ∷ ps) h = ap suc (rows-length image rs ps (h .1))
+
 -- ---- one component
 
 pub record RowAt (image words : List ℕ) (k : ℕ) (d : Placed Component) : Type 0 where
@@ -102,6 +108,15 @@ row-at image words k d h = go (h .rows) (h .are) (h .holds)
 
 pub row-fits : {image words : List ℕ} {k : ℕ} {d : Placed Component} → IsAt image words k d → 11 * k + 11 ≤ length words
 row-fits {image} {words} {k} {d} h = row-at image words k d h .fits
+
+-- some components lie within the store
+pub kept-within : (image words : List ℕ) (k : ℕ) (ps : List (Placed Component)) → KeptFrom image words k ps → 1 ≤ length ps
+    → 11 * (k + length ps) ≤ length words
+kept-within image words k ps h some =
+    let n = words-length (h .rows) in
+    let m = rows-length image (h .rows) ps (h .are) in
+    let f = within words (11 * k) (wordsOf (h .rows)) (h .holds) (omega arith) in
+    omega arith
 
 -- a literal's bits in the image: the byte where they begin, from and to are words
 abbrev pub placeAt : List ℕ → ℕ → ℕ
