@@ -1,3 +1,4 @@
+use mathlib.Core.Path.{refl}
 use Rattle.stages.proofs.component.read.without_start.Statement.{statement}
 use Rattle.stages.proofs.component.read.without_start.Tie as tie
 use Rattle.stages.proofs.component.read.without_start.Reads as reads
@@ -5,7 +6,7 @@ use Rattle.stages.proofs.component.read.without_start.Lts as lts
 
 -- src/component/read.rt:114:9
 returns : tie.Need-returns
-returns c = ?
+returns c = let l = c .before .if1 .taken in rw (le-leb _ _ l) refl
 
 -- src/component/read.rt:117:9
 returns-2 : tie.Need-returns-2
