@@ -1,7 +1,6 @@
-use mathlib.Core.Path.{refl, ap, _∙_}
-use Prim.Native.Nat.{_+_}
+use mathlib.Core.Path.{refl}
 use native.Mathlib.Omega.{arith}
-use Rattle.definition.specs.Answer.{flag as flagOf}
+use Rattle.stages.proofs.component.keep.Saving.{literal-flags, variable-flags}
 use borrow.Author.Needs.{needs}
 use Rattle.stages.proofs.component.keep.type_flags.Statement.{statement}
 use Rattle.stages.proofs.component.keep.type_flags.Tie as tie
@@ -53,8 +52,8 @@ returns c =
     let e = c .flag .ensures in
     (
       (let l = e .1 in omega (arith, l)),
-      λ image t base at g. rw (c .before .before .before .enum-told .given .1)
-          (ap (λ n. 1 + n) (e .0 ∙ ap (λ b. flagOf b 32) (rw (c .before .before .before .enum-told .given .1) at (c .before .is-static-literal .ensures image t base at)))),
+      λ image t base at g. literal-flags image t base at (c .before .before .before .before .args .c) _ (c .before .before .enum-told .given .1)
+          (c .flag .result) (c .before .is-static-literal .result) (e .0) (c .before .is-static-literal .ensures image t base at),
     )
 
 -- src/component/keep.rt:86:1
@@ -63,8 +62,8 @@ returns-2 c =
     let e = c .flag2 .ensures in
     (
       (let l = e .1 in omega (arith, l)),
-      λ image t base at g. rw (c .before .before .before .enum-told2 .given .1)
-          (ap (λ n. 2 + n) (e .0 ∙ ap (λ b. flagOf b 64) (rw (c .before .before .before .enum-told2 .given .1) at (c .before .has-full-range .ensures image t base at g)))),
+      λ image t base at g. variable-flags image t base at (c .before .before .before .before .args .c) _ (c .before .before .enum-told2 .given .1)
+          (c .flag2 .result) (c .before .has-full-range .result) (e .0) (c .before .has-full-range .ensures image t base at g),
     )
 
 -- src/component/keep.rt:86:1
