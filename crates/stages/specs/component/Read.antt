@@ -90,6 +90,7 @@ walkFrom = record { k = record { 0 = 0 }; r = record { 0 = 0 }; l = 0; second = 
 -- room for n components from the walk's on
 pub record WalkFits (image : List ℕ) (t : Tables) (w : Walk) (n room : ℕ) : Type 0 where
   pub tables : TablesFit image t (w .k .0) (w .l) n
+  pub literals : t .literals + w .l ≤ length image
   pub words : 11 * (w .k .0 + n) ≤ room
 
 -- component j of concatenation i, whose text begins at s

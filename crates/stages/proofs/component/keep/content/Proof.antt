@@ -28,11 +28,11 @@ enum-told c = search needs
 
 -- src/component/keep.rt:75:1
 returns : tie.Need-returns
-returns c = ?
+returns c = rw (c .before .before .t .given .1) (c .pair .ensures)
 
 -- src/component/keep.rt:75:1
 returns-2 : tie.Need-returns-2
-returns-2 c = ?
+returns-2 c = rw (c .before .before .t2 .given .1) (c .text-word .ensures)
 
 -- src/component/keep.rt:75:1
 returns-3 : tie.Need-returns-3

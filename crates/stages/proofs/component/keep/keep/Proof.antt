@@ -1,3 +1,7 @@
+use mathlib.Core.Path.{ap, _∙_}
+use Prim.Native.Nat.{_*_}
+use lib.Seq.{sets}
+use Rattle.stages.specs.component.Kept.{fieldsOf}
 use borrow.Author.Needs.{needs}
 use Rattle.stages.proofs.component.keep.keep.Statement.{statement}
 use Rattle.stages.proofs.component.keep.keep.Tie as tie
@@ -24,7 +28,9 @@ same-length c = search needs
 
 -- src/component/keep.rt:156:1
 returns : tie.Need-returns
-returns c = ?
+returns c = λ image t base h g.
+    let a = c .before .before .before .before .before .before .args in
+    c .before .before .save .ensures ∙ ap (λ r. sets (a .words .now) (11 * a .k) (fieldsOf r)) (c .before .before .before .row-of .ensures image t base h g)
 
 pub keep-spec : {M : Type 1} → statement M
 keep-spec = tie.close (tie.spec mul-save row-of-requires save-requires same-length returns)

@@ -1,3 +1,6 @@
+use mathlib.Core.Path.{refl}
+use native.Mathlib.Omega.{arith}
+use Rattle.stages.proofs.component.keep.Saving.{width-small}
 use borrow.Author.Needs.{needs}
 use Rattle.stages.proofs.component.keep.row_of.Statement.{statement}
 use Rattle.stages.proofs.component.keep.row_of.Tie as tie
@@ -38,7 +41,12 @@ width-flag-requires c κs = search needs
 
 -- src/component/keep.rt:121:16
 add-t14 : tie.Need-add-t14
-add-t14 c = ?
+add-t14 c =
+    let a = c .before .before .before .type-flags .ensures .0 in
+    let b = c .before .flag .ensures .1 in
+    let e = c .width-flag .ensures in
+    let l = width-small (c .before .before .before .before .before .before .before .args .c .width) in
+    omega (arith, a, b, e, l)
 
 -- src/component/keep.rt:122:18
 content-requires : tie.Need-content-requires
@@ -58,7 +66,15 @@ words-of-requires-2 c κs = search needs
 
 -- src/component/keep.rt:109:1
 returns : tie.Need-returns
-returns c = ?
+returns c = λ image t base h g.
+    rw (
+      c .words-of2 .ensures, c .before .end-or-zero .ensures, c .before .before .words-of .ensures, c .before .before .before .content .ensures,
+      c .before .before .before .before .width-flag .ensures, c .before .before .before .before .before .flag .ensures .0,
+      c .before .before .before .before .before .before .has-end .ensures,
+      c .before .before .before .before .before .before .before .type-flags .ensures .1 image t base
+      (c .before .before .before .before .before .before .before .before .before .before .before .args .literal) g,
+      c .before .before .before .before .before .before .before .before .width-or-zero .ensures
+    ) refl
 
 pub row-of-spec : {M : Type 1} → statement M
 row-of-spec =

@@ -1,3 +1,6 @@
+use native.Mathlib.Omega.{arith}
+use lib.ListN.{length-set}
+use Rattle.stages.proofs.component.keep.Saving.{three-saved}
 use borrow.Author.Needs.{needs}
 use Rattle.stages.proofs.component.keep.save_words.Statement.{statement}
 use Rattle.stages.proofs.component.keep.save_words.Tie as tie
@@ -22,7 +25,7 @@ mul-words-2 c = search needs
 
 -- src/component/keep.rt:136:5
 slice-write-words-2 : tie.Need-slice-write-words-2
-slice-write-words-2 c = ?
+slice-write-words-2 c = simp length-set (omega arith)
 
 -- src/component/keep.rt:137:11
 add-words-2 : tie.Need-add-words-2
@@ -34,7 +37,7 @@ mul-words-3 c = search needs
 
 -- src/component/keep.rt:137:5
 slice-write-words-3 : tie.Need-slice-write-words-3
-slice-write-words-3 c = ?
+slice-write-words-3 c = simp length-set (omega arith)
 
 -- src/component/keep.rt:131:1
 same-length : tie.Need-same-length
@@ -42,7 +45,7 @@ same-length c = search needs
 
 -- src/component/keep.rt:131:1
 returns : tie.Need-returns
-returns c = ?
+returns c = three-saved (c .args .words .now) (c .args .at) (c .args .w)
 
 pub save-words-spec : {M : Type 1} → statement M
 save-words-spec =

@@ -1,3 +1,6 @@
+use mathlib.Core.Path.{refl}
+use native.Mathlib.Omega.{arith}
+use Rattle.stages.proofs.component.keep.Saving.{literal-flags, variable-flags}
 use borrow.Author.Needs.{needs}
 use Rattle.stages.proofs.component.keep.type_flags.Statement.{statement}
 use Rattle.stages.proofs.component.keep.type_flags.Tie as tie
@@ -45,15 +48,27 @@ enum-told-3 c = search needs
 
 -- src/component/keep.rt:86:1
 returns : tie.Need-returns
-returns c = ?
+returns c =
+    let e = c .flag .ensures in
+    (
+      (let l = e .1 in omega (arith, l)),
+      λ image t base at g. literal-flags image t base at (c .before .before .before .before .args .c) _ (c .before .before .enum-told .given .1)
+          (c .flag .result) (c .before .is-static-literal .result) (e .0) (c .before .is-static-literal .ensures image t base at),
+    )
 
 -- src/component/keep.rt:86:1
 returns-2 : tie.Need-returns-2
-returns-2 c = ?
+returns-2 c =
+    let e = c .flag2 .ensures in
+    (
+      (let l = e .1 in omega (arith, l)),
+      λ image t base at g. variable-flags image t base at (c .before .before .before .before .args .c) _ (c .before .before .enum-told2 .given .1)
+          (c .flag2 .result) (c .before .has-full-range .result) (e .0) (c .before .has-full-range .ensures image t base at g),
+    )
 
 -- src/component/keep.rt:86:1
 returns-3 : tie.Need-returns-3
-returns-3 c = ?
+returns-3 c = (omega arith, λ image t base at g. rw (c .enum-told3 .given .1) refl)
 
 pub type-flags-spec : {M : Type 1} → statement M
 type-flags-spec =

@@ -1,3 +1,4 @@
+use mathlib.Core.Path.{refl}
 use borrow.Author.Needs.{needs}
 use Rattle.stages.proofs.component.keep.width_or_zero.Statement.{statement}
 use Rattle.stages.proofs.component.keep.width_or_zero.Tie as tie
@@ -18,7 +19,7 @@ returns c = search needs
 
 -- src/component/keep.rt:60:1
 returns-2 : tie.Need-returns-2
-returns-2 c = ?
+returns-2 c = rw (c .enum-told .given .1) refl
 
 pub width-or-zero-spec : {M : Type 1} → statement M
 width-or-zero-spec = tie.close (tie.spec enum-known-x enum-told returns returns-2)

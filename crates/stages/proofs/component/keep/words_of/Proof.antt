@@ -1,3 +1,4 @@
+use mathlib.Core.Path.{refl}
 use borrow.Author.Needs.{needs}
 use Rattle.stages.proofs.component.keep.words_of.Statement.{statement}
 use Rattle.stages.proofs.component.keep.words_of.Tie as tie
@@ -11,7 +12,7 @@ text-word-requires c κs = search needs
 
 -- src/component/keep.rt:98:1
 returns : tie.Need-returns
-returns c = ?
+returns c = rw (c .text-word .ensures) refl
 
 pub words-of-spec : {M : Type 1} → statement M
 words-of-spec = tie.close (tie.spec text-word-requires returns)

@@ -27,7 +27,7 @@ returns c = search needs
 
 -- src/component/read.rt:82:1
 returns-2 : tie.Need-returns-2
-returns-2 c = ?
+returns-2 c = rw (c .before .before .q .given .1) (c .refused .ensures)
 
 -- src/component/read.rt:82:1
 returns-3 : tie.Need-returns-3

@@ -1,3 +1,4 @@
+use Rattle.stages.proofs.component.read.Verdicts.{parsed-is, parsed-held, first-refused, read-ok}
 use borrow.Author.Needs.{needs}
 use Rattle.stages.proofs.component.read.read.Statement.{statement}
 use Rattle.stages.proofs.component.read.read.Tie as tie
@@ -17,7 +18,15 @@ enum-known-c c = search needs
 
 -- src/component/read.rt:56:42
 simplify-requires : tie.Need-simplify-requires
-simplify-requires c κs = ?
+simplify-requires c κs =
+    let a = c .before .before .before .before .before .args in
+    let p = c .before .before .before .before .before .pre in
+    let u = p .2 .1 in
+    (
+      u .base,
+      parsed-held (a .image .now) (a .tree) (u .base) 0 _ _ (c .before .before .before .parse-component .ensures (u .base) (p .2 .0) 0 (u .items) (p .0) (u .laid))
+      _ (c .before .c .given .1),
+    )
 
 -- src/component/read.rt:56:35
 staged-requires : tie.Need-staged-requires
@@ -29,11 +38,22 @@ enum-known-n c = search needs
 
 -- src/component/read.rt:49:1
 returns : tie.Need-returns
-returns c = ?
+returns c = λ base s at is l.
+    let a = c .before .before .before .before .before .before .before .args in
+    let p = c .before .before .before .before .before .before .before .pre in
+    let r = c .before .before .before .before .before .parse-component .ensures base s at is (p .0) l in
+    let e = c .before .before .before .c .given .1 in
+    let h = parsed-held (a .image .now) (a .tree) base at _ _ r _ e in
+    rw (c .staged .ensures)
+    (read-ok (a .image .now) (a .tree) base at _ (c .before .simplify .result) _ (parsed-is (a .image .now) (a .tree) base at _ _ r _ e) h
+    (c .before .simplify .ensures base at h))
 
 -- src/component/read.rt:49:1
 returns-2 : tie.Need-returns-2
-returns-2 c = ?
+returns-2 c = λ base s at is l.
+    let a = c .before .before .before .before .before .args in
+    let p = c .before .before .before .before .before .pre in
+    first-refused (a .image .now) (a .tree) base at _ _ (c .before .before .before .parse-component .ensures base s at is (p .0) l) _ (c .before .n .given .1)
 
 pub read-spec : {M : Type 1} → statement M
 read-spec =

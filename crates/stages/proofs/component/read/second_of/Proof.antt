@@ -1,3 +1,5 @@
+use mathlib.Core.Path.{refl, sym, _∙_}
+use Rattle.stages.proofs.component.read.Verdicts.{second-stays, passed}
 use borrow.Author.Needs.{needs}
 use Rattle.stages.proofs.component.read.second_of.Statement.{statement}
 use Rattle.stages.proofs.component.read.second_of.Tie as tie
@@ -12,7 +14,9 @@ is-refused-requires c κs = search needs
 
 -- src/component/read.rt:97:9
 returns : tie.Need-returns
-returns c = ?
+returns c =
+    let a = c .before .before .args in
+    second-stays (a .second) (a .q) (a .i) (a .j) (sym (c .before .is-refused .ensures) ∙ c .if1 .taken)
 
 -- src/component/read.rt:100:30
 enum-told : tie.Need-enum-told
@@ -32,15 +36,21 @@ refused-requires c κs = search needs
 
 -- src/component/read.rt:93:1
 returns-2 : tie.Need-returns-2
-returns-2 c = ?
+returns-2 c =
+    let p = passed (c .before .before .before .before .args .second) (sym (c .before .before .before .is-refused .ensures) ∙ c .before .before .if1 .left) in
+    rw (p, c .enum-told .given .1) refl
 
 -- src/component/read.rt:93:1
 returns-3 : tie.Need-returns-3
-returns-3 c = ?
+returns-3 c =
+    let p = passed (c .before .before .before .before .args .second) (sym (c .before .before .before .is-refused .ensures) ∙ c .before .before .if1 .left) in
+    rw (p, c .enum-told2 .given .1) refl
 
 -- src/component/read.rt:93:1
 returns-4 : tie.Need-returns-4
-returns-4 c = ?
+returns-4 c =
+    let p = passed (c .before .before .before .before .before .before .args .second) (sym (c .before .before .before .before .before .is-refused .ensures) ∙ c .before .before .before .before .if1 .left) in
+    rw (p, c .before .before .q .given .1) (c .refused .ensures)
 
 pub second-of-spec : {M : Type 1} → statement M
 second-of-spec =

@@ -1,3 +1,4 @@
+use mathlib.Core.Path.{refl}
 use borrow.Author.Needs.{needs}
 use Rattle.stages.proofs.component.read.staged.Statement.{statement}
 use Rattle.stages.proofs.component.read.staged.Tie as tie
@@ -14,11 +15,11 @@ enum-known-q-2 c = search needs
 
 -- src/component/read.rt:39:1
 returns : tie.Need-returns
-returns c = ?
+returns c = rw (c .before .q .given .1) refl
 
 -- src/component/read.rt:39:1
 returns-2 : tie.Need-returns-2
-returns-2 c = ?
+returns-2 c = rw (c .before .q2 .given .1) refl
 
 pub staged-spec : {M : Type 1} → statement M
 staged-spec = tie.close (tie.spec enum-known-q enum-known-q-2 returns returns-2)
