@@ -1,21 +1,14 @@
+-- `token_tree::table::run_of` meets its contract.
+use denote.Ref.{now}
 use borrow.Author.Needs.{needs}
+use Rattle.stages.proofs.token_tree.Made.{run-by}
 use Rattle.stages.proofs.token_tree.table.run_of.Statement.{statement}
 use Rattle.stages.proofs.token_tree.table.run_of.Tie as tie
-use Rattle.stages.proofs.token_tree.table.run_of.Reads as reads
-use Rattle.stages.proofs.token_tree.table.run_of.Lts as lts
-use Rattle.stages.proofs.token_tree.items.start_or.Reads as start-or-reads
 
--- src/token_tree/table.rt:74:22
-add-t10 : tie.Need-add-t10
-add-t10 c = search needs
-
--- src/token_tree/table.rt:75:9
-start-or-requires : tie.Need-start-or-requires
-start-or-requires c κs = search needs
-
--- src/token_tree/table.rt:67:1
 returns : tie.Need-returns
-returns c = ?
+returns c =
+    let a = c .before .before .before .before .before .before .args in
+    run-by (now (a .image)) (a .t) (a .r) (a .records) (c .start-or .result) (c .start-or .ensures)
 
 pub run-of-spec : {M : Type 1} → statement M
-run-of-spec = tie.close (tie.spec add-t10 start-or-requires returns)
+run-of-spec = tie.close (tie.spec (λ c. search needs) (λ c κs. search needs) returns)

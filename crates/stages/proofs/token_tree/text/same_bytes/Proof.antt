@@ -1,53 +1,41 @@
+-- `token_tree::text::same_bytes` meets its contract. The invariant: from place i on, the bytes left compare as all do.
+use mathlib.Core.Path.{_≡_, sym, _∙_}
+use Prim.Native.Nat.{_-_, _≤_}
+use denote.Ref.{now}
+use borrow.Author.Needs.{needs}
+use Rattle.definition.specs.Basics.{sameBytes}
+use Rattle.definition.specs.Image.{bytesAt}
+use Rattle.stages.proofs.token_tree.Same.{sameFrom, same-start, same-again, same-not, same-end}
 use Rattle.stages.proofs.token_tree.text.same_bytes.Statement.{statement}
 use Rattle.stages.proofs.token_tree.text.same_bytes.Tie as tie
-use Rattle.stages.proofs.token_tree.text.same_bytes.Reads as reads
-use Rattle.stages.proofs.token_tree.text.same_bytes.Lts as lts
 
 abbrev Inv-loop : tie.InvT-loop
-Inv-loop image p q n i₀ i = ?
+Inv-loop image p q n i₀ i = (i ≤ n) × (sameFrom image p q n i ≡ sameBytes (bytesAt image p n) (bytesAt image q n))
 
 abbrev μ-loop : tie.MeasureT-loop
-μ-loop image p q n i₀ i = ?
+μ-loop image p q n i₀ i = n - i
 
--- src/token_tree/text.rt:61:5
 loop-holds : tie.Need-loop-holds Inv-loop μ-loop
-loop-holds c = ?
+loop-holds c = (search needs, same-start (now (c .args .image)) (c .args .p) (c .args .q) (c .args .n))
 
--- src/token_tree/text.rt:62:18
-add-if1 : tie.Need-add-if1 Inv-loop μ-loop
-add-if1 c = ?
-
--- src/token_tree/text.rt:62:12
-shared-slice-read-if1 : tie.Need-shared-slice-read-if1 Inv-loop μ-loop
-shared-slice-read-if1 c = ?
-
--- src/token_tree/text.rt:62:34
-add-if1-2 : tie.Need-add-if1-2 Inv-loop μ-loop
-add-if1-2 c = ?
-
--- src/token_tree/text.rt:62:28
-shared-slice-read-if1-2 : tie.Need-shared-slice-read-if1-2 Inv-loop μ-loop
-shared-slice-read-if1-2 c = ?
-
--- src/token_tree/text.rt:63:13
 returns : tie.Need-returns Inv-loop μ-loop
-returns c = ?
+returns c =
+    let a = c .before .before .before .before .before .args in
+    same-not (now (a .image)) (a .p) (a .q) (a .n) (c .before .before .before .before .loop .i) (c .before .before .before .loop-test .taken) (c .if1 .taken)
+    ∙ c .before .before .before .before .loop .inv .1
 
--- src/token_tree/text.rt:65:9
-add-i : tie.Need-add-i Inv-loop μ-loop
-add-i c = ?
-
--- src/token_tree/text.rt:61:5
-loop-less : tie.Need-loop-less Inv-loop μ-loop
-loop-less c = ?
-
--- src/token_tree/text.rt:61:5
 loop-again : tie.Need-loop-again Inv-loop μ-loop
-loop-again c = ?
+loop-again c =
+    let a = c .before .before .before .before .before .args in (
+      search needs,
+      same-again (now (a .image)) (a .p) (a .q) (a .n) (c .before .before .before .before .loop .i) (c .before .before .before .loop-test .taken) (c .if1 .left)
+          ∙ c .before .before .before .before .loop .inv .1,
+    )
 
--- src/token_tree/text.rt:56:1
 returns-2 : tie.Need-returns-2 Inv-loop μ-loop
-returns-2 c = ?
+returns-2 c =
+    let a = c .before .before .args in
+    same-end (now (a .image)) (a .p) (a .q) (a .n) (c .before .loop .i) (c .loop-test .left) (c .before .loop .inv .0) ∙ c .before .loop .inv .1
 
 pub same-bytes-spec : {M : Type 1} → statement M
 same-bytes-spec =
@@ -56,12 +44,12 @@ same-bytes-spec =
     Inv-loop
     μ-loop
     loop-holds
-    add-if1
-    shared-slice-read-if1
-    add-if1-2
-    shared-slice-read-if1-2
+    (λ c. search needs)
+    (λ c. search needs)
+    (λ c. search needs)
+    (λ c. search needs)
     returns
-    add-i
-    loop-less
+    (λ c. search needs)
+    (λ c. search needs)
     loop-again
     returns-2)

@@ -1,0 +1,1 @@
+-- The starting value of a tree: of the last component of its concatenation 0.
