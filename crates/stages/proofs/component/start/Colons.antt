@@ -52,7 +52,7 @@ module _ (image : List ℕ) (t : Tree) (base stop tail r : ℕ) where
   pub data Seeing (is : List Item) (seen at s : ℕ) : Type 0 where
     closed : (rest : List Item) → seen ≡ stop → Laid image t base stop tail at s rest
         → colonPlace image t r stop (splitColon is) ≡ colonPlace image t at stop (splitColon rest) → Seeing is seen at s
-    open : (sign : Item) (rest : List Item) → isToken 58 sign ≡ true → (seen ≡ stop → ⊥) → at ≡ seen + skipIn image t seen
+    opening : (sign : Item) (rest : List Item) → isToken 58 sign ≡ true → (seen ≡ stop → ⊥) → at ≡ seen + skipIn image t seen
         → Laid image t base stop tail at s rest → colonPlace image t r stop (splitColon is) ≡ colonPlace image t seen stop (splitColon (sign ∷ rest))
         → Seeing is seen at s
 
@@ -64,7 +64,7 @@ module _ (image : List ℕ) (t : Tree) (base stop tail r : ℕ) where
   seeing-end is seen at s (closed rest a h e) l =
       let n = laid-none image t base stop tail at s rest l h .0 in
       a ∙ sym (e ∙ ap (λ x. colonPlace image t at stop (splitColon x)) n ∙ ap (colonPlace image t at stop) colon-none)
-  seeing-end is seen at s (open sign rest k a b h e) l =
+  seeing-end is seen at s (opening sign rest k a b h e) l =
       let n = laid-none image t base stop tail at s rest l h .0 in
       place-here seen [] ∙ sym (e ∙ ap (λ x. colonPlace image t seen stop (splitColon (sign ∷ x))) n ∙ ap (colonPlace image t seen stop) (colon-single sign k))
 
@@ -97,10 +97,10 @@ module _ (image : List ℕ) (t : Tree) (base stop tail r : ℕ) where
       seeing-colon seen′ (closed rest a h e) z q =
           let p = step rest h in
           let i : seen′ ≡ at = q ∙ rw (eq-eqb seen stop a) refl in
-          open (p .item) (p .more) (p .token ∙ eq-eqb b 58 z) (λ y. let w : _≡_ {A = ℕ} seen′ stop = y in omega (arith, w, i, l))
+          opening (p .item) (p .more) (p .token ∙ eq-eqb b 58 z) (λ y. let w : _≡_ {A = ℕ} seen′ stop = y in omega (arith, w, i, l))
           (en ∙ ap (λ x. x + skipIn image t x) (sym i)) (p .laid)
           (e ∙ ap (λ x. colonPlace image t at stop (splitColon x)) (p .parts) ∙ ap (λ x. colonPlace image t x stop (splitColon (p .item ∷ p .more))) (sym i))
-      seeing-colon seen′ (open sign rest k a c h e) z q =
+      seeing-colon seen′ (opening sign rest k a c h e) z q =
           let p = step rest h in
           let d = colon-double sign (p .item) (p .more) k (p .token ∙ eq-eqb b 58 z) in
           closed (p .more) (q ∙ rw (ne-eqb seen stop a) refl) (p .laid)
@@ -121,11 +121,11 @@ module _ (image : List ℕ) (t : Tree) (base stop tail r : ℕ) where
           ∙ ap (colonPlace image t at stop) (colon-other (p .item) (p .more) (p .token ∙ ne-eqb b 58 z))
           ∙ place-beyond at (p .item) (splitColon (p .more))
           ∙ ap (λ x. colonPlace image t x stop (splitColon (p .more))) (sym en))
-      seeing-other (open sign rest k a c h e) z y = absurd (a y)
+      seeing-other (opening sign rest k a c h e) z y = absurd (a y)
 
       pub seeing-found : Seeing is seen at s → (b ≡ 58 → ⊥) → (seen ≡ stop → ⊥) → seen ≡ colonPlace image t r stop (splitColon is)
       seeing-found (closed rest a h e) z y = absurd (y a)
-      seeing-found (open sign rest k a c h e) z y =
+      seeing-found (opening sign rest k a c h e) z y =
           let p = step rest h in
           place-here seen (p .item ∷ p .more)
           ∙ sym (e

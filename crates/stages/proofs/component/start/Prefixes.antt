@@ -14,7 +14,7 @@ use Rattle.laws.specs.Tests.{and-iff}
 use Rattle.stages.specs.token_tree.Table.{kindIn, startIn, skipIn, RecordFits}
 use Rattle.stages.specs.token_tree.Laid.{Laid, Runs, placeOf}
 use Rattle.stages.specs.token_tree.Parts.{noPart, partBy, partOf}
-use Rattle.stages.specs.component.Start.{colonPlace, ColonAt, PrefixReads}
+use Rattle.stages.specs.component.Start.{colonPlace, ColonAt, prefixValue, startResult, PrefixReads}
 use Rattle.stages.specs.declared.token_tree.types.Tree.{Tree}
 use Rattle.stages.specs.declared.token_tree.types.Part.{Part}
 use Rattle.stages.specs.declared.component.start.StartResult.{StartResult}
@@ -24,9 +24,27 @@ use Rattle.stages.proofs.component.parse.Splits.{Colon, colon-parts}
 use Rattle.stages.proofs.component.parse.Texts.{laid-part, laid-base, part-fits}
 use Rattle.stages.proofs.component.parse.Endings.{range-last, range-none, LastAt, last-kind}
 
+pub below : (a b : ℕ) → a ≤ b → (a ≡ b → ⊥) → a < b
+below a b l n = omega (arith, l, n)
+
 not-group : (a b : Bool) → (not a && b) ≡ true → a ≡ false
 not-group false b h = refl
 not-group true b h = sym h
+
+one-byte : (l : List ℕ) → sameBytes l (58 ∷ []) ≡ true → length l ≡ 1
+unfolding sameBytes
+one-byte [] e = let z : _≡_ {A = ℕ} 0 1 = cc in absurd (omega (arith, z))
+one-byte (x ∷ []) e = refl
+one-byte (x ∷ y ∷ l) e =
+    let f : false ≡ true = (and-iff (eqb x 58) false) .0 e .1 in
+    let z : _≡_ {A = ℕ} 0 1 = cc in absurd (omega (arith, z))
+
+some-value : (image : List ℕ) (t : Tree) (base k colon : ℕ) (p : Prefix) (i : Item) (l : List Item) (u : Part) → p .after ≡ i ∷ l
+    → Text.partOf (p .before) ≡ partOf image t base u
+    → startResult image t base (S.Ok (record { after = record { 0 = colon + 1 }; s = u })) ≡ prefixValue base k (some p)
+some-value image t base k colon p i l u a b =
+    let nz : eqb (colon + 1) 0 ≡ false = ne-eqb (colon + 1) 0 (λ v. let v′ : _≡_ {A = ℕ} (colon + 1) 0 = v in omega (arith, v′)) in
+    rw (nz, a, b) refl
 
 module _ (image : List ℕ) (t : Tree) (base stop tail r s colon : ℕ) (mid : List Item) (h : Laid image t base stop tail r s mid) where
   -- a colon that is found
@@ -68,11 +86,6 @@ module _ (image : List ℕ) (t : Tree) (base stop tail r s colon : ℕ) (mid : L
         behind = subst (λ x. Laid image t base stop tail (colon + x) (sp .from + 1) (p .after)) k
             (subst (λ x. Laid image t base stop tail (colon + skipIn image t colon) (sp .from + x) (p .after)) n (a .1));
       }
-    where
-      one-byte : (l : List ℕ) → sameBytes l (58 ∷ []) ≡ true → length l ≡ 1
-      one-byte [] e = let z : _≡_ {A = ℕ} 0 1 = cc in absurd (omega (arith, z))
-      one-byte (x ∷ []) e = refl
-      one-byte (x ∷ y ∷ l) e = let z : _≡_ {A = Bool} false true = sym ((and-iff (eqb x 58) false) .0 e .1) in absurd (omega (arith))
 
   module _ (e : colon ≡ colonPlace image t r stop (splitColon mid)) where
     -- what is asked to read it, where the run lies within the image
@@ -145,21 +158,18 @@ module _ (image : List ℕ) (t : Tree) (base stop tail r s colon : ℕ) (mid : L
           go (some p) g w =
               let d = found p g w in
               let rm = d .room in
-              let l = laid-first image t base stop tail (colon + 1) (d .from + 1) (p .after) (less z′ rm) (d .behind) in
+              let l = laid-first image t base stop tail (colon + 1) (d .from + 1) (p .after) (below (colon + 1) stop rm z′) (d .behind) in
               let ux : u ≡ partBy s (d .from) = eu ∙ ap (λ v. partBy v y) (ex ∙ d .first-is) ∙ ap (partBy s) (ey ∙ d .start-is) in
               let fit = at .fits (omega (arith, rm)) in
               let si = d .start-is in
-              let nz : eqb (colon + 1) 0 ≡ false = ne-eqb (colon + 1) 0 (λ v. let v′ : _≡_ {A = ℕ} (colon + 1) 0 = v in omega (arith, v′)) in
               rw (f, ux) (record {
-                is = rw (nz, l .parts, laid-part image t base colon (d .from) r s (p .before) (d .before)) refl;
+                is = some-value image t base k colon p (l .item) (l .rest) (partBy s (d .from)) (l .parts)
+                    (laid-part image t base colon (d .from) r s (p .before) (d .before));
                 held = (d .place, record {
                   part = part-fits image t base s (d .from) (laid-base image t base colon (d .from) r s (p .before) (d .before)) (d .texts) (omega (arith, fit, si));
                   none = λ v. absurd (let v′ : _≡_ {A = ℕ} (colon + 1) 0 = v in omega (arith, v′));
                 });
               })
-            where
-              less : (colon + 1 ≡ stop → ⊥) → colon + 1 ≤ stop → colon + 1 < stop
-              less n l = omega (arith, n, l)
 
 -- ---- a run: its items before a range in brackets
 
