@@ -47,6 +47,8 @@ pub record ColonAt (image : List ℕ) (t : Table) (r colon to : ℕ) : Type 0 wh
   pub first : colon < to → RecordFits image t r
   pub sign : colon < to → RecordFits image t colon
   pub texts : colon < to → startIn image t r ≤ startIn image t colon
+  pub fits : colon < to → t .text + startIn image t colon ≤ length image
+  pub room : t .text ≤ length image
   pub few : to < 2 ^ 31
 
 -- ---- the starting value

@@ -1,49 +1,61 @@
+use mathlib.Core.Path.{refl, sym, _∙_}
 use borrow.Author.Needs.{needs}
+use denote.Ref.{now}
+use Rattle.definition.specs.Image.{bitsAt}
+use Rattle.stages.proofs.component.parse.Endings.{last-at, last-fits, last-kind, last-some, ended-by}
+use Rattle.stages.proofs.component.parse.Wholes.{items-plain, items-lone, items-bracket}
 use Rattle.stages.proofs.component.parse.parse_component.Statement.{statement}
 use Rattle.stages.proofs.component.parse.parse_component.Tie as tie
-use Rattle.stages.proofs.component.parse.parse_component.Reads as reads
-use Rattle.stages.proofs.component.parse.parse_component.Lts as lts
-use Rattle.stages.proofs.component.parse.bracketed.Reads as bracketed-reads
-use Rattle.stages.proofs.component.parse.unbracketed.Reads as unbracketed-reads
-use Rattle.stages.proofs.token_tree.items.last_item.Reads as last-item-reads
-use Rattle.stages.proofs.token_tree.items.record.Reads as record-reads
 
--- src/component/parse.rt:124:9
-last-item-requires : tie.Need-last-item-requires
-last-item-requires c κs = search needs
-
--- src/component/parse.rt:125:9
 record-requires : tie.Need-record-requires
-record-requires c κs = ?
+record-requires c κs =
+    let a = c .before .before .before .before .before .args in
+    let p = c .before .before .before .before .before .pre in
+    let w = p .1 .1 in
+    let l = c .last-item in
+    last-fits (now (a .image)) (a .tree) (a .run .stop .0) (a .run .«end» .0) (a .run .r .0) (l .result .0) (p .1 .0) w
+    (last-at (now (a .image)) (a .tree) (a .run .stop .0) (a .run .«end» .0) (a .run .r .0) (l .result .0) (p .0) (l .ensures) (w .base) (p .1 .0) (w .items) (w .laid))
 
--- src/component/parse.rt:127:9
-unbracketed-requires : tie.Need-unbracketed-requires
-unbracketed-requires c κs = search needs
-
--- src/component/parse.rt:127:9
 returns : tie.Need-returns
-returns c = ?
+returns c base s literal is few h =
+    let a = c .before .before .before .before .before .before .before .before .before .args in
+    let l = c .before .before .before .before .last-item in
+    let t = last-at (now (a .image)) (a .tree) (a .run .stop .0) (a .run .«end» .0) (a .run .r .0) (l .result .0) (c .before .before .before .before .before .before .before .before .before .pre .0) (l .ensures) base s is h in
+    items-plain (now (a .image)) (a .tree) (a .run .stop .0) (a .run .«end» .0) (a .run .r .0) (l .result .0) base s is t _ (c .before .before .before .«record» .ensures .0) literal
+    (bitsAt (now (a .image)) literal (a .w)) _ (c .before .if1 .taken) (c .unbracketed .ensures base s literal is few h)
 
--- src/component/parse.rt:130:9
 returns-2 : tie.Need-returns-2
-returns-2 c = ?
+returns-2 c base s literal is few h =
+    let a = c .before .before .before .before .before .before .before .before .before .before .before .args in
+    let l = c .before .before .before .before .before .before .last-item in
+    let t = last-at (now (a .image)) (a .tree) (a .run .stop .0) (a .run .«end» .0) (a .run .r .0) (l .result .0) (c .before .before .before .before .before .before .before .before .before .before .before .pre .0) (l .ensures) base s is h in
+    items-lone (now (a .image)) (a .tree) (a .run .stop .0) (a .run .«end» .0) (a .run .r .0) (l .result .0) base s is t _ (c .before .before .before .before .before .«record» .ensures .0) literal
+    (bitsAt (now (a .image)) literal (a .w)) _ (c .before .before .before .if1 .left) (c .if2 .taken) refl
 
--- src/component/parse.rt:132:5
 bracketed-requires : tie.Need-bracketed-requires
-bracketed-requires c κs = ?
+bracketed-requires c κs =
+    let a = c .before .before .before .before .before .before .before .before .before .before .before .args in
+    let p = c .before .before .before .before .before .before .before .before .before .before .before .pre in
+    let w = p .1 .1 in
+    let l = c .before .before .before .before .before .before .last-item in
+    let t = last-at (now (a .image)) (a .tree) (a .run .stop .0) (a .run .«end» .0) (a .run .r .0) (l .result .0) (p .0) (l .ensures) (w .base) (p .1 .0) (w .items) (w .laid) in
+    let k = last-kind (now (a .image)) (a .tree) (a .run .stop .0) (a .run .«end» .0) (a .run .r .0) (l .result .0) (w .base) (p .1 .0) (w .items) t _ (c .before .before .before .before .before .«record» .ensures .0) in
+    let m = last-some (now (a .image)) (a .tree) (a .run .stop .0) (a .run .«end» .0) (a .run .r .0) (l .result .0) (w .base) (p .1 .0) (w .items) t (c .if2 .left) in
+    (p .1, (w .base, p .1 .0, t .mid, t .item,
+    ended-by (now (a .image)) (a .tree) (a .run) (l .result .0) (w .base) (p .1 .0) (w .items) (w .laid) t (sym k ∙ c .before .before .before .if1 .left) m))
 
--- src/component/parse.rt:115:1
 returns-3 : tie.Need-returns-3
-returns-3 c = ?
+returns-3 c base s literal is few h =
+    let a = c .before .before .before .before .before .before .before .before .before .before .before .before .args in
+    let l = c .before .before .before .before .before .before .before .last-item in
+    let t = last-at (now (a .image)) (a .tree) (a .run .stop .0) (a .run .«end» .0) (a .run .r .0) (l .result .0) (c .before .before .before .before .before .before .before .before .before .before .before .before .pre .0) (l .ensures) base s is h in
+    let k = last-kind (now (a .image)) (a .tree) (a .run .stop .0) (a .run .«end» .0) (a .run .r .0) (l .result .0) base s is t _ (c .before .before .before .before .before .before .«record» .ensures .0) in
+    let m = last-some (now (a .image)) (a .tree) (a .run .stop .0) (a .run .«end» .0) (a .run .r .0) (l .result .0) base s is t (c .before .if2 .left) in
+    items-bracket (now (a .image)) (a .tree) (a .run .stop .0) (a .run .«end» .0) (a .run .r .0) (l .result .0) base s is t _ (c .before .before .before .before .before .before .«record» .ensures .0) literal
+    (bitsAt (now (a .image)) literal (a .w)) _ (c .before .before .before .before .if1 .left)
+    (c .bracketed .ensures base s literal (t .mid) (t .item) few
+    (ended-by (now (a .image)) (a .tree) (a .run) (l .result .0) base s is h t (sym k ∙ c .before .before .before .before .if1 .left) m))
 
 pub parse-component-spec : {M : Type 1} → statement M
 parse-component-spec =
-    tie.close
-    (tie.spec
-    last-item-requires
-    record-requires
-    unbracketed-requires
-    returns
-    returns-2
-    bracketed-requires
-    returns-3)
+    tie.close (tie.spec (λ c κs. search needs) record-requires (λ c κs. search needs) returns returns-2 bracketed-requires returns-3)

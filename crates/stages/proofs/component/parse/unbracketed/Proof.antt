@@ -1,70 +1,48 @@
+use mathlib.Core.Path.{refl}
+use native.Mathlib.Omega.{arith}
 use borrow.Author.Needs.{needs}
+use denote.Ref.{now}
+use Rattle.definition.specs.Image.{bitsAt}
+use Rattle.stages.proofs.component.parse.Types.{plain-filler, plain-typed, plain-refused, unbounded-is}
+use Rattle.stages.proofs.component.parse.Wholes.{plain-laid, plain-fits}
 use Rattle.stages.proofs.component.parse.unbracketed.Statement.{statement}
 use Rattle.stages.proofs.component.parse.unbracketed.Tie as tie
-use Rattle.stages.proofs.component.parse.unbracketed.Reads as reads
-use Rattle.stages.proofs.component.parse.unbracketed.Lts as lts
-use Rattle.stages.proofs.component.parse.component_of.Reads as component-of-reads
-use Rattle.stages.proofs.component.parse.typed.Reads as typed-reads
-use Rattle.stages.proofs.ranges.range.parse_range.Reads as parse-range-reads
-use Rattle.stages.proofs.ranges.types.Usbr.unbounded.Reads as unbounded-reads
-use Rattle.stages.proofs.token_tree.items.start_of.Reads as start-of-reads
 
--- src/component/parse.rt:106:9
-start-of-requires : tie.Need-start-of-requires
-start-of-requires c κs = search needs
-
--- src/component/parse.rt:107:11
-parse-range-requires : tie.Need-parse-range-requires
-parse-range-requires c κs = search needs
-
--- src/component/parse.rt:108:25
-enum-known-range : tie.Need-enum-known-range
-enum-known-range c = search needs
-
--- src/component/parse.rt:108:35
-component-of-requires : tie.Need-component-of-requires
-component-of-requires c κs = search needs
-
--- src/component/parse.rt:109:63
-enum-told : tie.Need-enum-told
-enum-told c = search needs
-
--- src/component/parse.rt:109:63
-unbounded-requires : tie.Need-unbounded-requires
-unbounded-requires c κs = search needs
-
--- src/component/parse.rt:109:33
 typed-requires : tie.Need-typed-requires
-typed-requires c κs = ?
+typed-requires c κs =
+    let a = c .before .before .before .before .before .before .before .before .args in
+    let p = c .before .before .before .before .before .before .before .before .pre in
+    plain-fits (now (a .image)) (a .tree) (a .run .stop .0) (a .run .«end» .0) (a .run .r .0) (p .0) (p .1 .0) _ (p .1 .1) (c .before .before .before .before .start-of .ensures)
 
--- src/component/parse.rt:110:30
-enum-known-n : tie.Need-enum-known-n
-enum-known-n c = search needs
-
--- src/component/parse.rt:98:1
 returns : tie.Need-returns
-returns c = ?
+returns c base s literal is few h =
+    let a = c .before .before .before .before .before .before .before .before .before .args in
+    let p = c .before .before .before .before .parse-range in
+    let l = plain-laid (now (a .image)) (a .tree) (a .run .stop .0) (a .run .«end» .0) (a .run .r .0) (c .before .before .before .before .before .before .before .before .before .pre .0) base s is _ h (c .before .before .before .before .before .start-of .ensures) in
+    plain-filler (now (a .image)) (a .tree) base literal is (bitsAt (now (a .image)) literal (a .w)) (l .0) _ (p .result) (p .ensures base s is h) _
+    (c .before .before .range .given .1) (c .component-of .ensures)
 
--- src/component/parse.rt:98:1
 returns-2 : tie.Need-returns-2
-returns-2 c = ?
+returns-2 c base s literal is few h =
+    let a = c .before .before .before .before .before .before .before .before .before .args in
+    let q = c .before .before .before .before .before .before .before .before .before .pre in
+    let p = c .before .before .before .before .parse-range in
+    let l = plain-laid (now (a .image)) (a .tree) (a .run .stop .0) (a .run .«end» .0) (a .run .r .0) (q .0) base s is _ h (c .before .before .before .before .before .start-of .ensures) in
+    let f = q .1 .1 .text-fits in
+    let u = unbounded-is (now (a .image)) (a .tree) base _ (c .before .unbounded .ensures) (omega (arith, f)) in
+    plain-typed (now (a .image)) (a .tree) base literal is (bitsAt (now (a .image)) literal (a .w)) (l .0) _ (p .result) (p .ensures base s is h) (c .before .unbounded .result)
+    (c .before .before .enum-told .given .1) (u .0) (c .typed .ensures base literal (a .run .r .0) (a .run .stop .0) is few (l .0) (l .1) (u .1))
 
--- src/component/parse.rt:98:1
 returns-3 : tie.Need-returns-3
-returns-3 c = ?
+returns-3 c base s literal is few h =
+    let a = c .before .before .before .before .before .before .before .before .args in
+    let p = c .before .before .before .parse-range in
+    let l = plain-laid (now (a .image)) (a .tree) (a .run .stop .0) (a .run .«end» .0) (a .run .r .0) (c .before .before .before .before .before .before .before .before .pre .0) base s is _ h (c .before .before .before .before .start-of .ensures) in
+    plain-refused (now (a .image)) (a .tree) base literal is (bitsAt (now (a .image)) literal (a .w)) (l .0) _ (p .result) (p .ensures base s is h) _
+    (c .before .n .given .1) refl
 
 pub unbracketed-spec : {M : Type 1} → statement M
 unbracketed-spec =
     tie.close
-    (tie.spec
-    start-of-requires
-    parse-range-requires
-    enum-known-range
-    component-of-requires
-    enum-told
-    unbounded-requires
-    typed-requires
-    enum-known-n
-    returns
-    returns-2
-    returns-3)
+    (tie.spec (λ c κs. search needs) (λ c κs. search needs) (λ c. search needs) (λ c κs. search needs) (λ c. search needs) (λ c κs. search needs)
+    typed-requires (λ c. search needs) returns returns-2 returns-3)

@@ -1,15 +1,13 @@
+use mathlib.Core.Path.{refl}
+use borrow.Author.Tests.{eq-eqb, ne-eqb}
 use Rattle.stages.proofs.component.start.opened.Statement.{statement}
 use Rattle.stages.proofs.component.start.opened.Tie as tie
-use Rattle.stages.proofs.component.start.opened.Reads as reads
-use Rattle.stages.proofs.component.start.opened.Lts as lts
 
--- src/component/start.rt:58:1
 returns : tie.Need-returns
-returns c = ?
+returns c = let a = c .before .before .before .args in rw (eq-eqb (a .seen .0) (a .stop .0) (c .if1 .taken)) refl
 
--- src/component/start.rt:58:1
 returns-2 : tie.Need-returns-2
-returns-2 c = ?
+returns-2 c = let a = c .before .before .before .args in rw (ne-eqb (a .seen .0) (a .stop .0) (c .if1 .left)) refl
 
 pub opened-spec : {M : Type 1} → statement M
 opened-spec = tie.close (tie.spec returns returns-2)

@@ -1,0 +1,4 @@
+-- The starting value: laws of its colon, its text and its place.
+pub mod Colons
+pub mod Prefixes
+pub mod Sources
