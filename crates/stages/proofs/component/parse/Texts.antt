@@ -13,7 +13,7 @@ use Rattle.definition.specs.Text.{Item, isGroup, bytesOf}
 use Rattle.definition.specs.Component.{isLiteral}
 use Rattle.laws.specs.Tests.{by-test}
 use Rattle.laws.specs.Padded.{getD-padded}
-use Rattle.image.specs.items.First.{bytes-add}
+use Rattle.laws.specs.Padded.{bytes-add}
 use Rattle.stages.specs.token_tree.Table.{skipIn}
 use Rattle.stages.specs.token_tree.Laid.{Stands, Laid}
 use Rattle.stages.specs.token_tree.Parts.{noPart, partBy, partOf, PartFits}
