@@ -1,50 +1,57 @@
+use mathlib.Core.Path.{_≡_, refl, sym, ap, subst, _∙_}
 use borrow.Author.Needs.{needs}
+use denote.Ref.{now}
+use Rattle.definition.specs.Text.{items}
+use Rattle.definition.specs.Tree.{recsOf}
+use Rattle.stages.proofs.component.start.Sources.{the-source, size-some, size-room, before-fits, run-room, ran-is, last-is}
+use Rattle.stages.proofs.component.start.Afters.{start-reads, start-by}
 use Rattle.stages.proofs.component.start.starting_value.Statement.{statement}
 use Rattle.stages.proofs.component.start.starting_value.Tie as tie
-use Rattle.stages.proofs.component.start.starting_value.Reads as reads
-use Rattle.stages.proofs.component.start.starting_value.Lts as lts
-use Rattle.stages.proofs.component.start.records_before.Reads as records-before-reads
-use Rattle.stages.proofs.component.start.start_in.Reads as start-in-reads
-use Rattle.stages.proofs.token_tree.table.components_of.Reads as components-of-reads
-use Rattle.stages.proofs.token_tree.table.records_of.Reads as records-of-reads
-use Rattle.stages.proofs.token_tree.table.run_of.Reads as run-of-reads
 
--- src/component/start.rt:158:18
-components-of-requires : tie.Need-components-of-requires
-components-of-requires c κs = search needs
-
--- src/component/start.rt:158:18
 sub-t8 : tie.Need-sub-t8
-sub-t8 c = ?
+sub-t8 c =
+    let a = c .before .before .before .args in
+    let g = c .before .before .before .pre .0 in
+    size-some (now (a .image)) g (the-source (now (a .image)) g) (a .t) (c .before .before .before .pre .1) _ (c .components-of .ensures)
 
--- src/component/start.rt:159:9
 records-before-requires : tie.Need-records-before-requires
-records-before-requires c κs = ?
+records-before-requires c κs =
+    let a = c .before .before .before .args in
+    let g = c .before .before .before .pre .0 in
+    before-fits (now (a .image)) g (the-source (now (a .image)) g) (a .t) (c .before .before .before .pre .1) _ (c .components-of .ensures)
 
--- src/component/start.rt:160:35
 records-of-requires : tie.Need-records-of-requires
-records-of-requires c κs = ?
+records-of-requires c κs =
+    let a = c .before .before .before .before .args in
+    let g = c .before .before .before .before .pre .0 in
+    size-room (now (a .image)) g (the-source (now (a .image)) g) (a .t) (c .before .before .before .before .pre .1) _ (c .before .components-of .ensures)
 
--- src/component/start.rt:160:9
 run-of-requires : tie.Need-run-of-requires
-run-of-requires c κs = ?
+run-of-requires c κs =
+    let a = c .before .before .before .before .before .args in
+    let g = c .before .before .before .before .before .pre .0 in
+    run-room (now (a .image)) g (the-source (now (a .image)) g) (a .t) (c .before .before .before .before .before .pre .1) _ (c .before .before .components-of .ensures) _ _ (c .before .records-before .ensures)
+    (c .records-of .ensures)
 
--- src/component/start.rt:161:5
 start-in-requires : tie.Need-start-in-requires
-start-in-requires c κs = ?
+start-in-requires c κs =
+    let a = c .before .before .before .before .before .before .args in
+    let g = c .before .before .before .before .before .before .pre .0 in
+    let d = ran-is (now (a .image)) g (the-source (now (a .image)) g) (a .t) (c .before .before .before .before .before .before .pre .1) _ (c .before .before .before .components-of .ensures) _ _ (c .before .before .records-before .ensures)
+    (c .before .records-of .ensures) (c .run-of .result) (c .run-of .ensures) in
+    (d .some, (_, d .runs))
 
--- src/component/start.rt:153:1
 returns : tie.Need-returns
-returns c = ?
+returns c = λ g.
+    let a = c .before .before .before .before .before .before .before .args in
+    let o = the-source (now (a .image)) g in
+    let et = c .before .before .before .before .before .before .before .pre .1 in
+    let n = c .before .before .before .before .components-of in
+    let d = ran-is (now (a .image)) g o (a .t) et _ (n .ensures) _ _ (c .before .before .before .records-before .ensures) (c .before .before .records-of .ensures) (c .before .run-of .result)
+    (c .before .run-of .ensures) in
+    start-by (now (a .image)) g o (a .t) et _ (last-is (now (a .image)) g o (a .t) et _ (n .ensures)) (c .before .run-of .result) d (c .start-in .result)
+    (c .start-in .ensures _ _ (items 0 (recsOf (o .node))) (d .laid))
 
 pub starting-value-spec : {M : Type 1} → statement M
 starting-value-spec =
-    tie.close
-    (tie.spec
-    components-of-requires
-    sub-t8
-    records-before-requires
-    records-of-requires
-    run-of-requires
-    start-in-requires
-    returns)
+    tie.close (tie.spec (λ c κs. search needs) sub-t8 records-before-requires records-of-requires run-of-requires start-in-requires returns)
