@@ -1,78 +1,103 @@
+use mathlib.Core.List.{List}
+use mathlib.Core.Path.{_≡_, sym, refl, _∙_}
+use Prim.Native.Nat.{ℕ, _≤_, _-_}
+use native.Mathlib.Omega.{arith}
+use borrow.Author.Needs.{needs}
+use lib.ListN.{length, drop}
+use Rattle.definition.specs.Component.{Component}
+use Rattle.definition.specs.Image.{Placed}
+use Rattle.definition.specs.Overall.{placeFrom}
+use Rattle.stages.specs.component.Kept.{KeptFrom}
+use Rattle.stages.specs.concatenation.Check.{asked}
 use Rattle.stages.proofs.concatenation.check.Concatenation.filler.Statement.{statement}
 use Rattle.stages.proofs.concatenation.check.Concatenation.filler.Tie as tie
-use Rattle.stages.proofs.concatenation.check.Concatenation.filler.Reads as reads
-use Rattle.stages.proofs.concatenation.check.Concatenation.filler.Lts as lts
-use Rattle.stages.proofs.concatenation.check.is_filler.Reads as is-filler-reads
+use Rattle.stages.proofs.concatenation.check.KeptRows.{stored}
+use Rattle.stages.proofs.concatenation.check.Turns.{asked-here, asked-on, asked-end}
 
 abbrev Inv-loop : tie.InvT-loop
-Inv-loop self words unbounded k j₀ j = ?
+Inv-loop self words unbounded k j₀ j =
+    (j ≤ self .len)
+    × ((image : List ℕ) (cs : List (Placed Component)) → length cs ≡ self .len → KeptFrom image words (self .first .0) cs
+    → placeFrom (asked unbounded) j (drop j cs) ≡ placeFrom (asked unbounded) 0 cs)
 
 abbrev μ-loop : tie.MeasureT-loop
-μ-loop self words unbounded k j₀ j = ?
+μ-loop self words unbounded k j₀ j = self .len - j
 
--- src/concatenation/check.rt:148:9
 loop-holds : tie.Need-loop-holds Inv-loop μ-loop
-loop-holds c = ?
+loop-holds c = (omega arith, λ image cs e h. refl)
 
--- src/concatenation/check.rt:149:39
 add-is-filler : tie.Need-add-is-filler Inv-loop μ-loop
-add-is-filler c = ?
+add-is-filler c =
+    let p : _ ≤ 256 = c .before .before .before .before .before .before .pre .few in
+    let l = c .before .if1 .taken in
+    omega (arith, p, l)
 
--- src/concatenation/check.rt:149:38
 cast-is-filler : tie.Need-cast-is-filler Inv-loop μ-loop
-cast-is-filler c = ?
+cast-is-filler c =
+    let p : _ ≤ 256 = c .before .before .before .before .before .before .pre .few in
+    let l = c .before .if1 .taken in
+    omega (arith, p, l)
 
--- src/concatenation/check.rt:149:32
 mul-is-filler : tie.Need-mul-is-filler Inv-loop μ-loop
-mul-is-filler c = ?
+mul-is-filler c =
+    let p : _ ≤ 256 = c .before .before .before .before .before .before .pre .few in
+    let l = c .before .if1 .taken in
+    omega (arith, p, l)
 
--- src/concatenation/check.rt:149:26
 mul-is-filler-2 : tie.Need-mul-is-filler-2 Inv-loop μ-loop
-mul-is-filler-2 c = ?
+mul-is-filler-2 c =
+    let p : _ ≤ 256 = c .before .before .before .before .before .before .pre .few in
+    let l = c .before .if1 .taken in
+    omega (arith, p, l)
 
--- src/concatenation/check.rt:149:26
 shared-slice-read-is-filler : tie.Need-shared-slice-read-is-filler Inv-loop μ-loop
-shared-slice-read-is-filler c = ?
+shared-slice-read-is-filler c =
+    let p = c .before .before .before .before .before .before .before .pre .words in
+    let l = c .before .before .if1 .taken in
+    omega (arith, p, l)
 
--- src/concatenation/check.rt:149:16
-is-filler-requires : tie.Need-is-filler-requires Inv-loop μ-loop
-is-filler-requires c κs = ?
-
--- src/concatenation/check.rt:150:17
 returns : tie.Need-returns Inv-loop μ-loop
-returns c = ?
+returns c = λ image cs e h.
+    let v = c .before .before .before .before .before .before .loop in
+    let l = c .before .before .before .before .if1 .taken in
+    let s = c .before .before .before .before .before .before .before .before .before .args in
+    let x = s .self in
+    asked-here image (s .words .now) (x .first .0) (v .j) cs (stored image (s .words .now) cs (x .first .0) (v .j) (x .len) h e l) (s .unbounded)
+    (sym (c .before .is-filler .ensures) ∙ c .if2 .taken)
+    ∙ v .inv .1 image cs e h
 
--- src/concatenation/check.rt:152:13
 add-j : tie.Need-add-j Inv-loop μ-loop
-add-j c = ?
+add-j c =
+    let p : _ ≤ 256 = c .before .before .before .before .before .before .before .before .before .pre .few in
+    let l = c .before .before .before .before .if1 .taken in
+    omega (arith, p, l)
 
--- src/concatenation/check.rt:148:9
 loop-less : tie.Need-loop-less Inv-loop μ-loop
-loop-less c = ?
+loop-less c =
+    let l = c .before .before .before .before .if1 .taken in
+    omega (arith, l)
 
--- src/concatenation/check.rt:148:9
 loop-again : tie.Need-loop-again Inv-loop μ-loop
-loop-again c = ?
+loop-again c =
+    let v = c .before .before .before .before .before .before .loop in
+    let l = c .before .before .before .before .if1 .taken in
+    let s = c .before .before .before .before .before .before .before .before .before .args in
+    let x = s .self in (
+      omega (arith, l),
+      λ image cs e h.
+          asked-on image (s .words .now) (x .first .0) (v .j) cs (stored image (s .words .now) cs (x .first .0) (v .j) (x .len) h e l) (s .unbounded)
+          (sym (c .before .is-filler .ensures) ∙ c .if2 .left)
+          ∙ v .inv .1 image cs e h,
+    )
 
--- src/concatenation/check.rt:141:5
 returns-2 : tie.Need-returns-2 Inv-loop μ-loop
-returns-2 c = ?
+returns-2 c = λ image cs e h.
+    let v = c .before .before .loop in
+    let s = c .before .before .before .before .before .args in
+    asked-end cs (v .j) (s .self .len) (s .unbounded) e (c .if1 .left) ∙ v .inv .1 image cs e h
 
 pub filler-spec : {M : Type 1} → statement M
 filler-spec =
     tie.close
-    (tie.spec
-    Inv-loop
-    μ-loop
-    loop-holds
-    add-is-filler
-    cast-is-filler
-    mul-is-filler
-    mul-is-filler-2
-    shared-slice-read-is-filler
-    is-filler-requires
-    returns
-    add-j
-    loop-less
-    loop-again
-    returns-2)
+    (tie.spec Inv-loop μ-loop loop-holds add-is-filler cast-is-filler mul-is-filler mul-is-filler-2 shared-slice-read-is-filler
+    (λ c κs. search needs) returns add-j loop-less loop-again returns-2)
