@@ -1,47 +1,37 @@
 use borrow.Author.Needs.{needs}
+use Rattle.stages.specs.component.Start.{scannedBase}
+use Rattle.stages.proofs.run.Outcomes.{judged-counts, judged-off, answers, judged-on}
 use Rattle.stages.proofs.run.judged.Statement.{statement}
 use Rattle.stages.proofs.run.judged.Tie as tie
-use Rattle.stages.proofs.run.judged.Reads as reads
-use Rattle.stages.proofs.run.judged.Lts as lts
-use Rattle.stages.proofs.answer.stage5.stage5.Reads as stage5-reads
-use Rattle.stages.proofs.concatenation.stage4.stage4.Reads as stage4-reads
 
--- src/run.rt:40:11
 stage4-requires : tie.Need-stage4-requires
-stage4-requires c κs = ?
+stage4-requires c κs =
+    let s = c .before .before .before .before .before in
+    (_, judged-counts (s .args .area .now) (s .pre .0) (s .pre .1))
 
--- src/run.rt:41:27
-enum-known-o : tie.Need-enum-known-o
-enum-known-o c = search needs
-
--- src/run.rt:41:51
 stage5-requires : tie.Need-stage5-requires
-stage5-requires c κs = ?
+stage5-requires c κs =
+    let s = c .before .before .before .before .before .before .before .before .before .before in
+    let f = s .pre .1 in
+    let q = c .before .before .before .before .stage4 in
+    (scannedBase (s .args .image .now), f .ds, f .heads-long,
+      answers (s .args .area .now) (s .pre .0) f (s .args .mode) (q .result) (q .ensures) (c .before .before .o .given .1))
 
--- src/run.rt:42:32
-enum-known-e : tie.Need-enum-known-e
-enum-known-e c = search needs
-
--- src/run.rt:28:1
-same-length : tie.Need-same-length
-same-length c = search needs
-
--- src/run.rt:28:1
 returns : tie.Need-returns
-returns c = ?
+returns c =
+    let s = c .before .before .before .before .before .before .before .before .before .before .before .before .before in
+    let q = c .before .before .before .before .before .before .before .stage4 in
+    let w = c .before .before .stage5 in
+    judged-on (s .args .area .now) (s .pre .0) (s .pre .1) (s .args .mode) (q .result) (q .ensures)
+    (c .before .before .before .before .before .o .given .1) (w .result) (w .last .0) (w .ensures)
 
--- src/run.rt:28:1
 returns-2 : tie.Need-returns-2
-returns-2 c = ?
+returns-2 c =
+    let s = c .before .before .before .before .before .before .before .before .before in
+    let q = c .before .before .before .stage4 in
+    judged-off (s .args .area .now) (s .pre .0) (s .pre .1) (s .args .mode) (q .result) (q .ensures) (c .before .e .given .1)
 
 pub judged-spec : {M : Type 1} → statement M
 judged-spec =
     tie.close
-    (tie.spec
-    stage4-requires
-    enum-known-o
-    stage5-requires
-    enum-known-e
-    same-length
-    returns
-    returns-2)
+    (tie.spec stage4-requires (λ c. search needs) stage5-requires (λ c. search needs) (λ c. search needs) returns returns-2)

@@ -1,47 +1,29 @@
 use borrow.Author.Needs.{needs}
+use Rattle.stages.proofs.run.Ordered.{entered, whole-entered, whole-refused}
 use Rattle.stages.proofs.run.run.Statement.{statement}
 use Rattle.stages.proofs.run.run.Tie as tie
-use Rattle.stages.proofs.run.run.Reads as reads
-use Rattle.stages.proofs.run.run.Lts as lts
-use Rattle.stages.proofs.admission.admitted.Reads as admitted-reads
-use Rattle.stages.proofs.run.sized.Reads as sized-reads
 
--- src/run.rt:131:11
-admitted-requires : tie.Need-admitted-requires
-admitted-requires c κs = search needs
-
--- src/run.rt:132:34
-enum-told : tie.Need-enum-told
-enum-told c = search needs
-
--- src/run.rt:132:28
 sized-requires : tie.Need-sized-requires
-sized-requires c κs = ?
+sized-requires c κs =
+    let a = c .before .before .before .before .before .before .args in
+    let s = c .before .before .before .admitted in
+    entered (a .image .now) (a .mode) (a .area .now) (s .result) (s .ensures)
+    (λ i. c .before .before .before .before .before .shared-slice-known .given i .fits) (c .before .enum-told .given .1)
 
--- src/run.rt:133:26
-enum-known-q : tie.Need-enum-known-q
-enum-known-q c = search needs
-
--- src/run.rt:128:1
-same-length : tie.Need-same-length
-same-length c = search needs
-
--- src/run.rt:128:1
 returns : tie.Need-returns
-returns c = ?
+returns c =
+    let a = c .before .before .before .before .before .before .before .before .before .args in
+    let s = c .before .before .before .before .before .before .admitted in
+    whole-entered (a .image .now) (a .mode) (a .area .now) (s .result) (s .ensures)
+    (c .before .before .before .before .enum-told .given .1) (c .before .before .sized .ensures)
 
--- src/run.rt:128:1
 returns-2 : tie.Need-returns-2
-returns-2 c = ?
+returns-2 c =
+    let a = c .before .before .before .before .before .before .args in
+    let s = c .before .before .before .admitted in
+    whole-refused (a .image .now) (a .mode) (a .area .now) (s .result) (s .ensures) (c .before .q .given .1)
 
 pub run-spec : {M : Type 1} → statement M
 run-spec =
     tie.close
-    (tie.spec
-    admitted-requires
-    enum-told
-    sized-requires
-    enum-known-q
-    same-length
-    returns
-    returns-2)
+    (tie.spec (λ c κs. search needs) (λ c. search needs) sized-requires (λ c. search needs) (λ c. search needs) returns returns-2)
