@@ -17,19 +17,19 @@ rangeBlock words w = usbBlock words w ++ usbBlock words (w + 3)
 abbrev pub headBlock : ℕ → ℕ → List ℕ
 headBlock flags content = u32 (flags % 4) ++ wordBytes content ++ wordBytes 0 ++ u32 (flags / 4 % 2)
 
-abbrev pub literalBlock : ℕ → ℕ → List ℕ
-literalBlock bits offset = u32 1 ++ wordBytes 0 ++ u32 bits ++ u32 offset ++ u32 1
+abbrev pub literalBlock : ℕ → ℕ → ℕ → List ℕ
+literalBlock bits offset present = u32 1 ++ wordBytes 0 ++ u32 bits ++ u32 offset ++ u32 present
 
 -- 72 bytes: a variable or a filler, a literal with its range, and a literal from 0 to its width
 abbrev pub plainBlock : List ℕ → ℕ → List ℕ
 plainBlock words w = headBlock (getD words w 0) (getD words (w + 1) 0) ++ rangeBlock words (w + 4)
 
 abbrev pub openBlock : List ℕ → ℕ → ℕ → ℕ → List ℕ
-openBlock words w bits offset = literalBlock bits offset ++ rangeBlock words (w + 4)
+openBlock words w bits offset = literalBlock bits offset (getD words w 0 / 4 % 2) ++ rangeBlock words (w + 4)
 
 abbrev pub fixedBlock : ℕ → ℕ → List ℕ
 fixedBlock bits offset =
-    literalBlock bits offset ++ (wordBytes 0 ++ wordBytes 0 ++ wordBytes 0) ++ (wordBytes 0 ++ wordBytes bits ++ wordBytes 0)
+    literalBlock bits offset 1 ++ (wordBytes 0 ++ wordBytes 0 ++ wordBytes 0) ++ (wordBytes 0 ++ wordBytes bits ++ wordBytes 0)
 
 -- 20 bytes of a concatenation, and the head's 32
 abbrev pub concatenationBlock : ℕ → ℕ → Bool → Bool → ℕ → List ℕ

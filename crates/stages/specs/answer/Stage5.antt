@@ -73,6 +73,7 @@ pub record Answers (image words heads : List ℕ) (c base : ℕ) (o : Overall) (
   pub small : base + length image < 4294967296
   pub table : 40 + 4 * c ≤ length image
   pub few : c ≤ 16
+  pub few-components : length (joined (compsOf ds)) ≤ 256
   pub fitting : Fitting c area (answerFrom image base s o ds)
 
 abbrev pub Stage5Is : List ℕ → List ℕ → List ℕ → ℕ → Overall → Start → ℕ → List ℕ → List ℕ → Type 0

@@ -38,16 +38,16 @@ fn put_type(area: &mut [u8], at: usize, flags: u64, content: u64)
     put_u32(area, at + 20, (flags / 4 % 2) as u32);
 }
 
-// The first 24 bytes of a literal.
-fn put_literal(area: &mut [u8], at: usize, bits: u32, offset: u32)
+// The first 24 bytes of a literal; `present` is 1 where it has an end.
+fn put_literal(area: &mut [u8], at: usize, bits: u32, offset: u32, present: u32)
     requires { ⌜ at + 24 ≤ length (now area) ⌝ }
-    ensures { λ _. ⌜ now (area .exit) ≡ sets (now (area .entry)) at (literalBlock bits offset) ⌝ }
+    ensures { λ _. ⌜ now (area .exit) ≡ sets (now (area .entry)) at (literalBlock bits offset present) ⌝ }
 {
     put_u32(area, at, 1);
     put_u64(area, at + 4, 0);
     put_u32(area, at + 12, bits);
     put_u32(area, at + 16, offset);
-    put_u32(area, at + 20, 1);
+    put_u32(area, at + 20, present);
 }
 
 // A variable or a filler, whose words are from word w on.
@@ -64,7 +64,7 @@ pub(crate) fn put_open(area: &mut [u8], at: usize, words: &[u64], w: usize, bits
     requires { ⌜ (w + 11 ≤ length (now words)) × (at + 72 ≤ length (now area)) ⌝ }
     ensures { λ _. ⌜ now (area .exit) ≡ sets (now (area .entry)) at (openBlock (now (words .entry)) w bits offset) ⌝ }
 {
-    put_literal(area, at, bits, offset);
+    put_literal(area, at, bits, offset, (words[w] / 4 % 2) as u32);
     put_range(area, at + 24, words, w + 4);
 }
 
@@ -83,7 +83,7 @@ pub(crate) fn put_fixed(area: &mut [u8], at: usize, bits: u32, offset: u32)
     requires { ⌜ at + 72 ≤ length (now area) ⌝ }
     ensures { λ _. ⌜ now (area .exit) ≡ sets (now (area .entry)) at (fixedBlock bits offset) ⌝ }
 {
-    put_literal(area, at, bits, offset);
+    put_literal(area, at, bits, offset, 1);
     put_val(area, at + 24, 0);
     put_val(area, at + 48, bits as u64);
 }

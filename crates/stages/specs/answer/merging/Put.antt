@@ -21,11 +21,11 @@ putAll area w ms = sets (sets area (w .at) (componentsBytes (w .offset) ms)) (w 
 abbrev pub writtenTo : Writing → List (Placed Component) → Writing
 writtenTo w ms = record { at = w .at + sizes .component * length ms; literals = w .literals; offset = w .offset + length (literalsOf ms) }
 
--- the blocks end before the literal block, and the literal block before the area
+-- the blocks end before the literal block, and the literal block before the area; its bits are fewer than 2^32
 pub record Room (area : List ℕ) (w : Writing) (ms : List (Placed Component)) : Type 0 where
   pub blocks : w .at + sizes .component * length ms ≤ w .literals
   pub literal-block : w .literals + w .offset + length (literalsOf ms) ≤ length area
-  pub offsets : w .offset + length (literalsOf ms) < 2 ^ 32
+  pub offsets : w .offset + length (literalsOf ms) < 2 ^ 29
 
 -- components that are kept, merged: where there is room for them, they stand in the area afterwards, and r is the place after them
 abbrev pub PutIs : List ℕ → List ℕ → ℕ → ℕ → Writing → Writing → List ℕ → List ℕ → Type 0

@@ -1,46 +1,18 @@
+-- Two numbers, one next to the other.
+use mathlib.Core.Path.{refl}
+use Prim.Native.Nat.{_/_, _%_, _^_}
 use borrow.Author.Needs.{needs}
+use Rattle.definition.specs.Tree.{u32}
+use Rattle.stages.specs.answer.Writing.{and-then}
 use Rattle.stages.proofs.answer.area.put_u64.Statement.{statement}
 use Rattle.stages.proofs.answer.area.put_u64.Tie as tie
-use Rattle.stages.proofs.answer.area.put_u64.Reads as reads
-use Rattle.stages.proofs.answer.area.put_u64.Lts as lts
-use Rattle.stages.proofs.answer.area.put_u32.Reads as put-u32-reads
 
--- src/answer/area.rt:36:23
-cast-put-u32 : tie.Need-cast-put-u32
-cast-put-u32 c = search needs
-
--- src/answer/area.rt:36:5
-put-u32-requires : tie.Need-put-u32-requires
-put-u32-requires c κs = search needs
-
--- src/answer/area.rt:37:19
-add-put-u32 : tie.Need-add-put-u32
-add-put-u32 c = search needs
-
--- src/answer/area.rt:37:27
-cast-put-u32-2 : tie.Need-cast-put-u32-2
-cast-put-u32-2 c = search needs
-
--- src/answer/area.rt:37:5
-put-u32-requires-2 : tie.Need-put-u32-requires-2
-put-u32-requires-2 c κs = search needs
-
--- src/answer/area.rt:32:1
-same-length : tie.Need-same-length
-same-length c = search needs
-
--- src/answer/area.rt:32:1
 returns : tie.Need-returns
-returns c = ?
+returns c =
+    let a = c .before .before .before .before .before .before .before .before .before .args in
+    and-then (a .area .now) (a .at) 4 (u32 (a .n % 2 ^ 32)) (u32 (a .n / 2 ^ 32)) (c .before .before .before .before .before .before .put-u32 .ensures) refl (c .before .before .put-u322 .ensures)
 
 pub put-u64-spec : {M : Type 1} → statement M
 put-u64-spec =
     tie.close
-    (tie.spec
-    cast-put-u32
-    put-u32-requires
-    add-put-u32
-    cast-put-u32-2
-    put-u32-requires-2
-    same-length
-    returns)
+    (tie.spec (λ c. search needs) (λ c κs. search needs) (λ c. search needs) (λ c. search needs) (λ c κs. search needs) (λ c. search needs) returns)

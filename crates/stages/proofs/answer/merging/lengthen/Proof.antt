@@ -1,57 +1,18 @@
 use borrow.Author.Needs.{needs}
+use Prim.Native.Nat.{_/_, _%_, _^_}
+use Rattle.stages.proofs.answer.merging.Closing.{lengthened}
 use Rattle.stages.proofs.answer.merging.lengthen.Statement.{statement}
 use Rattle.stages.proofs.answer.merging.lengthen.Tie as tie
-use Rattle.stages.proofs.answer.merging.lengthen.Reads as reads
-use Rattle.stages.proofs.answer.merging.lengthen.Lts as lts
-use Rattle.stages.proofs.answer.bits.append_bits.Reads as append-bits-reads
-use Rattle.std.proofs.num.wrapping_add_usize.Reads as wrapping-add-usize-reads
 
--- src/answer/merging.rt:61:13
-sub-t : tie.Need-sub-t
-sub-t c = search needs
-
--- src/answer/merging.rt:61:13
-part-t-start : tie.Need-part-t-start
-part-t-start c = search needs
-
--- src/answer/merging.rt:61:13
-part-t-end : tie.Need-part-t-end
-part-t-end c = search needs
-
--- src/answer/merging.rt:63:13
-sub-n : tie.Need-sub-n
-sub-n c = search needs
-
--- src/answer/merging.rt:64:9
-wrapping-add-usize-requires : tie.Need-wrapping-add-usize-requires
-wrapping-add-usize-requires c κs = search needs
-
--- src/answer/merging.rt:65:5
-append-bits-requires : tie.Need-append-bits-requires
-append-bits-requires c κs = search needs
-
--- src/answer/merging.rt:69:15
-wrapping-add-usize-requires-2 : tie.Need-wrapping-add-usize-requires-2
-wrapping-add-usize-requires-2 c κs = search needs
-
--- src/answer/merging.rt:54:1
-same-length : tie.Need-same-length
-same-length c = search needs
-
--- src/answer/merging.rt:54:1
 returns : tie.Need-returns
-returns c = ?
+returns c =
+    let a = c .before .before .before .before .before .before .before .before .before .before .args in
+    lengthened (a .image .now) (a .area .now) _ (a .literal) (a .bits % 2 ^ 32) (a .bits / 2 ^ 32) (a .s) (c .before .before .before .before .before .wrapping-add-usize .result)
+    (c .wrapping-add-usize2 .result) (c .before .before .before .before .before .before .before .before .before .before .good .0 .0) (c .before .before .before .before .before .before .before .before .before .before .pre .1) (c .before .before .before .before .before .before .before .before .before .before .pre .0) (c .before .before .before .before .before .wrapping-add-usize .ensures) (c .before .before .before .append-bits .ensures)
+    (c .wrapping-add-usize2 .ensures)
 
 pub lengthen-spec : {M : Type 1} → statement M
 lengthen-spec =
     tie.close
-    (tie.spec
-    sub-t
-    part-t-start
-    part-t-end
-    sub-n
-    wrapping-add-usize-requires
-    append-bits-requires
-    wrapping-add-usize-requires-2
-    same-length
-    returns)
+    (tie.spec (λ c. search needs) (λ c. search needs) (λ c. search needs) (λ c. search needs) (λ c κs. search needs) (λ c κs. search needs)
+    (λ c κs. search needs) (λ c. search needs) returns)

@@ -1,83 +1,63 @@
 use borrow.Author.Needs.{needs}
+use native.Mathlib.Omega.{arith}
+use mathlib.Core.Path.{sym, _∙_}
+use Rattle.stages.proofs.answer.merging.Stored.{row-at, row-fits, kind-at, bits-at}
+use Rattle.stages.proofs.answer.merging.Steps.{open-room, open-other}
 use Rattle.stages.proofs.answer.merging.put_open_literal.Statement.{statement}
 use Rattle.stages.proofs.answer.merging.put_open_literal.Tie as tie
-use Rattle.stages.proofs.answer.merging.put_open_literal.Reads as reads
-use Rattle.stages.proofs.answer.merging.put_open_literal.Lts as lts
-use Rattle.stages.proofs.answer.blocks.put_open.Reads as put-open-reads
-use Rattle.stages.proofs.answer.merging.behind.Reads as behind-reads
-use Rattle.stages.proofs.answer.merging.lengthen.Reads as lengthen-reads
 
--- src/answer/merging.rt:98:13
 mul-w : tie.Need-mul-w
-mul-w c = ?
+mul-w c = let h = row-fits (c .before .before .before .pre .2) in search needs
 
--- src/answer/merging.rt:99:41
 add-lengthen : tie.Need-add-lengthen
-add-lengthen c = ?
+add-lengthen c = let h = row-fits (c .before .before .before .before .pre .2) in search needs
 
--- src/answer/merging.rt:99:35
 mul-lengthen : tie.Need-mul-lengthen
-mul-lengthen c = ?
+mul-lengthen c = let h = row-fits (c .before .before .before .before .pre .2) in search needs
 
--- src/answer/merging.rt:99:35
 shared-slice-read-lengthen : tie.Need-shared-slice-read-lengthen
-shared-slice-read-lengthen c = ?
+shared-slice-read-lengthen c = let h = row-fits (c .before .before .before .before .before .pre .2) in omega arith
 
--- src/answer/merging.rt:99:55
 add-lengthen-2 : tie.Need-add-lengthen-2
-add-lengthen-2 c = ?
+add-lengthen-2 c = let h = row-fits (c .before .before .before .before .before .pre .2) in search needs
 
--- src/answer/merging.rt:99:49
 mul-lengthen-2 : tie.Need-mul-lengthen-2
-mul-lengthen-2 c = ?
+mul-lengthen-2 c = let h = row-fits (c .before .before .before .before .before .pre .2) in search needs
 
--- src/answer/merging.rt:99:49
 shared-slice-read-lengthen-2 : tie.Need-shared-slice-read-lengthen-2
-shared-slice-read-lengthen-2 c = ?
+shared-slice-read-lengthen-2 c = let h = row-fits (c .before .before .before .before .before .before .pre .2) in omega arith
 
--- src/answer/merging.rt:99:9
 lengthen-requires : tie.Need-lengthen-requires
-lengthen-requires c κs = ?
+lengthen-requires c κs =
+    let a = c .before .before .before .before .before .before .args in
+    let (d, ms, is, fixed, room, other, rests, kind) = c .before .before .before .before .before .before .pre in
+    let at = row-at (a .image .now) (a .words .now) (a .k) d is in
+    let b = bits-at (a .image .now) (a .words .now) (a .k) d at (sym (kind-at (a .image .now) (a .words .now) (a .k) d at) ∙ kind) in
+    (b .room, b .order)
 
--- src/answer/merging.rt:106:9
-cast-put-open : tie.Need-cast-put-open
-cast-put-open c = search needs
-
--- src/answer/merging.rt:107:9
-cast-put-open-2 : tie.Need-cast-put-open-2
-cast-put-open-2 c = search needs
-
--- src/answer/merging.rt:101:5
 put-open-requires : tie.Need-put-open-requires
-put-open-requires c κs = ?
+put-open-requires c κs =
+    let a = c .before .before .before .before .before .before .before .before .before .before .before .before .before .args in
+    let (d, ms, is, fixed, room, other, rests, kind) = c .before .before .before .before .before .before .before .before .before .before .before .before .before .pre in
+    let l = c .before .before .before .before .before .before .lengthen in
+    let at = row-at (a .image .now) (a .words .now) (a .k) d is in
+    let b = bits-at (a .image .now) (a .words .now) (a .k) d at (sym (kind-at (a .image .now) (a .words .now) (a .k) d at) ∙ kind) in
+    (at .fits, open-room d (a .image .now) (a .words .now) (a .k) at b ms (a .s) (l .result) (a .area .now) _ rests (fixed .bits) room
+    (l .ensures) (l .kept .0))
 
--- src/answer/merging.rt:109:5
-behind-requires : tie.Need-behind-requires
-behind-requires c κs = search needs
-
--- src/answer/merging.rt:92:1
-same-length : tie.Need-same-length
-same-length c = search needs
-
--- src/answer/merging.rt:92:1
 returns : tie.Need-returns
-returns c = ?
+returns c =
+    let a = c .before .before .before .before .before .before .before .before .before .before .before .before .before .before .before .before .before .args in
+    let l = c .before .before .before .before .before .before .before .before .before .before .lengthen in
+    λ rests d is fixed other kind.
+    let at = row-at (a .image .now) (a .words .now) (a .k) d is in
+    let one = sym (kind-at (a .image .now) (a .words .now) (a .k) d at) ∙ kind in
+    let b = bits-at (a .image .now) (a .words .now) (a .k) d at one in
+    open-other d (a .image .now) (a .words .now) (a .k) at b (a .s) (l .result) (c .behind .result) (a .area .now) _ _
+    (c .before .before .before .before .before .before .before .before .before .before .before .before .before .before .before .before .before .good .0 .0) rests one (l .ensures) (c .before .before .before .put-open .ensures) (c .behind .ensures)
 
 pub put-open-literal-spec : {M : Type 1} → statement M
 put-open-literal-spec =
     tie.close
-    (tie.spec
-    mul-w
-    add-lengthen
-    mul-lengthen
-    shared-slice-read-lengthen
-    add-lengthen-2
-    mul-lengthen-2
-    shared-slice-read-lengthen-2
-    lengthen-requires
-    cast-put-open
-    cast-put-open-2
-    put-open-requires
-    behind-requires
-    same-length
-    returns)
+    (tie.spec mul-w add-lengthen mul-lengthen shared-slice-read-lengthen add-lengthen-2 mul-lengthen-2 shared-slice-read-lengthen-2 lengthen-requires
+    (λ c. search needs) (λ c. search needs) put-open-requires (λ c κs. search needs) (λ c. search needs) returns)

@@ -1,74 +1,75 @@
 use borrow.Author.Needs.{needs}
+use native.Mathlib.Omega.{arith}
+use mathlib.Core.Path.{refl, _∙_}
+use lib.ListN.{length}
+use Rattle.stages.proofs.answer.stage5.Parts.{total-few, head-fits, put-fits, result-small, written}
 use Rattle.stages.proofs.answer.stage5.stage5.Statement.{statement}
 use Rattle.stages.proofs.answer.stage5.stage5.Tie as tie
-use Rattle.stages.proofs.answer.stage5.stage5.Reads as reads
-use Rattle.stages.proofs.answer.stage5.stage5.Lts as lts
-use Rattle.stages.proofs.answer.heads.merged_of.Reads as merged-of-reads
-use Rattle.stages.proofs.answer.heads.put_concatenations.Reads as put-concatenations-reads
-use Rattle.stages.proofs.answer.heads.put_head.Reads as put-head-reads
-use Rattle.stages.proofs.answer.stage5.put_components.Reads as put-components-reads
 
--- src/answer/stage5.rt:49:9
 merged-of-requires : tie.Need-merged-of-requires
-merged-of-requires c κs = search needs
+merged-of-requires c κs = let (base, ds, room, h) = c .before .before .before .before .pre in (h .few, room)
 
--- src/answer/stage5.rt:50:23
 cast-put-head : tie.Need-cast-put-head
-cast-put-head c = ?
+cast-put-head c =
+    let a = c .before .before .before .before .before .before .args in
+    let (base, ds, room, h) = c .before .before .before .before .before .before .pre in
+    let few = total-few (a .image .now) (a .words .now) (a .heads .now) (a .c) base (a .o) (a .s) (length (a .area .now)) ds h (c .before .merged-of .result) (c .before .merged-of .ensures) in
+    omega arith
 
--- src/answer/stage5.rt:50:5
 put-head-requires : tie.Need-put-head-requires
-put-head-requires c κs = search needs
+put-head-requires c κs =
+    let a = c .before .before .before .before .before .before .args in
+    let (base, ds, room, h) = c .before .before .before .before .before .before .pre in
+    let fits = head-fits (a .image .now) (a .words .now) (a .heads .now) (a .c) base (a .o) (a .s) (length (a .area .now)) ds h (c .before .merged-of .result) (c .before .merged-of .ensures) in
+    omega arith
 
--- src/answer/stage5.rt:51:5
 put-concatenations-requires : tie.Need-put-concatenations-requires
-put-concatenations-requires c κs = search needs
+put-concatenations-requires c κs =
+    let a = c .before .before .before .before .before .before .before .before .before .before .args in
+    let (base, ds, room, h) = c .before .before .before .before .before .before .before .before .before .before .pre in
+    let fits = head-fits (a .image .now) (a .words .now) (a .heads .now) (a .c) base (a .o) (a .s) (length (a .area .now)) ds h (c .before .before .before .before .before .merged-of .result) (c .before .before .before .before .before .merged-of .ensures) in
+    let same = c .before .before .before .put-head .kept .0 in
+    (h .few, room, omega arith)
 
--- src/answer/stage5.rt:52:19
-mul-at : tie.Need-mul-at
-mul-at c = search needs
-
--- src/answer/stage5.rt:52:14
-add-at : tie.Need-add-at
-add-at c = search needs
-
--- src/answer/stage5.rt:55:24
 mul-t18 : tie.Need-mul-t18
-mul-t18 c = ?
+mul-t18 c =
+    let a = c .before .before .before .before .before .before .before .before .before .before .before .before .before .args in
+    let (base, ds, room, h) = c .before .before .before .before .before .before .before .before .before .before .before .before .before .pre in
+    let few = total-few (a .image .now) (a .words .now) (a .heads .now) (a .c) base (a .o) (a .s) (length (a .area .now)) ds h (c .before .before .before .before .before .before .before .before .merged-of .result) (c .before .before .before .before .before .before .before .before .merged-of .ensures) in
+    omega arith
 
--- src/answer/stage5.rt:55:19
 add-t19 : tie.Need-add-t19
-add-t19 c = ?
+add-t19 c =
+    let a = c .before .before .before .before .before .before .before .before .before .before .before .before .before .args in
+    let (base, ds, room, h) = c .before .before .before .before .before .before .before .before .before .before .before .before .before .pre in
+    let few = total-few (a .image .now) (a .words .now) (a .heads .now) (a .c) base (a .o) (a .s) (length (a .area .now)) ds h (c .before .before .before .before .before .before .before .before .merged-of .result) (c .before .before .before .before .before .before .before .before .merged-of .ensures) in
+    let u = h .few in
+    omega arith
 
--- src/answer/stage5.rt:58:9
 put-components-requires : tie.Need-put-components-requires
-put-components-requires c κs = ?
+put-components-requires c κs =
+    let a = c .before .before .before .before .before .before .before .before .before .before .before .before .before .before .args in
+    let (base, ds, room, h) = c .before .before .before .before .before .before .before .before .before .before .before .before .before .before .pre in
+    put-fits (a .image .now) (a .words .now) (a .heads .now) (a .c) base (a .o) (a .s) (length (a .area .now)) ds h (c .before .before .before .before .before .before .before .before .before .merged-of .result) (c .before .before .before .before .before .before .before .before .before .merged-of .ensures) _
+    (c .before .before .before .put-concatenations .kept .0 ∙ c .before .before .before .before .before .before .before .put-head .kept .0)
 
--- src/answer/stage5.rt:59:5
 add-result : tie.Need-add-result
-add-result c = ?
+add-result c =
+    let a = c .before .before .before .before .before .before .before .before .before .before .before .before .before .before .before .before .before .before .args in
+    let (base, ds, room, h) = c .before .before .before .before .before .before .before .before .before .before .before .before .before .before .before .before .before .before .pre in
+    let small = result-small (a .image .now) (a .words .now) (a .heads .now) (a .c) base (a .o) (a .s) (length (a .area .now)) ds h (c .before .before .before .before .before .before .before .before .before .before .before .before .before .merged-of .result) (c .before .before .before .before .before .before .before .before .before .before .before .before .before .merged-of .ensures) _ _ (c .before .before .before .put-components .result)
+    (c .before .before .before .before .before .before .before .put-concatenations .kept .0 ∙ c .before .before .before .before .before .before .before .before .before .before .before .put-head .kept .0) (c .before .before .before .put-components .ensures) in
+    omega arith
 
--- src/answer/stage5.rt:37:1
-same-length : tie.Need-same-length
-same-length c = search needs
-
--- src/answer/stage5.rt:37:1
 returns : tie.Need-returns
-returns c = ?
+returns c =
+    let a = c .before .before .before .before .before .before .before .before .before .before .before .before .before .before .before .before .before .before .args in
+    λ base ds h.
+    written (a .image .now) (a .words .now) (a .heads .now) (a .c) base (a .o) (a .s) (length (a .area .now)) ds h (c .before .before .before .before .before .before .before .before .before .before .before .before .before .merged-of .result) (c .before .before .before .before .before .before .before .before .before .before .before .before .before .merged-of .ensures)
+    (a .area .now) _ _ _ (c .before .before .before .put-components .result) refl (c .before .before .before .before .before .before .before .before .before .before .before .put-head .ensures) (c .before .before .before .before .before .before .before .put-concatenations .ensures) (c .before .before .before .put-components .ensures)
 
 pub stage5-spec : {M : Type 1} → statement M
 stage5-spec =
     tie.close
-    (tie.spec
-    merged-of-requires
-    cast-put-head
-    put-head-requires
-    put-concatenations-requires
-    mul-at
-    add-at
-    mul-t18
-    add-t19
-    put-components-requires
-    add-result
-    same-length
-    returns)
+    (tie.spec merged-of-requires cast-put-head put-head-requires put-concatenations-requires (λ c. search needs) (λ c. search needs) mul-t18 add-t19
+    put-components-requires add-result (λ c. search needs) returns)
