@@ -208,6 +208,7 @@ module _ {image : List ℕ} (before : List ℕ) (fits : RunFits image (length be
             small = base-small image (fits .grown);
             table = judged-counts .table;
             few = judged-counts .few;
+            few-components = rw comps (judged-counts .few-components);
             fitting = fitting;
           }
 
