@@ -15,14 +15,11 @@ use crate::token_tree::tables_of;
 use errors::Checked;
 use errors::Outcome;
 ghost use mathlib.Core.Path.{_≡_};
-ghost use mathlib.Core.List.{List};
-ghost use Prim.Native.Nat.{ℕ, _+_, _*_, _≤_};
+ghost use Prim.Native.Nat.{_*_, _≤_};
 ghost use lib.ListN.{length};
 ghost use Rattle.definition.specs.Image.{counts};
 ghost use Rattle.definition.specs.Run.{ranOn};
 ghost use Rattle.errors.specs.Refused.{outcomeOf};
-ghost use Rattle.stages.specs.token_tree.Table.{tablesIn};
-ghost use Rattle.stages.specs.token_tree.Grown.{Grown};
 ghost use Rattle.stages.specs.run.Run.{RunFits, StagesAs, StartFits, StartedAs, ReadFits, ReadAs, JudgedFits, JudgedAs};
 
 // Stages 4 and 5, of concatenations that stage 3 accepted.

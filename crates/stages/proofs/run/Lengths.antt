@@ -1,6 +1,6 @@
 -- Stages 1 and 2 keep the sizes of a tree, and leave every component fixed.
 use mathlib.Core.Path.{_≡_, refl, sym, ap, _∙_}
-use Prim.Native.Nat.{_≤_, _<_}
+use Prim.Native.Nat.{_≤_}
 use native.Mathlib.Omega.{arith}
 use lib.ListN.{length-map}
 use Rattle.definition.specs.Prelude.{ℕ, suc, _+_, _*_, Bool, _&&_, List, [], _∷_, map, length}

@@ -1,8 +1,8 @@
 -- The run in the order of the code: what it asks before the stages, the starting value, stages 1 and 2, and the later ones.
 use mathlib.Core.Path.{_≡_, refl, sym, ap, _∙_}
-use Prim.Native.Nat.{_≤_, _<_}
+use Prim.Native.Nat.{_<_}
 use borrow.Author.Tests.{lt-ltb}
-use Rattle.definition.specs.Prelude.{ℕ, suc, true, Option, List, [], _∷_, getD, length, leb, ltb}
+use Rattle.definition.specs.Prelude.{ℕ, suc, Option, List, [], _∷_, getD, length, leb, ltb}
 use Rattle.definition.specs.Basics.{Result, ok, refused, _>>=_, all}
 use Rattle.definition.specs.Limits.{areaNeeded}
 use Rattle.definition.specs.Refusals.{need, mode-above-2, short-area}
@@ -10,8 +10,7 @@ use Rattle.definition.specs.Image.{Unparsed, Placed, counts, treeOf}
 use Rattle.definition.specs.Check.{checkImage}
 use Rattle.definition.specs.Text.{Part}
 use Rattle.definition.specs.Component.{Component, each, startingValue, source, stage1, stage2}
-use Rattle.definition.specs.Answer.{Answer}
-use Rattle.definition.specs.Run.{stages, run}
+use Rattle.definition.specs.Run.{stages, run, ranOn}
 use Rattle.laws.specs.Results.{bind-ok, bind-assoc, need-ok, need-then}
 use Rattle.laws.specs.Tests.{and-iff, leb-iff}
 use Rattle.prepared.specs.Statement.{Bytes}
@@ -71,12 +70,12 @@ module _ (image : List ℕ) (mode : ℕ) (area : List ℕ) (s : Checked) (said :
   pub entered : ((i : ℕ) → getD image i 0 < 256) → s ≡ C.Passed → RunFits image (length area)
   entered bytes p = fits-after image mode (length area) bytes (sym said ∙ ap resultOf p)
 
-  pub whole-entered : s ≡ C.Passed → (r : Result ℕ × List ℕ) → r ≡ cameTo area (bytesOf (stages mode (treeOf image))) → r ≡ cameTo area (run image mode (length area))
-  whole-entered p r e =
+  pub whole-entered : s ≡ C.Passed → {r : Result ℕ × List ℕ} → r ≡ cameTo area (bytesOf (stages mode (treeOf image))) → r ≡ ranOn image mode area
+  whole-entered p e =
       let ran : run image mode (length area) ≡ bytesOf (stages mode (treeOf image)) = run-after image mode (length area) ∙ rw (← said, p) in
       e ∙ ap (cameTo area) (sym ran)
 
-  pub whole-refused : (q : Refusal) → s ≡ C.Refused q → (refusedAs q, area) ≡ cameTo area (run image mode (length area))
-  whole-refused q e =
+  pub whole-refused : {q : Refusal} → s ≡ C.Refused q → (refusedAs q, area) ≡ ranOn image mode area
+  whole-refused {q} e =
       let ran : run image mode (length area) ≡ refusedAs q = run-after image mode (length area) ∙ rw (← said, e) in
       ap (cameTo area) (sym ran)

@@ -5,9 +5,9 @@ use native.Mathlib.Nat.{zero-add, add-zero, add-assoc}
 use native.Mathlib.Omega.{arith}
 use borrow.Author.Tests.{ne-eqb}
 use lib.ListN.{length-append}
-use Rattle.definition.specs.Prelude.{ℕ, zero, suc, _+_, _*_, _-_, _^_, List, [], _∷_, _++_, length}
-use Rattle.definition.specs.Basics.{ok, sum, joined, tab}
-use Rattle.definition.specs.Image.{u32At, bytesFor, counts, tables, componentCount, treeOf}
+use Rattle.definition.specs.Prelude.{ℕ, zero, suc, _+_, _*_, _-_, List, [], _∷_, _++_, length}
+use Rattle.definition.specs.Basics.{sum, joined, tab}
+use Rattle.definition.specs.Image.{u32At, bytesFor, counts, componentCount, treeOf}
 use Rattle.definition.specs.Tree.{Tree, Node, recsOf, textOf}
 use Rattle.definition.specs.Component.{startingValue, source}
 use Rattle.errors.specs.Refused.{refusedAs}
@@ -61,19 +61,14 @@ base-small image g =
 
 -- ---- the starting value that is found, or refused
 
-module _ (image : List ℕ) (q : StartResult) (said : (g : Grown image) → StartReads image (g .tree) q) where
-  pub start-fits : (t : Tables) (s : Start) → t ≡ tablesIn image → Grown image → q ≡ S.Ok s → StartFits image t s
-  start-fits t s e g p =
-      record {
-        tables-are = e;
-        after = λ h. (rw p at (said h .held)) .0;
-        text = (rw p at (said g .held)) .1;
-        is = sym (rw p at (said g .is));
-      }
+module _ {image : List ℕ} {q : StartResult} (said : (g : Grown image) → StartReads image (g .tree) q) (g : Grown image) where
+  pub start-fits : {t : Tables} {s : Start} → t ≡ tablesIn image → q ≡ S.Ok s → StartFits image t s
+  start-fits e p =
+      record { tables-are = e; after = λ h. (rw p at (said h .held)) .0; text = (rw p at (said g .held)) .1; is = sym (rw p at (said g .is)) }
 
-  pub start-refused : (e : Refusal) → Grown image → q ≡ S.Refused e → startingValue 0 (source (treeOf image)) ≡ refusedAs e
-  start-refused e g p = sym (rw p at (said g .is))
+  pub start-refused : {e : Refusal} → q ≡ S.Refused e → startingValue 0 (source (treeOf image)) ≡ refusedAs e
+  start-refused p = sym (rw p at (said g .is))
 
 -- what stage 1 asks of it
-pub start-after : (image : List ℕ) (t : Tables) (s : Start) → StartFits image t s → (g : Grown image) → AfterTree image (t .tree) (s .after .0) 0 0 (g .tree)
-start-after image t s f g = rw (f .tables-are) (f .after g)
+pub start-after : {image : List ℕ} {t : Tables} {s : Start} → StartFits image t s → (g : Grown image) → AfterTree image (t .tree) (s .after .0) 0 0 (g .tree)
+start-after f g = rw (f .tables-are) (f .after g)

@@ -1,7 +1,7 @@
 -- The whole run in code: the outcome and the lent area, as the definition's; and each function above the stages, by what is left to do.
 use mathlib.Core.Path.{_≡_}
-use Prim.Native.Nat.{_≤_, _<_}
-use Rattle.definition.specs.Prelude.{ℕ, _*_, Option, none, some, List, getD, length, map}
+use Prim.Native.Nat.{_≤_}
+use Rattle.definition.specs.Prelude.{ℕ, _*_, Option, List, length}
 use Rattle.definition.specs.Basics.{Result, ok, _>>=_, joined}
 use Rattle.definition.specs.Limits.{areaNeeded}
 use Rattle.definition.specs.Image.{Placed, counts, treeOf}
@@ -54,9 +54,12 @@ pub record StartFits (image : List ℕ) (t : Tables) (s : Start) : Type 0 where
   pub text : TextFits image (treeIn image) (scannedBase image) s
   pub is : startingValue 0 (source (treeOf image)) ≡ ok (initOf image s)
 
--- stages 1 to 5 with this starting value
+-- stages 3 to 5 of these components, and stages 1 to 5, with this starting value
+abbrev pub laterOf : List ℕ → ℕ → Start → List (List (Placed Component)) → Result Answer
+laterOf image mode s cc = later mode (record { init = initOf image s; cc = cc })
+
 abbrev pub behindStart : List ℕ → ℕ → Start → Result Answer
-behindStart image mode s = twoStages (treeOf image) >>= λ cc. later mode (record { init = initOf image s; cc = cc })
+behindStart image mode s = twoStages (treeOf image) >>= laterOf image mode s
 
 abbrev pub StartedAs : List ℕ → ℕ → Start → Outcome → List ℕ → List ℕ → Type 0
 StartedAs image mode s o before after = Came (behindStart image mode s) o before after
@@ -74,7 +77,7 @@ pub record ReadFits (image : List ℕ) (c : ℕ) (s : Start) (words : List ℕ) 
 
 abbrev pub ReadAs : List ℕ → ℕ → ℕ → Start → List ℕ → Outcome → List ℕ → List ℕ → Type 0
 ReadAs image mode c s words o before after =
-    (cc : List (List (Placed Component))) → twoStages (treeOf image) ≡ ok cc → Came (later mode (record { init = initOf image s; cc = cc })) o before after
+    (cc : List (List (Placed Component))) → twoStages (treeOf image) ≡ ok cc → Came (laterOf image mode s cc) o before after
 
 -- ---- behind stage 3
 
@@ -88,4 +91,4 @@ pub record JudgedFits (image : List ℕ) (c : ℕ) (s : Start) (heads words : Li
 abbrev pub JudgedAs : List ℕ → ℕ → ℕ → Start → List ℕ → List ℕ → Outcome → List ℕ → List ℕ → Type 0
 JudgedAs image mode c s heads words o before after =
     (cc : List (List (Placed Component))) (ds : List Concatenation) → twoStages (treeOf image) ≡ ok cc → stage3 0 cc ≡ ok ds
-    → Came (later mode (record { init = initOf image s; cc = cc })) o before after
+    → Came (laterOf image mode s cc) o before after

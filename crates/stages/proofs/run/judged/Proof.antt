@@ -1,46 +1,35 @@
 use borrow.Author.Needs.{needs}
-use Rattle.stages.proofs.run.Outcomes.{judged-counts, judged-is, judged-off, answers, judged-on}
 use Rattle.stages.specs.component.Start.{scannedBase}
+use Rattle.stages.proofs.run.Outcomes.{judged-counts, judged-off, answers, judged-on}
 use Rattle.stages.proofs.run.judged.Statement.{statement}
 use Rattle.stages.proofs.run.judged.Tie as tie
 
 stage4-requires : tie.Need-stage4-requires
 stage4-requires c κs =
     let s = c .before .before .before .before .before in
-    let a = s .args in
-    (_, judged-counts (a .image .now) (a .mode) (a .area .now) (s .pre .0) (a .c) (a .s) (a .heads .now) (a .words .now) (s .pre .1))
+    (_, judged-counts (s .args .area .now) (s .pre .0) (s .pre .1))
 
 stage5-requires : tie.Need-stage5-requires
 stage5-requires c κs =
     let s = c .before .before .before .before .before .before .before .before .before .before in
-    let a = s .args in
     let f = s .pre .1 in
     let q = c .before .before .before .before .stage4 in
-    let i = judged-is (a .image .now) (a .mode) (a .area .now) (s .pre .0) (a .c) (a .s) (a .heads .now) (a .words .now) f in
-    (scannedBase (a .image .now), f .ds, f .heads-long,
-      answers (a .image .now) (a .mode) (a .area .now) (s .pre .0) (a .c) (a .s) (a .heads .now) (a .words .now) f (q .result) (q .ensures (f .ds) i) _
-      (c .before .before .o .given .1))
+    (scannedBase (s .args .image .now), f .ds, f .heads-long,
+      answers (s .args .area .now) (s .pre .0) f (s .args .mode) (q .result) (q .ensures) (c .before .before .o .given .1))
 
 returns : tie.Need-returns
 returns c =
     let s = c .before .before .before .before .before .before .before .before .before .before .before .before .before in
-    let a = s .args in
-    let f = s .pre .1 in
     let q = c .before .before .before .before .before .before .before .stage4 in
     let w = c .before .before .stage5 in
-    let i = judged-is (a .image .now) (a .mode) (a .area .now) (s .pre .0) (a .c) (a .s) (a .heads .now) (a .words .now) f in
-    judged-on (a .image .now) (a .mode) (a .area .now) (s .pre .0) (a .c) (a .s) (a .heads .now) (a .words .now) f (q .result) (q .ensures (f .ds) i) _
+    judged-on (s .args .area .now) (s .pre .0) (s .pre .1) (s .args .mode) (q .result) (q .ensures)
     (c .before .before .before .before .before .o .given .1) (w .result) (w .last .0) (w .ensures)
 
 returns-2 : tie.Need-returns-2
 returns-2 c =
     let s = c .before .before .before .before .before .before .before .before .before in
-    let a = s .args in
-    let f = s .pre .1 in
     let q = c .before .before .before .stage4 in
-    let i = judged-is (a .image .now) (a .mode) (a .area .now) (s .pre .0) (a .c) (a .s) (a .heads .now) (a .words .now) f in
-    judged-off (a .image .now) (a .mode) (a .area .now) (s .pre .0) (a .c) (a .s) (a .heads .now) (a .words .now) f (q .result) (q .ensures (f .ds) i) _
-    (c .before .e .given .1)
+    judged-off (s .args .area .now) (s .pre .0) (s .pre .1) (s .args .mode) (q .result) (q .ensures) (c .before .e .given .1)
 
 pub judged-spec : {M : Type 1} → statement M
 judged-spec =
