@@ -6,3 +6,4 @@ pub mod Going
 pub mod Rounds
 pub mod Standing
 pub mod Turning
+pub mod Whole

@@ -71,18 +71,18 @@ stages-are image t q words words′ e h =
     let f : treeOf image ≡ placedLists 0 t = e ∙ tree-is t in
     record {
       answer = h .answer ∙ go (each firstStage 0 (placedLists 0 t)) ∙ ap (λ l. verdict (twoStages l)) (sym f);
-      kept = λ cc g. both (each firstStage 0 (placedLists 0 t)) refl cc (ap twoStages (sym f) ∙ g);
+      kept = λ dss g. both (each firstStage 0 (placedLists 0 t)) refl dss (ap twoStages (sym f) ∙ g);
     }
   where
     go : (m : Result (List (List (Placed Def.Component))))
-        → (m >>= λ bss. ok tt >>= λ _. verdict (each secondStage 0 bss)) ≡ verdict (m >>= each secondStage 0)
+        → (m >>= λ bss. _>>=_ {A = Unit} (ok tt) (λ _. verdict (each secondStage 0 bss))) ≡ verdict (m >>= each secondStage 0)
     go (ok a) = refl
     go (refused x y z) = refl
 
-    both : (m : Result (List (List (Placed Def.Component)))) → each firstStage 0 (placedLists 0 t) ≡ m → (cc : List (List (Placed Def.Component)))
-        → (each firstStage 0 (placedLists 0 t) >>= each secondStage 0) ≡ ok cc → KeptFrom image words′ 0 (joined cc)
-    both (ok bss) p cc g = h .kept bss cc p (ap (λ m. m >>= each secondStage 0) (sym p) ∙ g)
-    both (refused x y z) p cc g = not-ok (ap (λ m. m >>= each secondStage 0) (sym p) ∙ g)
+    both : (m : Result (List (List (Placed Def.Component)))) → each firstStage 0 (placedLists 0 t) ≡ m → (dss : List (List (Placed Def.Component)))
+        → (each firstStage 0 (placedLists 0 t) >>= each secondStage 0) ≡ ok dss → KeptFrom image words′ 0 (joined dss)
+    both (ok bss) p dss g = h .kept bss dss p (ap (λ m. m >>= each secondStage 0) (sym p) ∙ g)
+    both (refused x y z) p dss g = not-ok (ap (λ m. m >>= each secondStage 0) (sym p) ∙ g)
 
 -- none are left
 pub stages-none : (image : List ℕ) (i s : ℕ) (w : Walk) (words : List ℕ) → StagesFrom image i s [] w (w .second) words words
