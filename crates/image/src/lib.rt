@@ -1,7 +1,5 @@
-// A prepared image: its words and tables, its records, the check (document 01, numbers 2 to 7), and the items of a run of records.
+// A prepared image: its words and tables, and the check (document 01, numbers 2 to 7).
 pub mod check;
-pub mod items;
 mod record_rules;
-mod table_walker;
 pub mod token_tree;
 mod words;

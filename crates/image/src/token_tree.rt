@@ -4,10 +4,10 @@ pub use crate::words::byte_at;
 use crate::words::four_at;
 pub use crate::words::join4;
 ghost use mathlib.Core.Path.{_≡_};
-ghost use Prim.Native.Nat.{_+_, _*_, _^_, _<_, _≤_};
-ghost use lib.ListN.{length, getD};
-ghost use Rattle.definition.specs.Image.{u32At, counts, tablesFor, tables, componentCount, recordCount, literalWidth, startAt};
-ghost use Rattle.image.specs.token_tree.Tables.{countsOf, tablesOf};
+ghost use Prim.Native.Nat.{_+_};
+ghost use lib.ListN.{getD};
+ghost use Rattle.definition.specs.Image.{u32At, tablesFor};
+ghost use Rattle.image.specs.token_tree.Tables.{tablesOf};
 
 // A text place, a record number and a component number, kept apart as the crate keeps its pointers.
 pub struct PText(pub u32);
@@ -69,34 +69,6 @@ pub fn u32_at(s: &[u8], at: usize) -> u32
     four_at(s, at)
 }
 
-// The counts of an image of which some bytes may be missing.
-fn short_counts(image: &[u8]) -> Counts
-    ensures { λ r. ⌜ countsOf r ≡ counts (now (image .entry)) ⌝ }
-{
-    Counts {
-        c: u32_at(image, 0),
-        n: u32_at(image, 4),
-        r: u32_at(image, 8),
-        t: u32_at(image, 12),
-        b: u32_at(image, 16),
-    }
-}
-
-pub fn counts_of(image: &[u8]) -> Counts
-    ensures { λ r. ⌜ countsOf r ≡ counts (now (image .entry)) ⌝ }
-{
-    if image.len() < 20 {
-        return short_counts(image);
-    }
-    Counts {
-        c: four_at(image, 0),
-        n: four_at(image, 4),
-        r: four_at(image, 8),
-        t: four_at(image, 12),
-        b: four_at(image, 16),
-    }
-}
-
 pub(crate) fn tables_for(h: Counts) -> Tables
     ensures { λ r. ⌜ tablesOf r ≡ tablesFor (h .c) (h .n) (h .r) (h .t) (h .b) ⌝ }
 {
@@ -112,50 +84,4 @@ pub(crate) fn tables_for(h: Counts) -> Tables
         literals,
         stop: literals + (h.b as usize),
     }
-}
-
-fn tables_of(image: &[u8]) -> Tables
-    ensures { λ r. ⌜ tablesOf r ≡ tables (now (image .entry)) ⌝ }
-{
-    tables_for(counts_of(image))
-}
-
-// The number of components of concatenation i.
-pub fn component_count(image: &[u8], i: u32) -> u32
-    ensures { λ r. ⌜ r ≡ componentCount (now (image .entry)) i ⌝ }
-{
-    u32_at(image, 40 + 4 * (i as usize))
-}
-
-// Where the entry of component k stands. With the bound no sum after it can wrap.
-fn component_place(image: &[u8], k: u32) -> usize
-    ensures { λ p. ⌜ (p ≡ (tables (now (image .entry))) .components + 8 * k) × (p < 2 ^ 40) ⌝ }
-{
-    40 + 4 * (u32_at(image, 0) as usize) + 8 * (k as usize)
-}
-
-pub fn record_count(image: &[u8], k: PVal) -> u32
-    ensures { λ r. ⌜ r ≡ recordCount (now (image .entry)) (k .0) ⌝ }
-{
-    u32_at(image, component_place(image, k.0))
-}
-
-pub fn literal_width(image: &[u8], k: PVal) -> u32
-    ensures { λ r. ⌜ r ≡ literalWidth (now (image .entry)) (k .0) ⌝ }
-{
-    u32_at(image, component_place(image, k.0) + 4)
-}
-
-// Where the entry of record r stands.
-fn record_place(image: &[u8], r: u32) -> usize
-    ensures { λ p. ⌜ (p ≡ (tables (now (image .entry))) .records + 12 * r) × (p < 2 ^ 40) ⌝ }
-{
-    40 + 4 * (u32_at(image, 0) as usize) + 8 * (u32_at(image, 4) as usize) + 12 * (r as usize)
-}
-
-// Where the text of record r starts.
-pub fn start_at(image: &[u8], r: PBind) -> PText
-    ensures { λ p. ⌜ p .0 ≡ startAt (now (image .entry)) (r .0) ⌝ }
-{
-    PText(u32_at(image, record_place(image, r.0) + 4))
 }

@@ -1,9 +1,11 @@
 -- Laws of bytes read with zeros past the end (definition, padded).
-use mathlib.Core.Path.{_≡_, refl, ap}
+use mathlib.Core.Path.{_≡_, refl, ap, _∙_}
 use Prim.Native.Nat.{_<_}
+use native.Mathlib.Nat.{zero-add, suc-add}
 use native.Mathlib.Omega.{arith}
-use Rattle.definition.specs.Prelude.{ℕ, zero, suc, List, [], _∷_, length, getD}
-use Rattle.definition.specs.Image.{padded}
+use lib.Seq.{drop-drop}
+use Rattle.definition.specs.Prelude.{ℕ, zero, suc, _+_, List, [], _∷_, _++_, length, getD, drop}
+use Rattle.definition.specs.Image.{padded, bytesAt}
 
 pub length-padded : (n : ℕ) (s : List ℕ) → length (padded n s) ≡ n
 unfolding padded
@@ -18,3 +20,13 @@ getD-padded (suc n) [] zero h = refl
 getD-padded (suc n) [] (suc k) h = getD-padded n [] k (omega arith)
 getD-padded (suc n) (b ∷ s) zero h = refl
 getD-padded (suc n) (b ∷ s) (suc k) h = getD-padded n s k (omega arith)
+
+padded-add : (a b : ℕ) (s : List ℕ) → padded (a + b) s ≡ padded a s ++ padded b (drop a s)
+unfolding padded
+padded-add zero b s = rw zero-add
+padded-add (suc a) b [] = rw (suc-add, padded-add a b [], lib.Seq.drop-nil a)
+padded-add (suc a) b (x ∷ s) = rw (suc-add, padded-add a b s)
+
+-- bytes in two parts
+pub bytes-add : (image : List ℕ) (from a b : ℕ) → bytesAt image from (a + b) ≡ bytesAt image from a ++ bytesAt image (from + a) b
+bytes-add image from a b = padded-add a b (drop from image) ∙ rw (drop-drop a from image)

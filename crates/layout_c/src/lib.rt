@@ -12,7 +12,7 @@ ghost use Rattle.errors.specs.Refused.{numberIn};
 pub extern "C" fn layout_run(image: &[u8], mode: u32, area: &mut [u8]) -> u64
     ensures { λ r. ⌜ (r, now (area .exit)) ≡ codedOn (now (image .entry)) mode (now (area .entry)) ⌝ }
 {
-    crate::outcome::coded(layout_run::run(image, mode, area))
+    crate::outcome::coded(stages::run::run(image, mode, area))
 }
 
 // The text that the program `layout` prints for an input, one mode byte and an image: its length, or 0 where it is longer than the

@@ -1,4 +1,4 @@
--- Numbers whose high half is 0, and the others: zero, and what usize takes.
+-- Numbers whose high half is 0, and the others.
 -- Assumes nothing.
 use mathlib.Core.Path.{_≡_, sym, ap, _∙_}
 use mathlib.Core.Option.{none, some}
@@ -8,20 +8,12 @@ use lib.Dec.{ltb, eqb, eqb·suc-zero}
 use lib.IntN.{pos, natAbs}
 use borrow.Author.Tests.{lt-ltb, le-ltb, ne-eqb}
 use Rattle.numbers.specs.declared.I128.{I128}
-use Rattle.numbers.specs.Value.{bits, valueOf, toUsize}
+use Rattle.numbers.specs.Value.{bits, valueOf}
 use Rattle.numbers.proofs.Halves.{by-test}
 
 pub small : (w : I128) → w .high ≡ 0 → valueOf w ≡ pos (w .low)
 unfolding valueOf
 small w h = rw h (ap pos (omega arith))
-
-pub small-usize : (w : I128) → w .low < 2 ^ 64 → w .high ≡ 0 → toUsize (valueOf w) ≡ some (w .low)
-small-usize w l h = rw (small w h, lt-ltb (w .low) (2 ^ 64) l)
-
-pub large-usize : (w : I128) → (w .high ≡ 0 → ⊥) → toUsize (valueOf w) ≡ none
-unfolding valueOf
-large-usize w h =
-    by-test (ltb (w .high) (2 ^ 63)) (λ e. rw (e, le-ltb (bits w) (2 ^ 64) (omega arith))) (λ e. rw e)
 
 pub small-zero : (w : I128) → w .high ≡ 0 → eqb (w .low) 0 ≡ eqb (natAbs (valueOf w)) 0
 small-zero w h = rw (small w h)

@@ -29,11 +29,7 @@ abbrev pub optionOf : OptionI128 → Option ℤ
 optionOf (I.Some w) = some (valueOf w)
 optionOf I.None = none
 
--- Option<usize>, and the numbers that usize::try_from takes
+-- Option<usize>
 abbrev pub optionUsize : OptionUsize → Option ℕ
 optionUsize (U.Some n) = some n
 optionUsize U.None = none
-
-abbrev pub toUsize : ℤ → Option ℕ
-toUsize (pos n) = if ltb n (2 ^ 64) then some n else none
-toUsize (negsuc n) = none

@@ -1,4 +1,4 @@
-// Signed numbers of 128 bits, as the Rust's i128, the conversions of src/misc.rs, and the least of two numbers.
+// Signed numbers of 128 bits, as the Rust's i128: sign, order, and a number of the machine as one (src/misc.rs); the least of two numbers.
 pub mod digit;
 pub mod parse;
 pub mod sums;
@@ -10,7 +10,7 @@ ghost use lib.Dec.{eqb, ltb};
 ghost use lib.IntN.{pos, natAbs};
 ghost use lib.Signed.{ltZ, nonNeg};
 ghost use Rattle.numbers.specs.Steps.{orderOf};
-ghost use Rattle.numbers.specs.Value.{bits, valueOf, optionUsize, toUsize};
+ghost use Rattle.numbers.specs.Value.{bits, valueOf};
 
 // Two halves, in two's complement.
 pub struct I128 {
@@ -72,16 +72,6 @@ pub fn less(a: I128, b: I128) -> bool
         false
     } else {
         below(a, b)
-    }
-}
-
-pub fn i128_to_usize(x: I128) -> OptionUsize
-    ensures { λ r. ⌜ optionUsize r ≡ toUsize (valueOf x) ⌝ }
-{
-    if x.high == 0 {
-        OptionUsize::Some(x.low as usize)
-    } else {
-        OptionUsize::None
     }
 }
 

@@ -117,7 +117,7 @@ pub fn checked_sub(a: I128, b: I128) -> OptionI128
     OptionI128::Some(difference)
 }
 
-pub fn checked_neg(a: I128) -> OptionI128
+pub(crate) fn checked_neg(a: I128) -> OptionI128
     ensures { λ r. ⌜ optionOf r ≡ narrow (negℤ (valueOf a)) ⌝ }
 {
     checked_sub(I128 { high: 0, low: 0 }, a)

@@ -22,7 +22,7 @@ fn listed(image: &[u8], mode: u32, out: &mut [u8]) -> Written
     ensures { λ w. ⌜ Shown (now (out .entry)) (listing (now (image .entry)) (run (now (image .entry)) mode programArea)) (now (out .exit)) w ⌝ }
 {
     let mut space = area();
-    let outcome = layout_run::run(image, mode, &mut space);
+    let outcome = stages::run::run(image, mode, &mut space);
     listing::write_listing(image, &space, outcome, out)
 }
 

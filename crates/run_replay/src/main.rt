@@ -34,7 +34,7 @@ fn judge(image: &[u8], mode: u32, lent: usize, told: &[u8]) -> usize {
         return DIFFERENT;
     }
     compare::fill(&mut area);
-    let outcome = layout_run::run(image, mode, &mut area[..lent]);
+    let outcome = stages::run::run(image, mode, &mut area[..lent]);
     compare::compared(image, &area, outcome, told)
 }
 

@@ -1,3 +1,0 @@
--- Laws over plain variables that the functions' proofs cite.
-pub mod Components
-pub mod Heads

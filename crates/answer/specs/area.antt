@@ -1,2 +1,0 @@
--- The laws of writing.
-pub mod Writing

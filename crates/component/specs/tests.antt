@@ -1,2 +1,0 @@
--- Tests of a component.
-pub mod Tests

@@ -1,2 +1,0 @@
--- Alignments, passed on for the stages above.
-pub use Rattle.concatenation.specs.alignment.Align.{alignOf}

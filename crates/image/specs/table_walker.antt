@@ -1,2 +1,0 @@
--- The walker's record, as the definition's.
-pub mod Entries

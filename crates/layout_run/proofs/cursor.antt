@@ -1,3 +1,0 @@
--- Laws that the functions' proofs cite.
-pub mod Loops
-pub mod Ranges

@@ -1,4 +1,0 @@
--- Laws that the functions' proofs cite.
-pub mod Loops
-pub mod Parts
-pub mod Steps

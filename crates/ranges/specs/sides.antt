@@ -1,2 +1,0 @@
--- What the steps of reading a bound give.
-pub mod Sides

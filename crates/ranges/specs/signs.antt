@@ -1,2 +1,0 @@
--- The signs of a bound.
-pub mod Signs

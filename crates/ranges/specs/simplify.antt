@@ -1,2 +1,0 @@
--- The tests of ranges on plain numbers.
-pub mod Checks

@@ -1,2 +1,0 @@
--- The width between two bounds.
-pub mod Width

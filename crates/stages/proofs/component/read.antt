@@ -1,0 +1,2 @@
+-- Laws of both stages of one component.
+pub mod Verdicts

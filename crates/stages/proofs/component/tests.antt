@@ -1,0 +1,2 @@
+-- Laws of the tests of a component.
+pub mod Tested

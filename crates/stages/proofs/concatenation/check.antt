@@ -1,0 +1,6 @@
+-- Laws that the functions' proofs cite.
+pub mod Counts
+pub mod KeptRows
+pub mod Flags
+pub mod Shapes
+pub mod Turns

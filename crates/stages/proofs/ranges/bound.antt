@@ -1,0 +1,4 @@
+-- Laws of a bound.
+pub mod AtSign
+pub mod Lone
+pub mod Written

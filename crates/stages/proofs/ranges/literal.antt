@@ -1,0 +1,3 @@
+-- Laws of stage 2 of the range of a literal and of a filler.
+pub mod Limits
+pub mod Whole

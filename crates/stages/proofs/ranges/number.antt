@@ -1,0 +1,2 @@
+-- Laws of the number that a text is.
+pub mod Letters

@@ -1,0 +1,3 @@
+-- The scan for dots.
+pub mod Scans
+pub mod Steps

@@ -1,0 +1,3 @@
+-- Laws of the two sides of a bound's sign.
+pub mod Texts
+pub mod Ways

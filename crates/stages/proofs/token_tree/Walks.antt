@@ -1,0 +1,54 @@
+-- A run that is walked item by item stays within the image.
+use mathlib.Core.Path.{_≡_, refl, sym, ap, subst, _∙_}
+use Prim.Native.Nat.{_≤_, _<_}
+use native.Mathlib.Omega.{arith}
+use Rattle.definition.specs.Prelude.{ℕ, _+_, _*_, _^_, List, length}
+use Rattle.stages.specs.token_tree.Laid.{Laid, Runs}
+use Rattle.stages.specs.declared.token_tree.types.Tree.{Tree}
+use Rattle.stages.specs.token_tree.Table.{skipIn, startOr}
+use Rattle.stages.proofs.token_tree.Places.{laid-order, laid-first, laid-start}
+
+module _ (image : List ℕ) (t : Tree) (stop tail : ℕ) where
+  pub runs-start : (e s u : ℕ) → Runs image t stop tail e s → u ≡ startOr image t e stop tail → Runs image t stop tail e u
+  runs-start e s u r q =
+      let k : s ≡ u = laid-start image t (r .base) stop tail e s (r .items) (r .laid) ∙ sym q in
+      subst (λ x. Runs image t stop tail e x) k r
+
+  pub runs-order : (e s : ℕ) → Runs image t stop tail e s → (e ≤ stop) × (s ≤ tail)
+  runs-order e s r = laid-order image t (r .base) stop tail e s (r .items) (r .laid)
+
+  pub runs-room : (e s : ℕ) → Runs image t stop tail e s → e < stop → e + 1 ≤ stop
+  runs-room e s r l = (laid-first image t (r .base) stop tail e s (r .items) l (r .laid)) .stands .room
+
+  -- the facts of the next item
+  pub record Next (e s next u : ℕ) : Type 0 where
+    pub runs : Runs image t stop tail next u
+    pub order : e < next
+    pub stop-order : next ≤ stop
+    pub text-order : s ≤ u
+    pub text-fits : u ≤ tail
+
+  pub runs-next : (e s next u : ℕ) → Runs image t stop tail e s → e < stop → next ≡ e + skipIn image t e → u ≡ startOr image t next stop tail → Next e s next u
+  runs-next e s next u r l en et =
+      let f = laid-first image t (r .base) stop tail e s (r .items) l (r .laid) in
+      let v : ℕ = s + length (f .item .part .bytes) in
+      let ld : Laid image t (r .base) stop tail next v (f .rest) = subst (λ x. Laid image t (r .base) stop tail x v (f .rest)) (sym en) (f .laid) in
+      let ts : u ≡ v = et ∙ sym (laid-start image t (r .base) stop tail next v (f .rest) ld) in
+      let lt : Laid image t (r .base) stop tail next u (f .rest) = subst (λ x. Laid image t (r .base) stop tail next x (f .rest)) (sym ts) ld in
+      let o = laid-order image t (r .base) stop tail next u (f .rest) lt in
+      let sk = f .stands .skip in
+      record {
+        runs = record {
+          base = r .base;
+          items = f .rest;
+          laid = lt;
+          fits = r .fits;
+          text-fits = r .text-fits;
+          small = r .small;
+          text-small = r .text-small;
+        };
+        order = omega (arith, en, sk);
+        stop-order = o .0;
+        text-order = omega (arith, ts);
+        text-fits = o .1;
+      }

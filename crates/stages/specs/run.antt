@@ -1,0 +1,2 @@
+-- The whole run: what it answers, and what the lent area holds afterwards.
+pub mod Run
