@@ -9,13 +9,6 @@ ghost use lib.ListN.{getD};
 ghost use Rattle.definition.specs.Image.{u32At, tablesFor};
 ghost use Rattle.image.specs.token_tree.Tables.{tablesOf};
 
-// A text place, a record number and a component number, kept apart as the crate keeps its pointers.
-pub struct PText(pub u32);
-
-pub struct PBind(pub u32);
-
-pub struct PVal(pub u32);
-
 // C, N, R, T and B of document 01's header.
 pub struct Counts {
     pub c: u32,

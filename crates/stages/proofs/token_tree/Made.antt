@@ -3,8 +3,8 @@ use mathlib.Core.Path.{_≡_, refl}
 use borrow.Author.Tests.{eq-eqb, ne-eqb}
 use Rattle.definition.specs.Prelude.{ℕ, _+_, _*_, _-_, List}
 use Rattle.definition.specs.Image.{u32At}
-use Rattle.image.specs.declared.token_tree.PBind.{PBind}
-use Rattle.image.specs.declared.token_tree.PText.{PText}
+use Rattle.stages.specs.declared.token_tree.types.PBind.{PBind}
+use Rattle.stages.specs.declared.token_tree.types.PText.{PText}
 use Rattle.stages.specs.token_tree.Table.{tablesIn, startOr, runIn}
 use Rattle.stages.specs.token_tree.Parts.{noPart, partBy}
 use Rattle.stages.specs.declared.token_tree.types.Part.{Part}

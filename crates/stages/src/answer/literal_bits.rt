@@ -104,7 +104,7 @@ fn put_some(dst: &mut [u8], at: usize, src: &[u8], from: usize, n: usize) -> usi
 }
 
 // Bits from .. from + n of src become bits at .. at + n of dst.
-pub fn put_bits(dst: &mut [u8], at: usize, src: &[u8], from: usize, n: usize)
+pub(crate) fn put_bits(dst: &mut [u8], at: usize, src: &[u8], from: usize, n: usize)
     ensures { λ _. ⌜ now (dst .exit) ≡ putBits (now (dst .entry)) at (now (src .entry)) from n ⌝ }
 {
     if usize::MAX - n < at {
@@ -120,7 +120,7 @@ pub fn put_bits(dst: &mut [u8], at: usize, src: &[u8], from: usize, n: usize)
 }
 
 // n bytes from a place are 0.
-pub fn zero_bytes(dst: &mut [u8], at: usize, n: usize)
+pub(crate) fn zero_bytes(dst: &mut [u8], at: usize, n: usize)
     ensures { λ _. ⌜ now (dst .exit) ≡ sets (now (dst .entry)) at (replicate n 0) ⌝ }
 {
     if dst.len() <= at {

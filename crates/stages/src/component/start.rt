@@ -1,4 +1,7 @@
 // The starting value: "of the most significant component of concatenation 0 only" (10).
+use crate::token_tree::PBind;
+use crate::token_tree::PText;
+use crate::token_tree::PVal;
 use crate::token_tree::Part;
 use crate::token_tree::Run;
 use crate::token_tree::Tables;
@@ -15,9 +18,6 @@ use crate::token_tree::single;
 use crate::token_tree::start_of;
 use crate::token_tree::start_or;
 use errors::Refusal;
-use image::token_tree::PBind;
-use image::token_tree::PText;
-use image::token_tree::PVal;
 ghost use mathlib.Core.Path.{_≡_};
 ghost use mathlib.Core.List.{List};
 ghost use Prim.Native.Nat.{ℕ, _+_, _*_, _^_, _≤_, _<_};

@@ -3,7 +3,7 @@ mod align;
 mod flags;
 
 pub use align::FillerAlign;
-pub use align::align_number;
+pub(crate) use align::align_number;
 pub(crate) use align::filler_align;
 pub(crate) use align::is_align;
 pub(crate) use align::is_opposite;

@@ -2,9 +2,9 @@
 mod lent;
 mod running;
 
-pub use lent::lent_once;
+pub(crate) use lent::lent_once;
 pub use running::Advanced;
 pub use running::Running;
 pub use running::Shape;
 pub use running::Stepped;
-pub use running::finish;
+pub(crate) use running::finish;

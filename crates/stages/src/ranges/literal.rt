@@ -17,12 +17,12 @@ ghost use Rattle.numbers.specs.Value.{optionOf};
 ghost use Rattle.stages.specs.ranges.Values.{Tree as TreeIn, usbOf, endOf, usbrOf, UsbFits, Measured, SimplifiedReads};
 ghost use Rattle.stages.specs.ranges.Checks.{passes, endZero, Positive, endChecked, toWidth, literalRange, fillerRange};
 
-// A number, not below 0, that is above w.
+// A number above w.
 fn above(n: OptionI128, w: u32) -> bool
-    ensures { λ b. ⌜ (passes nonNeg (optionOf n) ≡ true → b ≡ not (passes (λ x. leZ x (pos w)) (optionOf n))) ⌝ }
+    ensures { λ b. ⌜ b ≡ not (passes (λ x. leZ x (pos w)) (optionOf n)) ⌝ }
 {
     match n {
-        OptionI128::Some(x) => x.high != 0 || (w as u64) < x.low,
+        OptionI128::Some(x) => numbers::less(numbers::usize_to_i128(w as usize), x),
         OptionI128::None => false,
     }
 }

@@ -1,10 +1,10 @@
 // The scan for `..` and `..=` at the top level of a range: "each character a token; a `..` counts when the next token is no dot".
+use crate::token_tree::PBind;
+use crate::token_tree::PText;
 use crate::token_tree::Tree;
 use crate::token_tree::behind;
 use crate::token_tree::single;
 use crate::token_tree::start_or;
-use image::token_tree::PBind;
-use image::token_tree::PText;
 ghost use mathlib.Core.Path.{_≡_};
 ghost use mathlib.Core.List.{List};
 ghost use Prim.Native.Nat.{ℕ, _≤_};

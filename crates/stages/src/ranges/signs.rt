@@ -1,11 +1,11 @@
 // The sign at which a bound is cut: "With any `+`, cut at the last. Else, with any `-`, cut at the first of the leftmost pair of
 // adjacent minuses, or with no pair at the last."
+use crate::token_tree::PBind;
+use crate::token_tree::PText;
 use crate::token_tree::Tree;
 use crate::token_tree::behind;
 use crate::token_tree::single;
 use crate::token_tree::start_or;
-use image::token_tree::PBind;
-use image::token_tree::PText;
 ghost use mathlib.Core.Path.{_≡_};
 ghost use mathlib.Core.List.{List};
 ghost use Prim.Native.Nat.{ℕ, _≤_, _<_, _^_};

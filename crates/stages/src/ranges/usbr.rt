@@ -28,7 +28,7 @@ fn below_zero(n: OptionI128) -> bool
     ensures { λ b. ⌜ b ≡ not (passes nonNeg (optionOf n)) ⌝ }
 {
     match n {
-        OptionI128::Some(x) => 0x8000_0000_0000_0000 <= x.high,
+        OptionI128::Some(x) => numbers::is_negative(x),
         OptionI128::None => false,
     }
 }

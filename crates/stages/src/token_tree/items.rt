@@ -2,8 +2,8 @@
 use super::types::Entry;
 use super::types::Tree;
 use super::walker::read_at;
-use image::token_tree::PBind;
-use image::token_tree::PText;
+use crate::token_tree::types::PBind;
+use crate::token_tree::types::PText;
 ghost use mathlib.Core.Path.{_≡_};
 ghost use mathlib.Core.List.{List, _∷_};
 ghost use Prim.Native.Nat.{ℕ, _+_, _*_, _^_, _≤_, _<_};

@@ -1,7 +1,7 @@
 // Parts of the text table.
 use super::types::Part;
 use super::types::Tree;
-use image::token_tree::PText;
+use crate::token_tree::types::PText;
 ghost use mathlib.Core.Path.{_≡_};
 ghost use Prim.Native.Nat.{_+_, _-_, _^_, _≤_, _<_};
 ghost use lib.ListN.{length, getD};

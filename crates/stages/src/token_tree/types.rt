@@ -1,6 +1,11 @@
-// Places of texts and records. A text place, a record number and a component number are image's PText, PBind and PVal.
-use image::token_tree::PBind;
-use image::token_tree::PText;
+// Places of texts and records.
+
+// A text place, a record number and a component number, kept apart as the crate keeps its pointers.
+pub struct PText(pub u32);
+
+pub struct PBind(pub u32);
+
+pub struct PVal(pub u32);
 
 // A part of the text table; an empty one starts at 0.
 pub struct Part {

@@ -1,7 +1,7 @@
 // The table walker: the lent image and the byte place of a record, together. Every record is read through it.
 use super::table::number_at;
 use super::types::Entry;
-use image::token_tree::PText;
+use crate::token_tree::types::PText;
 ghost use Prim.Native.Nat.{_+_, _≤_};
 ghost use mathlib.Core.Path.{_≡_};
 ghost use lib.ListN.{length};

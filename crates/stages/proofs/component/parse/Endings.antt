@@ -83,7 +83,7 @@ module _ (image : List ℕ) (t : Tree) (stop tail r last : ℕ) where
       let e = ends (g .item) (g .rest) in
       let a : is ≡ e .mid ++ (e .item ∷ []) = g .parts ∙ e .parts in
       let p : last ≡ placeOf image t r (length (e .mid)) =
-          f base s (g .item) (g .rest) (subst (Laid image t base stop tail r s) (g .parts) h) ∙ ap (placeOf image t r) (e .long) in
+      f base s (g .item) (g .rest) (subst (Laid image t base stop tail r s) (g .parts) h) ∙ ap (placeOf image t r) (e .long) in
       last-of base s is (e .mid) (e .item) a p (subst (Laid image t base stop tail r s) a h)
 
   -- its record can be read

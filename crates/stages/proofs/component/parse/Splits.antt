@@ -83,7 +83,7 @@ stage-items true u = go (prefixOf u) refl
         let is = items 0 (u .recs) in
         let c = colon-parts ((splitRange is) .mid) p e in
         let n : length (p .before) + 1 ≤ length ((splitRange is) .mid) =
-            (let m = ap {A = List Item} length (c .parts) ∙ length-append (p .before) (c .sign ∷ p .after) in omega (arith, m)) in
+        (let m = ap {A = List Item} length (c .parts) ∙ length-append (p .before) (c .sign ∷ p .after) in omega (arith, m)) in
         let d : drop (length (p .before) + 1) ((splitRange is) .mid) ≡ p .after = ap (drop (length (p .before) + 1)) (c .parts) ∙ drop-before (p .before) (p .after) (c .sign) in
         sym (ap (λ (s : Split). parseComponent (s .mid) (s .range) (u .bits)) (drop-range (length (p .before) + 1) is n)
         ∙ ap (λ m. parseComponent m ((splitRange is) .range) (u .bits)) d)

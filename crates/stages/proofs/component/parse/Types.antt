@@ -153,11 +153,14 @@ pub unbounded-is : (image : List ℕ) (t : Tree) (base : ℕ) (u : Usbr) → u �
 unfolding padded valueOf
 unbounded-is image t base u e f =
     let z : 0 - base ≡ 0 = omega arith in
-    rw e (rw z refl, record {
-      start = record {
-        part = record { room = omega (arith, f); none = λ k. refl; some = λ k. absurd (omega (arith, k)) };
-        low = omega arith;
-        high = omega arith;
-      };
-      «end» = tt;
-    })
+    rw e (
+      rw z refl,
+      record {
+        start = record {
+          part = record { room = omega (arith, f); none = λ k. refl; some = λ k. absurd (omega (arith, k)) };
+          low = omega arith;
+          high = omega arith;
+        };
+        «end» = tt;
+      },
+    )

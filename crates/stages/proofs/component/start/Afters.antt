@@ -56,8 +56,7 @@ module _ (image : List ℕ) (t : Table) (after : ℕ) where
   unfolding AfterIn joined
   early-in r [] node h k = (subst (λ x. AfterIs image t after x true node) (add-zero r) k, tt)
   early-in r (n ∷ pre) node h k =
-      let e : r + length (recsOf n ++ allRecs pre) ≡ r + length (recsOf n) + length (allRecs pre) = (let a = length-append (recsOf n) (allRecs pre) in omega (arith, a)) in
-      (
+      let e : r + length (recsOf n ++ allRecs pre) ≡ r + length (recsOf n) + length (allRecs pre) = (let a = length-append (recsOf n) (allRecs pre) in omega (arith, a)) in (
         rw (not-last pre node) (before (length (recsOf n)) (length (allRecs pre)) (length (recsOf n ++ allRecs pre)) (length-append (recsOf n) (allRecs pre)) h),
         early-in (r + length (recsOf n)) pre node (subst (λ x. (after ≡ 0) ⊎ (x ≤ after)) e h) (subst (λ x. AfterIs image t after x true node) e k),
       )
@@ -185,9 +184,9 @@ module _ (image : List ℕ) (g : Grown image) (o : Source image (g .tree)) where
     tree-is after d =
         subst (AfterTree image (treeIn image) after 0 0) (sym (o .parts)) (
           early-in image (treeIn image) after 0 (o .pre) (o .node) (subst (λ x. (after ≡ 0) ⊎ (x ≤ after)) z (d .side))
-          (subst (λ x. AfterIs image (treeIn image) after x true (o .node)) z (d .is)),
+              (subst (λ x. AfterIs image (treeIn image) after x true (o .node)) z (d .is)),
           late-tree image (treeIn image) after 1 (0 + length (allRecs (o .pre ++ (o .node ∷ [])))) (o .more) (omega arith)
-          (let w = d .within in let y = all (o .pre) (o .node) in omega (arith, w, es, y)),
+              (let w = d .within in let y = all (o .pre) (o .node) in omega (arith, w, es, y)),
         )
       where
         z : r ≡ 0 + length (allRecs (o .pre))

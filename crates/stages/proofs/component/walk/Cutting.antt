@@ -75,7 +75,7 @@ module _ (image : List ℕ) (t : Tree) (after s stop tail r : ℕ) (n : Node) (s
       let rest : length (drop (suc k) is) ≡ length is - suc k = length-drop (suc k) is in
       let high : after < stop = rw b (laid-some image t s stop tail _ (p .from) (drop (suc k) is) (omega (arith, rest, f)) (p .after)) in
       let cut : withoutBy whole after ≡ record { r = record { 0 = after }; stop = record { 0 = stop }; «end» = record { 0 = tail } } =
-        rw (lt-leb after r low, lt-leb stop after high) refl in
+      rw (lt-leb after r low, lt-leb stop after high) refl in
       subst (Reads true (drop (k + 1) is)) (sym cut)
       (p .from, rw (one, b) (p .after), high, rw b (runs-after image t stop tail r s s (take (suc k) is) (drop (suc k) is) u p))
 
@@ -105,9 +105,8 @@ pub cut-of : (image : List ℕ) (t : Tables) (k r s l x y m after : ℕ) (n : No
 cut-of image t k r s l x y m after n ns scanned h f a size run cut es er ec =
     let g = rows-cons image t k r s l n ns h .0 in
     let e : run ≡ record { r = record { 0 = r }; stop = record { 0 = r + length (recsOf n) }; «end» = record { 0 = s + length (textOf (recsOf n)) } } =
-      er ∙ ap (runIn image t r) (es ∙ g .size) ∙ run-is image t k r s l n ns h in
-    (
+    er ∙ ap (runIn image t r) (es ∙ g .size) ∙ run-is image t k r s l n ns h in (
       cut-is image (t .tree) after s (r + length (recsOf n)) (s + length (textOf (recsOf n))) r n (g .some) refl (runs-of image t k r s l m x y n ns h f)
-      (root-laid image t k r s l n g) scanned cut a (ec ∙ ap (λ z. withoutBy z after) e),
+          (root-laid image t k r s l n g) scanned cut a (ec ∙ ap (λ z. withoutBy z after) e),
       ap (λ (z : Run). z .stop .0) e,
     )

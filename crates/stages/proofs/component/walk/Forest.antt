@@ -49,8 +49,12 @@ unfolding parts joined placedLists
 lists-are s [] = refl
 lists-are s (c ∷ t) =
     let s′ = s + length (textOf (allRecs c)) in
-    rw (placed-append s c (joined t), take-at (placedFrom s c) (placedFrom s′ (joined t)) (length c) (placed-length s c),
-    drop-at (placedFrom s c) (placedFrom s′ (joined t)) (length c) (placed-length s c), lists-are s′ t) refl
+    rw (
+      placed-append s c (joined t),
+      take-at (placedFrom s c) (placedFrom s′ (joined t)) (length c) (placed-length s c),
+      drop-at (placedFrom s c) (placedFrom s′ (joined t)) (length c) (placed-length s c),
+      lists-are s′ t,
+    ) refl
 
 pub tree-is : (t : List (List Node)) → placedTree t ≡ placedLists 0 t
 unfolding placedTree
@@ -165,7 +169,7 @@ module _ (image : List ℕ) (i s : ℕ) (c : List Node) (t : List (List Node)) (
           let p = parts-of bss e in
           let u = tree-parts (λ last. simplify) i (p .one) (p .rest) dss (ap (each secondStage i) (sym (p .all)) ∙ f) in
           let n : length (u .one) ≡ length c =
-            each-length (λ last. simplify) i 0 (p .one) (u .one) (u .reads) ∙ each-length stage1Component i 0 (placedFrom s c) (p .one) (p .reads) ∙ placed-length s c in
+          each-length (λ last. simplify) i 0 (p .one) (u .one) (u .reads) ∙ each-length stage1Component i 0 (placedFrom s c) (p .one) (p .reads) ∙ placed-length s c in
           let z : m .k .0 ≡ w .k .0 + length (u .one) = k ∙ ap (λ x. w .k .0 + x) (sym n) in
           let long = h .long in
           subst (KeptFrom image words′ (w .k .0)) (sym (joined-one (u .one) (u .rest) dss (u .all)))

@@ -95,7 +95,7 @@ module _ (image : List ℕ) (t : Tables) where
       → WalkFits image t w (length (n ∷ ns)) room → m .k .0 ≡ w .k .0 + 1 → m .l ≡ w .l + bytesFor (length (n .bits)) → WalkFits image t m (length ns) room
   fits-next w m s room n ns h f a b =
       let o = fits-one (w .k .0) (w .r .0) s (w .l) (length ns) n (rows-cons image t (w .k .0) (w .r .0) s (w .l) n ns h .0)
-          (record { tables = f .tables; literals = f .literals }) in
+      (record { tables = f .tables; literals = f .literals }) in
       let x = f .words in
       let k : m .k .0 ≡ suc (w .k .0) = omega (arith, a) in
       record { tables = rw (k, b) (o .tables); literals = rw b (o .literals); words = omega (arith, x, a) }

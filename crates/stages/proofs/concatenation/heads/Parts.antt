@@ -8,7 +8,7 @@ use Rattle.definition.specs.Prelude.{ℕ, zero, suc, _+_, _*_, List, [], _∷_,
 use Rattle.definition.specs.Component.{Component}
 use Rattle.definition.specs.Basics.{joined}
 use Rattle.definition.specs.Image.{Placed, u32At}
-use Rattle.image.specs.declared.token_tree.PVal.{PVal}
+use Rattle.stages.specs.declared.token_tree.types.PVal.{PVal}
 use Rattle.stages.specs.concatenation.Check.{Lies}
 use Rattle.stages.specs.token_tree.Rows.{Sizes}
 use Rattle.stages.specs.concatenation.Heads.{CountsFit}

@@ -35,25 +35,17 @@ untrue h = let z : _≡_ {A = ℕ} 0 1 = cc in absurd (omega arith)
 over-ltb : (a b : ℕ) → ltb b a ≡ not (leb a b)
 over-ltb a b = by-test (ltb b a) (λ e. e ∙ ap not (sym (lt-leb a b (ltb-true b a e)))) (λ e. e ∙ ap not (sym (le-leb a b (ltb-false b a e))))
 
-high-over : (x : I128) (w : ℕ) → w < 2 ^ 64 → (x .high ≡ 0 → ⊥) → nonNeg (valueOf x) ≡ true → leZ (valueOf x) (pos w) ≡ false
-unfolding valueOf
-high-over x w l h =
-    by-test (ltb (x .high) (2 ^ 63))
-    (λ e. rw e (λ n. lt-leb (bits x) w (omega arith)))
-    (λ e. rw e (λ n. untrue n))
+-- w < z where z is not at most w
+over-less : (z : ℤ) (w : ℕ) → ltZ (pos w) z ≡ not (leZ z (pos w))
+over-less (pos n) w = over-ltb n w
+over-less (negsuc n) w = refl
 
 module _ (n : OptionI128) (x : I128) (w : ℕ) (e : n ≡ I.Some x) where
   there : {r : Bool} → r ≡ not (leZ (valueOf x) (pos w)) → r ≡ not (passes (λ x. leZ x (pos w)) (optionOf n))
   there h = h ∙ sym (ap (λ (n : OptionI128). not (passes (λ x. leZ x (pos w)) (optionOf n))) e)
 
-  pub above-high : w < 2 ^ 64 → (x .high ≡ 0 → ⊥) → passes nonNeg (optionOf n) ≡ true
-      → not (eqb (x .high) 0) ≡ not (passes (λ x. leZ x (pos w)) (optionOf n))
-  above-high l h p =
-      let q : nonNeg (valueOf x) ≡ true = subst (λ (n : OptionI128). passes nonNeg (optionOf n) ≡ true) e p in
-      there (ap not (ne-eqb (x .high) 0 h) ∙ ap not (sym (high-over x w l h q)))
-
-  pub above-low : x .high ≡ 0 → ltb w (x .low) ≡ not (passes (λ x. leZ x (pos w)) (optionOf n))
-  above-low h = there (over-ltb (x .low) w ∙ ap (λ (z : ℤ). not (leZ z (pos w))) (sym (small x h)))
+  pub above-some : (y : I128) (r : Bool) → valueOf y ≡ pos w → r ≡ ltZ (valueOf y) (valueOf x) → r ≡ not (passes (λ x. leZ x (pos w)) (optionOf n))
+  above-some y r h l = there (l ∙ ap (λ (z : ℤ). ltZ z (valueOf x)) h ∙ over-less (valueOf x) w)
 
 pub above-none : (n : OptionI128) (w : ℕ) → n ≡ I.None → false ≡ not (passes (λ x. leZ x (pos w)) (optionOf n))
 above-none n w e = sym (ap (λ (n : OptionI128). not (passes (λ x. leZ x (pos w)) (optionOf n))) e)

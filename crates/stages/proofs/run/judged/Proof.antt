@@ -13,9 +13,12 @@ stage5-requires : tie.Need-stage5-requires
 stage5-requires c κs =
     let s = c .before .before .before .before .before .before .before .before .before .before in
     let f = s .pre .1 in
-    let q = c .before .before .before .before .stage4 in
-    (scannedBase (s .args .image .now), f .ds, f .heads-long,
-      answers (s .args .area .now) (s .pre .0) f (s .args .mode) (q .result) (q .ensures) (c .before .before .o .given .1))
+    let q = c .before .before .before .before .stage4 in (
+      scannedBase (s .args .image .now),
+      f .ds,
+      f .heads-long,
+      answers (s .args .area .now) (s .pre .0) f (s .args .mode) (q .result) (q .ensures) (c .before .before .o .given .1),
+    )
 
 returns : tie.Need-returns
 returns c =

@@ -17,7 +17,7 @@ pub enum FillerAlign {
 }
 
 // 0 to 5, as in the answer.
-pub fn align_number(a: FillerAlign) -> u32
+pub(crate) fn align_number(a: FillerAlign) -> u32
     ensures { λ r. ⌜ r ≡ alignNumber (alignOf a) ⌝ }
 {
     match a {

@@ -18,7 +18,14 @@ fn advance(r: &mut Running, i: u32, k: u32, first: bool, last: bool, shape: Shap
 }
 
 // Plain parameters above the lent form: a local is lent once.
-pub fn lent_once(r: Running, i: u32, k: u32, first: bool, last: bool, shape: Shape) -> Advanced
+pub(crate) fn lent_once(
+    r: Running,
+    i: u32,
+    k: u32,
+    first: bool,
+    last: bool,
+    shape: Shape,
+) -> Advanced
     ensures { λ a. ⌜ (runningOf (a .running), resultOf (a .checked)) ≡ advancedAs i k first last shape (runningOf r) ⌝ }
 {
     let mut x = r;

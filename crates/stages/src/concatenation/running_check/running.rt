@@ -158,7 +158,7 @@ fn step(i: u32, k: u32, first: bool, last: bool, shape: Shape, r: Running) -> St
 }
 
 // After the last component: 33.
-pub fn finish(i: u32, r: Running) -> Checked
+pub(crate) fn finish(i: u32, r: Running) -> Checked
     ensures { λ q. ⌜ resultOf q ≡ finishOf i (runningOf r) ⌝ }
 {
     let width = r.width;

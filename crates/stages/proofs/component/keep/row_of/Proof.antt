@@ -68,12 +68,16 @@ words-of-requires-2 c κs = search needs
 returns : tie.Need-returns
 returns c = λ image t base h g.
     rw (
-      c .words-of2 .ensures, c .before .end-or-zero .ensures, c .before .before .words-of .ensures, c .before .before .before .content .ensures,
-      c .before .before .before .before .width-flag .ensures, c .before .before .before .before .before .flag .ensures .0,
+      c .words-of2 .ensures,
+      c .before .end-or-zero .ensures,
+      c .before .before .words-of .ensures,
+      c .before .before .before .content .ensures,
+      c .before .before .before .before .width-flag .ensures,
+      c .before .before .before .before .before .flag .ensures .0,
       c .before .before .before .before .before .before .has-end .ensures,
       c .before .before .before .before .before .before .before .type-flags .ensures .1 image t base
-      (c .before .before .before .before .before .before .before .before .before .before .before .args .literal) g,
-      c .before .before .before .before .before .before .before .before .width-or-zero .ensures
+          (c .before .before .before .before .before .before .before .before .before .before .before .args .literal) g,
+      c .before .before .before .before .before .before .before .before .width-or-zero .ensures,
     ) refl
 
 pub row-of-spec : {M : Type 1} → statement M

@@ -49,8 +49,7 @@ enum-told-3 c = search needs
 -- src/component/keep.rt:86:1
 returns : tie.Need-returns
 returns c =
-    let e = c .flag .ensures in
-    (
+    let e = c .flag .ensures in (
       (let l = e .1 in omega (arith, l)),
       λ image t base at g. literal-flags image t base at (c .before .before .before .before .args .c) _ (c .before .before .enum-told .given .1)
           (c .flag .result) (c .before .is-static-literal .result) (e .0) (c .before .is-static-literal .ensures image t base at),
@@ -59,8 +58,7 @@ returns c =
 -- src/component/keep.rt:86:1
 returns-2 : tie.Need-returns-2
 returns-2 c =
-    let e = c .flag2 .ensures in
-    (
+    let e = c .flag2 .ensures in (
       (let l = e .1 in omega (arith, l)),
       λ image t base at g. variable-flags image t base at (c .before .before .before .before .args .c) _ (c .before .before .enum-told2 .given .1)
           (c .flag2 .result) (c .before .has-full-range .result) (e .0) (c .before .has-full-range .ensures image t base at g),

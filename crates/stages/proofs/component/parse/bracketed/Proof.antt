@@ -69,7 +69,7 @@ single-bit-requires c κs =
     let b = bracket-of (now (a .image)) (a .tree) (a .run) (a .last .0) (p .1 .0) (p .1 .1) (p .1 .2) (p .1 .3) (p .1 .4) in
     let q = c .before .before .parse-range in (
       single-fits (now (a .image)) (a .tree) (a .run) (a .last .0) (p .0 .0) (p .0 .1) (p .1 .0) (p .1 .1) (p .1 .2) (p .1 .3) b (q .result) (q .ensures)
-      (c .enum-told .given .1),
+          (c .enum-told .given .1),
       (b .from + 1, inside-runs (now (a .image)) (a .tree) (a .run) (a .last .0) (p .0 .0) (p .0 .1) (p .1 .0) (p .1 .1) (p .1 .2) (p .1 .3) b),
     )
 

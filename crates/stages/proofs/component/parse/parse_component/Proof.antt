@@ -40,9 +40,16 @@ bracketed-requires c κs =
     let l = c .before .before .before .before .before .before .last-item in
     let t = last-at (now (a .image)) (a .tree) (a .run .stop .0) (a .run .«end» .0) (a .run .r .0) (l .result .0) (p .0) (l .ensures) (w .base) (p .1 .0) (w .items) (w .laid) in
     let k = last-kind (now (a .image)) (a .tree) (a .run .stop .0) (a .run .«end» .0) (a .run .r .0) (l .result .0) (w .base) (p .1 .0) (w .items) t _ (c .before .before .before .before .before .«record» .ensures .0) in
-    let m = last-some (now (a .image)) (a .tree) (a .run .stop .0) (a .run .«end» .0) (a .run .r .0) (l .result .0) (w .base) (p .1 .0) (w .items) t (c .if2 .left) in
-    (p .1, (w .base, p .1 .0, t .mid, t .item,
-    ended-by (now (a .image)) (a .tree) (a .run) (l .result .0) (w .base) (p .1 .0) (w .items) (w .laid) t (sym k ∙ c .before .before .before .if1 .left) m))
+    let m = last-some (now (a .image)) (a .tree) (a .run .stop .0) (a .run .«end» .0) (a .run .r .0) (l .result .0) (w .base) (p .1 .0) (w .items) t (c .if2 .left) in (
+      p .1,
+      (
+        w .base,
+        p .1 .0,
+        t .mid,
+        t .item,
+        ended-by (now (a .image)) (a .tree) (a .run) (l .result .0) (w .base) (p .1 .0) (w .items) (w .laid) t (sym k ∙ c .before .before .before .if1 .left) m,
+      ),
+    )
 
 returns-3 : tie.Need-returns-3
 returns-3 c base s literal is few h =

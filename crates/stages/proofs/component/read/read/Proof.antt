@@ -21,11 +21,10 @@ simplify-requires : tie.Need-simplify-requires
 simplify-requires c κs =
     let a = c .before .before .before .before .before .args in
     let p = c .before .before .before .before .before .pre in
-    let u = p .2 .1 in
-    (
+    let u = p .2 .1 in (
       u .base,
       parsed-held (a .image .now) (a .tree) (u .base) 0 _ _ (c .before .before .before .parse-component .ensures (u .base) (p .2 .0) 0 (u .items) (p .0) (u .laid))
-      _ (c .before .c .given .1),
+          _ (c .before .c .given .1),
     )
 
 -- src/component/read.rt:56:35

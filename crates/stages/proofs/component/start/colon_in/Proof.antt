@@ -25,16 +25,18 @@ abbrev μ-loop : tie.MeasureT-loop
 start-or-requires : tie.Need-start-or-requires Inv-loop μ-loop
 start-or-requires c κs =
     let a = c .before .args in
-    let p = c .before .pre in
-    (runs-order (now (a .image)) (a .tree) (a .stop .0) (a .«end» .0) (a .r .0) (p .0) (p .1) .0,
-    λ l. record-fits (now (a .image)) (a .tree) (a .stop .0) (a .«end» .0) (a .r .0) (p .0) (p .1) l .0)
+    let p = c .before .pre in (
+      runs-order (now (a .image)) (a .tree) (a .stop .0) (a .«end» .0) (a .r .0) (p .0) (p .1) .0,
+      λ l. record-fits (now (a .image)) (a .tree) (a .stop .0) (a .«end» .0) (a .r .0) (p .0) (p .1) l .0,
+    )
 
 loop-holds : tie.Need-loop-holds Inv-loop μ-loop
 loop-holds c =
     let a = c .before .before .args in
-    let p = c .before .before .pre in
-    (runs-start (now (a .image)) (a .tree) (a .stop .0) (a .«end» .0) (a .r .0) (p .0) _ (p .1) (c .start-or .ensures),
-    λ base s′ is h. seeing-start (now (a .image)) (a .tree) base (a .stop .0) (a .«end» .0) (a .r .0) is s′ _ h (c .start-or .ensures))
+    let p = c .before .before .pre in (
+      runs-start (now (a .image)) (a .tree) (a .stop .0) (a .«end» .0) (a .r .0) (p .0) _ (p .1) (c .start-or .ensures),
+      λ base s′ is h. seeing-start (now (a .image)) (a .tree) base (a .stop .0) (a .«end» .0) (a .r .0) is s′ _ h (c .start-or .ensures),
+    )
 
 behind-requires : tie.Need-behind-requires Inv-loop μ-loop
 behind-requires c κs =
@@ -78,10 +80,11 @@ loop-again : tie.Need-loop-again Inv-loop μ-loop
 loop-again c =
     let a = c .before .before .before .before .before .before .before .before .before .before .before .args in
     let v = c .before .before .before .before .before .before .before .before .loop in
-    let n = runs-next (now (a .image)) (a .tree) (a .stop .0) (a .«end» .0) (v .at .0) (v .s .0) (c .before .before .before .before .behind .result .0) (c .before .before .before .start-or2 .result .0) (v .inv .0) (c .before .before .before .before .before .if1 .taken) (c .before .before .before .before .behind .ensures) (c .before .before .before .start-or2 .ensures) in
-    (n .runs,
-    λ base s′ is h. seeing-colon (now (a .image)) (a .tree) base (a .stop .0) (a .«end» .0) (a .r .0) (v .at .0) (v .s .0) _ _ _ (c .before .before .before .before .before .if1 .taken) (c .before .before .before .before .behind .ensures)
-    (c .before .before .before .start-or2 .ensures) (c .before .before .single .ensures) is (v .seen .0) _ (v .inv .1 base s′ is h) (c .before .if2 .taken) (c .opened .ensures))
+    let n = runs-next (now (a .image)) (a .tree) (a .stop .0) (a .«end» .0) (v .at .0) (v .s .0) (c .before .before .before .before .behind .result .0) (c .before .before .before .start-or2 .result .0) (v .inv .0) (c .before .before .before .before .before .if1 .taken) (c .before .before .before .before .behind .ensures) (c .before .before .before .start-or2 .ensures) in (
+      n .runs,
+      λ base s′ is h. seeing-colon (now (a .image)) (a .tree) base (a .stop .0) (a .«end» .0) (a .r .0) (v .at .0) (v .s .0) _ _ _ (c .before .before .before .before .before .if1 .taken) (c .before .before .before .before .behind .ensures)
+          (c .before .before .before .start-or2 .ensures) (c .before .before .single .ensures) is (v .seen .0) _ (v .inv .1 base s′ is h) (c .before .if2 .taken) (c .opened .ensures),
+    )
 
 loop-less-2 : tie.Need-loop-less-2 Inv-loop μ-loop
 loop-less-2 c =
@@ -96,10 +99,11 @@ loop-again-2 : tie.Need-loop-again-2 Inv-loop μ-loop
 loop-again-2 c =
     let a = c .before .before .before .before .before .before .before .before .before .before .before .before .before .args in
     let v = c .before .before .before .before .before .before .before .before .before .before .loop in
-    let n = runs-next (now (a .image)) (a .tree) (a .stop .0) (a .«end» .0) (v .at .0) (v .s .0) (c .before .before .before .before .before .before .behind .result .0) (c .before .before .before .before .before .start-or2 .result .0) (v .inv .0) (c .before .before .before .before .before .before .before .if1 .taken) (c .before .before .before .before .before .before .behind .ensures) (c .before .before .before .before .before .start-or2 .ensures) in
-    (n .runs,
-    λ base s′ is h. seeing-other (now (a .image)) (a .tree) base (a .stop .0) (a .«end» .0) (a .r .0) (v .at .0) (v .s .0) _ _ _ (c .before .before .before .before .before .before .before .if1 .taken) (c .before .before .before .before .before .before .behind .ensures)
-    (c .before .before .before .before .before .start-or2 .ensures) (c .before .before .before .before .single .ensures) is (v .seen .0) (v .inv .1 base s′ is h) (c .before .before .before .if2 .left) (c .if3 .left))
+    let n = runs-next (now (a .image)) (a .tree) (a .stop .0) (a .«end» .0) (v .at .0) (v .s .0) (c .before .before .before .before .before .before .behind .result .0) (c .before .before .before .before .before .start-or2 .result .0) (v .inv .0) (c .before .before .before .before .before .before .before .if1 .taken) (c .before .before .before .before .before .before .behind .ensures) (c .before .before .before .before .before .start-or2 .ensures) in (
+      n .runs,
+      λ base s′ is h. seeing-other (now (a .image)) (a .tree) base (a .stop .0) (a .«end» .0) (a .r .0) (v .at .0) (v .s .0) _ _ _ (c .before .before .before .before .before .before .before .if1 .taken) (c .before .before .before .before .before .before .behind .ensures)
+          (c .before .before .before .before .before .start-or2 .ensures) (c .before .before .before .before .single .ensures) is (v .seen .0) (v .inv .1 base s′ is h) (c .before .before .before .if2 .left) (c .if3 .left),
+    )
 
 returns-2 : tie.Need-returns-2 Inv-loop μ-loop
 returns-2 c = λ base s′ is h.

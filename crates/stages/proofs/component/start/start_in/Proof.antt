@@ -27,11 +27,12 @@ colon-in-requires c κs =
     let a = c .before .before .before .before .before .before .before .before .before .args in
     let p = c .before .before .before .before .before .before .before .before .before .pre in
     let w = p .1 .1 in
-    let l = c .before .before .before .before .last-item in
-    (p .1 .0,
-    before-runs (now (a .image)) (a .tree) (a .run .stop .0) (a .run .«end» .0) (a .run .r .0) (l .result .0) (p .1 .0) _ w
-    (last-at (now (a .image)) (a .tree) (a .run .stop .0) (a .run .«end» .0) (a .run .r .0) (l .result .0) (p .0) (l .ensures) (w .base) (p .1 .0) (w .items) (w .laid))
-    (c .before .before .before .«record» .ensures .1 .0))
+    let l = c .before .before .before .before .last-item in (
+      p .1 .0,
+      before-runs (now (a .image)) (a .tree) (a .run .stop .0) (a .run .«end» .0) (a .run .r .0) (l .result .0) (p .1 .0) _ w
+          (last-at (now (a .image)) (a .tree) (a .run .stop .0) (a .run .«end» .0) (a .run .r .0) (l .result .0) (p .0) (l .ensures) (w .base) (p .1 .0) (w .items) (w .laid))
+          (c .before .before .before .«record» .ensures .1 .0),
+    )
 
 value-before-requires : tie.Need-value-before-requires
 value-before-requires c κs =

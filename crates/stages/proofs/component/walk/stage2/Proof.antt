@@ -83,12 +83,11 @@ loop-again c =
     let x = next-standing (a .image .now) (a .t) (a .after .0) (v .i) (v .w) (v .words) (v .inv .1) (c .before .before .before .before .before .before .before .if1 .taken) in
     let n = c .before .before .before .before .before .components-of .ensures ∙ x .size in
     let some = x .some in
-    let m = c .before .before .before .before .turns .result in
-    (
+    let m = c .before .before .before .before .turns .result in (
       c .before .before .before .before .turns .kept .0 ∙ v .inv .0,
       stands-next (a .image .now) (a .t) (a .after .0) (v .i) (v .w) m (v .words) _ (v .inv .1) x
-      (c .before .before .before .before .turns .ensures (v .inv .1 .s) (x .nodes) _ (sym n) (omega (arith, n, some)) (x .rows) (x .after-in))
-      (passed (m .first) (sym (c .before .is-refused .ensures) ∙ c .if2 .left)),
+          (c .before .before .before .before .turns .ensures (v .inv .1 .s) (x .nodes) _ (sym n) (omega (arith, n, some)) (x .rows) (x .after-in))
+          (passed (m .first) (sym (c .before .is-refused .ensures) ∙ c .if2 .left)),
     )
 
 -- src/component/walk.rt:106:1

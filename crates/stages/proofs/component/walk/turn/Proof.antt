@@ -45,7 +45,7 @@ read-requires c κs =
     let a = c .before .before .before .before .before .before .before .before .before .before .args in
     let (s, n, ns, b, h, f, e) = c .before .before .before .before .before .before .before .before .before .before .pre in
     let (u, z) = cut-of (a .image .now) (a .t) (a .w .k .0) (a .w .r .0) s (a .w .l) _ _ _ (a .after .0) n ns b h (f .tables) e (c .before .before .before .records-of .result)
-        (c .before .before .run-of .result) (c .without-start .result) (c .before .before .before .records-of .ensures) (c .before .before .run-of .ensures) (c .without-start .ensures) in
+    (c .before .before .run-of .result) (c .without-start .result) (c .before .before .before .records-of .ensures) (c .before .before .run-of .ensures) (c .without-start .ensures) in
     (width-small (a .image .now) (a .t) (a .w .k .0) (a .w .r .0) s (a .w .l) n ns h (c .before .before .before .before .width-of .result) (c .before .before .before .before .width-of .ensures), u .some, (u .from, u .runs))
 
 -- src/component/walk.rt:63:17
@@ -66,9 +66,8 @@ kept-requires c κs =
     let a = c .before .before .before .before .before .before .before .before .before .before .before .before .before .before .before .args in
     let (s, n, ns, b, h, f, e) = c .before .before .before .before .before .before .before .before .before .before .before .before .before .before .before .pre in
     let (u, z) = cut-of (a .image .now) (a .t) (a .w .k .0) (a .w .r .0) s (a .w .l) _ _ _ (a .after .0) n ns b h (f .tables) e (c .before .before .before .before .before .before .before .before .records-of .result)
-        (c .before .before .before .before .before .before .before .run-of .result) (c .before .before .before .before .before .without-start .result) (c .before .before .before .before .before .before .before .before .records-of .ensures) (c .before .before .before .before .before .before .before .run-of .ensures) (c .before .before .before .before .before .without-start .ensures) in
-    let x = f .words in
-    (
+    (c .before .before .before .before .before .before .before .run-of .result) (c .before .before .before .before .before .without-start .result) (c .before .before .before .before .before .before .before .before .records-of .ensures) (c .before .before .before .before .before .before .before .run-of .ensures) (c .before .before .before .before .before .without-start .ensures) in
+    let x = f .words in (
       ordered-read (a .image .now) (a .t .tree) s 0 (c .before .before .before .before .read .result) _ (c .before .before .before .before .read .ensures s (u .from) 0 _ (u .laid)),
       omega (arith, x),
     )
@@ -112,7 +111,7 @@ returns c = λ s n ns b h e.
     let a = c .before .before .before .before .before .before .before .before .before .before .before .before .before .before .before .before .before .before .before .before .before .before .before .args in
     let (s₀, n₀, ns₀, b₀, h₀, f, e₀) = c .before .before .before .before .before .before .before .before .before .before .before .before .before .before .before .before .before .before .before .before .before .before .before .pre in
     let (u, z) = cut-of (a .image .now) (a .t) (a .w .k .0) (a .w .r .0) s (a .w .l) _ _ _ (a .after .0) n ns b h (f .tables) e (c .before .before .before .before .before .before .before .before .before .before .before .before .before .before .before .before .records-of .result)
-        (c .before .before .before .before .before .before .before .before .before .before .before .before .before .before .before .run-of .result) (c .before .before .before .before .before .before .before .before .before .before .before .before .before .without-start .result) (c .before .before .before .before .before .before .before .before .before .before .before .before .before .before .before .before .records-of .ensures) (c .before .before .before .before .before .before .before .before .before .before .before .before .before .before .before .run-of .ensures) (c .before .before .before .before .before .before .before .before .before .before .before .before .before .without-start .ensures) in
+    (c .before .before .before .before .before .before .before .before .before .before .before .before .before .before .before .run-of .result) (c .before .before .before .before .before .before .before .before .before .before .before .before .before .without-start .result) (c .before .before .before .before .before .before .before .before .before .before .before .before .before .before .before .before .records-of .ensures) (c .before .before .before .before .before .before .before .before .before .before .before .before .before .before .before .run-of .ensures) (c .before .before .before .before .before .before .before .before .before .before .before .before .before .without-start .ensures) in
     let x = f .words in
     turn-is (a .image .now) (a .i) (a .j) b s n (a .w) _ (a .words .now) _ (c .before .before .before .before .before .before .before .before .before .before .before .before .before .before .before .before .before .width-of .result)
     (answers (a .image .now) (a .t .tree) (a .i) (a .j) (a .w .k .0) s (a .t .literals + a .w .l) (c .before .before .before .before .before .before .before .before .before .before .before .before .read .result) _ (resultOf (a .w .second)) _ _ (a .words .now) _

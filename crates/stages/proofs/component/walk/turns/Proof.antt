@@ -33,9 +33,10 @@ abbrev μ-loop : tie.MeasureT-loop
 loop-holds : tie.Need-loop-holds Inv-loop μ-loop
 loop-holds c =
     let a = c .before .before .args in
-    let (s, ns, ms, e, h, f, g) = c .before .before .pre in
-    (
-      omega arith, refl, λ l. absurd (omega (arith, l)),
+    let (s, ns, ms, e, h, f, g) = c .before .before .pre in (
+      omega arith,
+      refl,
+      λ l. absurd (omega (arith, l)),
       record { s = s; rest = ns; ms = ms; count = omega (arith, e); left = record { rows = h; after-in = g }; fits = f },
       λ s ns ms e h g. going-start (a .image .now) (a .t) (a .after .0) (a .i) s ns ms (a .start) (a .words .now) (record { rows = h; after-in = g }),
     )
@@ -86,12 +87,13 @@ loop-again c =
     let kept = c .before .before .before .before .turn .kept .0 in
     let x = next-standing (a .image .now) (a .t) (a .after .0) (a .i) (a .n) (v .j) _ (v .w) st k in
     let ok = passed (m .first) (sym (c .before .is-refused .ensures) ∙ c .if1 .left) in
-    let w = fits-here (a .image .now) (a .t) (a .after .0) (a .i) (a .n) (v .j) _ (v .w) st x .words in
-    (
-      omega (arith, k), kept ∙ long, λ o. ok,
+    let w = fits-here (a .image .now) (a .t) (a .after .0) (a .i) (a .n) (v .j) _ (v .w) st x .words in (
+      omega (arith, k),
+      kept ∙ long,
+      λ o. ok,
       subst (λ r. Stands (a .image .now) (a .t) (a .after .0) (a .i) (a .n) (v .j + 1) r m) (sym kept)
-      (stands-next (a .image .now) (a .t) (a .after .0) (a .i) (a .n) (v .j) _ (v .w) m st x _ (v .words) _
-      (c .before .before .before .before .turn .ensures (st .s) (x .node) _ (eqb (a .i) 0 && isEmpty (x .others)) (x .rows) (x .after-is))),
+          (stands-next (a .image .now) (a .t) (a .after .0) (a .i) (a .n) (v .j) _ (v .w) m st x _ (v .words) _
+          (c .before .before .before .before .turn .ensures (st .s) (x .node) _ (eqb (a .i) 0 && isEmpty (x .others)) (x .rows) (x .after-is))),
       λ s ns ms z h g.
           going-next (a .image .now) (a .t) (a .after .0) (a .i) s ns ms (a .start) (a .words .now) (v .j) (v .w) m (v .words) _ (go s ns ms z h g)
           (omega (arith, k, z)) (c .before .before .before .before .turn .ensures) ok (omega (arith, w)),

@@ -8,7 +8,7 @@ returns c image t base m p =
     let e = c .before .before in
     let a = e .before .args in
     end-over image t base (a .range) (a .w) (a .x) m p (e .end-val .result) (e .end-val .ensures image t base)
-    (c .before .above .result) (c .before .above .ensures) (c .if1 .taken)
+    (c .before .above .result) (λ _. c .before .above .ensures) (c .if1 .taken)
 
 returns-2 : tie.Need-returns-2
 returns-2 c image t base m p =
@@ -16,7 +16,7 @@ returns-2 c image t base m p =
     let e = y .before .before in
     let a = e .before .args in
     range-over image t base (a .range) (a .w) (a .x) m p (e .end-val .result) (e .end-val .ensures image t base)
-    (y .before .above .result) (y .before .above .ensures) (y .if1 .left) (c .before .above2 .result) (c .before .above2 .ensures) (c .if2 .taken)
+    (y .before .above .result) (λ _. y .before .above .ensures) (y .if1 .left) (c .before .above2 .result) (λ _. c .before .above2 .ensures) (c .if2 .taken)
 
 returns-3 : tie.Need-returns-3
 returns-3 c image t base m p =
@@ -25,7 +25,7 @@ returns-3 c image t base m p =
     let e = y .before .before in
     let a = e .before .args in
     ends-at-zero image t base (a .range) (a .w) (a .x) m p (e .end-val .result) (e .end-val .ensures image t base)
-    (y .before .above .result) (y .before .above .ensures) (y .if1 .left) (z .before .above2 .result) (z .before .above2 .ensures) (z .if2 .left)
+    (y .before .above .result) (λ _. y .before .above .ensures) (y .if1 .left) (z .before .above2 .result) (λ _. z .before .above2 .ensures) (z .if2 .left)
     (c .before .end-zero .result) (c .before .end-zero .ensures image t base) (c .if3 .taken)
 
 returns-4 : tie.Need-returns-4
@@ -35,7 +35,7 @@ returns-4 c image t base m p =
     let e = y .before .before in
     let a = e .before .args in
     end-passed image t base (a .range) (a .w) (a .x) m p (e .end-val .result) (e .end-val .ensures image t base)
-    (y .before .above .result) (y .before .above .ensures) (y .if1 .left) (z .before .above2 .result) (z .before .above2 .ensures) (z .if2 .left)
+    (y .before .above .result) (λ _. y .before .above .ensures) (y .if1 .left) (z .before .above2 .result) (λ _. z .before .above2 .ensures) (z .if2 .left)
     (c .before .end-zero .result) (c .before .end-zero .ensures image t base) (c .if3 .left)
 
 pub end-checked-spec : {M : Type 1} → statement M

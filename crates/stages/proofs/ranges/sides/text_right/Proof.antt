@@ -2,7 +2,7 @@ use mathlib.Core.Path.{ap}
 use mathlib.Core.Logic.{⊎-elim}
 use native.Mathlib.Omega.{arith}
 use borrow.Author.Needs.{needs}
-use Rattle.image.specs.declared.token_tree.PText.{PText}
+use Rattle.stages.specs.declared.token_tree.types.PText.{PText}
 use Rattle.stages.proofs.ranges.sides.Ways.{from-minus, from-plus, kept-from, kept-number, kept-whole}
 use Rattle.stages.proofs.ranges.sides.text_right.Statement.{statement}
 use Rattle.stages.proofs.ranges.sides.text_right.Tie as tie

@@ -14,10 +14,12 @@ by-type-requires c κs =
     let i = now (a .image) in
     let p = b .pre in
     let q = c .before .r .given in
-    let h = s .simplify .ensures (p .0) (p .1 .range) in
-    (p .0, p .1 .c-type,
-    reads-measured i (a .tree) (p .0) (s .simplify .result) (simplifyRange (usbrOf i (a .tree) (p .0) (a .self .range))) h (q .0 .0) (q .0 .1 .0) (q .1),
-    whole-positive i (a .tree) (p .0) (a .self) (s .simplify .result) h (q .0 .0) (q .0 .1 .0) (q .1))
+    let h = s .simplify .ensures (p .0) (p .1 .range) in (
+      p .0,
+      p .1 .c-type,
+      reads-measured i (a .tree) (p .0) (s .simplify .result) (simplifyRange (usbrOf i (a .tree) (p .0) (a .self .range))) h (q .0 .0) (q .0 .1 .0) (q .1),
+      whole-positive i (a .tree) (p .0) (a .self) (s .simplify .result) h (q .0 .0) (q .0 .1 .0) (q .1),
+    )
 
 returns : tie.Need-returns
 returns c base at p =

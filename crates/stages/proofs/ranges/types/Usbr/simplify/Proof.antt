@@ -10,9 +10,11 @@ checked-requires c κs =
     let s = c .before .before .before in
     let p = s .before .before in
     let b = p .pre .0 in
-    let r = c .before .r .given in
-    (b, range-fits (now (p .args .image)) (p .args .tree) b (usbrOf (now (p .args .image)) (p .args .tree) b (p .args .self)) (s .numbers .result)
-    (s .numbers .ensures b (p .pre .1)) (r .0 .0) (r .1))
+    let r = c .before .r .given in (
+      b,
+      range-fits (now (p .args .image)) (p .args .tree) b (usbrOf (now (p .args .image)) (p .args .tree) b (p .args .self)) (s .numbers .result)
+          (s .numbers .ensures b (p .pre .1)) (r .0 .0) (r .1),
+    )
 
 returns : tie.Need-returns
 returns c base f =

@@ -8,9 +8,10 @@ use Rattle.stages.proofs.ranges.types.Usbr.static_width.Tie as tie
 same-text-requires : tie.Need-same-text-requires
 same-text-requires c κs =
     let s = c .before .before .before .before .before in
-    let e = c .before .end .given in
-    (s .pre .1 .start .part .room,
-    (end-fits (now (s .args .image)) (s .args .tree) (s .pre .0) (s .args .self .«end») (e .0 .0) (e .1) (s .pre .1 .«end»)) .part .room)
+    let e = c .before .end .given in (
+      s .pre .1 .start .part .room,
+      (end-fits (now (s .args .image)) (s .args .tree) (s .pre .0) (s .args .self .«end») (e .0 .0) (e .1) (s .pre .1 .«end»)) .part .room,
+    )
 
 returns : tie.Need-returns
 returns c base =
