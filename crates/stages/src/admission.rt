@@ -14,7 +14,7 @@ fn enough(image: &[u8], area: usize) -> bool
     let c = image::token_tree::u32_at(image, 0) as usize;
     let n = image::token_tree::u32_at(image, 4) as usize;
     let b = image::token_tree::u32_at(image, 16) as usize;
-    32 + 20 * c + 72 * n + b <= area
+    limits::HEAD_SIZE + limits::CONCATENATION_SIZE * c + limits::COMPONENT_SIZE * n + b <= area
 }
 
 // 1, the image check, 8.

@@ -38,7 +38,7 @@ fn put_concatenation(area: &mut [u8], heads: &[u64], i: u32)
     ensures { λ _. ⌜ ((ds rest : List Def.Concatenation) (d : Def.Concatenation) → HeadsAre (now (heads .entry)) ds → AllChecked ds → drop i ds ≡ d ∷ rest
         → now (area .exit) ≡ sets (now (area .entry)) (32 + 20 * i) (concatenationBytes (merged d))) ⌝ }
 {
-    let at = 32 + 20 * (i as usize);
+    let at = limits::HEAD_SIZE + limits::CONCATENATION_SIZE * (i as usize);
     let s = summary_at(heads, i);
     let align = s.align;
     put_u32(area, at, head_size(heads[2 * (i as usize)]));

@@ -2,6 +2,8 @@
 // Nothing is asked of a caller: a byte that is missing counts as 0, and a bit that has no place is not written.
 use crate::answer::byte_bits::byte_of;
 use crate::answer::byte_bits::pair;
+use image::token_tree::byte_at;
+use numbers::least;
 ghost use mathlib.Core.Path.{_≡_};
 ghost use Prim.Native.Nat.{_+_, _*_, _/_, _%_, _^_, _<_, _≤_, min};
 ghost use lib.ListN.{length, getD, replicate};
@@ -9,12 +11,6 @@ ghost use lib.Seq.{sets};
 ghost use Rattle.stages.specs.answer.literal_bits.Put.{withBits, putBits};
 ghost use Rattle.stages.specs.answer.literal_bits.Worth.{blended};
 ghost use Rattle.stages.specs.answer.literal_bits.Places.{window};
-
-fn byte_at(s: &[u8], at: usize) -> u8
-    ensures { λ r. ⌜ r ≡ getD (now (s .entry)) at 0 ⌝ }
-{
-    if at < s.len() { s[at] } else { 0 }
-}
 
 // The bits from a place on, eight of them or more.
 fn bits_at(s: &[u8], from: usize) -> u16
@@ -40,12 +36,6 @@ fn blend(old: u8, bits: u16, lo: usize, w: usize) -> u8
     let low = two_to(lo);
     let high = two_to(lo + w);
     (byte % low + low * ((bits as usize) % two_to(w)) + high * (byte / high)) as u8
-}
-
-fn least(a: usize, b: usize) -> usize
-    ensures { λ r. ⌜ r ≡ min a b ⌝ }
-{
-    if a < b { a } else { b }
 }
 
 // The first of n bits, those that fall into one byte: how many.

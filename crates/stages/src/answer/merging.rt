@@ -41,7 +41,7 @@ fn behind(w: Writing, bits: usize) -> Merging
 {
     Merging {
         w: Writing {
-            at: std::num::wrapping_add_usize(w.at, 72),
+            at: std::num::wrapping_add_usize(w.at, limits::COMPONENT_SIZE),
             literals: w.literals,
             offset: std::num::wrapping_add_usize(w.offset, bytes_for(bits)),
         },

@@ -49,10 +49,10 @@ pub(crate) fn stage5(
     let m = merged_of(heads, c);
     put_head(area, c, m as u32, o, s);
     put_concatenations(area, heads, c);
-    let at = 32 + 20 * (c as usize);
+    let at = limits::HEAD_SIZE + limits::CONCATENATION_SIZE * (c as usize);
     let from = Writing {
         at,
-        literals: at + 72 * m,
+        literals: at + limits::COMPONENT_SIZE * m,
         offset: 0,
     };
     let w = put_components(area, image, words, c, from);

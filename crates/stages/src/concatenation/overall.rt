@@ -1,9 +1,9 @@
 // Stage 4: what the concatenations say together, over a summary of each.
 use crate::concatenation::alignment::FillerAlign;
-use crate::concatenation::alignment::either;
 use crate::concatenation::alignment::join_align;
 use errors::Checked;
 use errors::Refusal;
+use errors::flags::either;
 use numbers::OptionUsize;
 ghost use mathlib.Core.Path.{_≡_};
 ghost use mathlib.Core.List.{List};

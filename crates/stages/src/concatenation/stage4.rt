@@ -1,6 +1,5 @@
 // Stage 4: what the concatenations say together, over their heads; a filler's place is searched for only where it is told.
 use super::alignment::FillerAlign;
-use super::alignment::both;
 use super::alignment::is_align;
 use super::alignment::is_opposite;
 use super::check::Concatenation;
@@ -16,6 +15,7 @@ use crate::token_tree::PVal;
 use crate::token_tree::components_of;
 use errors::Checked;
 use errors::Refusal;
+use errors::flags::both;
 use numbers::OptionUsize;
 ghost use mathlib.Core.Path.{_≡_};
 ghost use mathlib.Core.List.{List, _∷_};

@@ -1,6 +1,6 @@
 // FillerAlign, and how the alignment of one concatenation joins the overall one.
-use crate::concatenation::alignment::flags::both;
-use crate::concatenation::alignment::flags::either;
+use errors::flags::both;
+use errors::flags::either;
 ghost use mathlib.Core.Path.{_≡_};
 ghost use mathlib.Core.Bool.{not, _&&_};
 ghost use Rattle.definition.specs.Concatenation.{alignNumber, isAlign, alignOf as placedAlign};

@@ -1,10 +1,10 @@
 // The running check of a concatenation (Concatenation::check), by value.
 use crate::concatenation::alignment::FillerAlign;
-use crate::concatenation::alignment::both;
 use crate::concatenation::alignment::filler_align;
 use crate::concatenation::alignment::is_align;
 use errors::Checked;
 use errors::Refusal;
+use errors::flags::both;
 use numbers::I128;
 use numbers::OptionI128;
 use numbers::OptionUsize;
