@@ -3,15 +3,14 @@ use mathlib.Core.Path.{_≡_, refl, sym, ap, subst, _∙_}
 use Prim.Native.Nat.{_≤_, _<_}
 use native.Mathlib.Omega.{arith}
 use borrow.Author.Tests.{ne-eqb}
-use Rattle.definition.specs.Prelude.{ℕ, suc, _+_, _*_, _-_, _^_, Bool, true, false, _&&_, not, Option, none, some, List, [], _∷_, _++_, length, eqb}
-use Rattle.definition.specs.Basics.{Result, ok, refused, _>>=_, withPlaces, if_then_else_, isEmpty, sameBytes}
-use Rattle.definition.specs.Refusals.{need, empty-after-colon}
+use Rattle.definition.specs.Prelude.{ℕ, suc, _+_, _*_, _-_, _^_, Bool, true, false, _&&_, not, Option, none, some, List, [], _∷_, length, eqb}
+use Rattle.definition.specs.Basics.{sameBytes}
 use Rattle.definition.specs.Text as Text
-use Rattle.definition.specs.Text.{Item, isGroup, isToken}
+use Rattle.definition.specs.Text.{Item, isGroup}
 use Rattle.definition.specs.Component.{Prefix, Split, splitRange, splitColon}
 use Rattle.errors.specs.declared.Refusal.{Refusal}
 use Rattle.laws.specs.Tests.{and-iff}
-use Rattle.stages.specs.token_tree.Table.{kindIn, startIn, skipIn, RecordFits}
+use Rattle.stages.specs.token_tree.Table.{kindIn, startIn, skipIn}
 use Rattle.stages.specs.token_tree.Laid.{Laid, Runs, placeOf}
 use Rattle.stages.specs.token_tree.Parts.{noPart, partBy, partOf}
 use Rattle.stages.specs.component.Start.{colonPlace, ColonAt, prefixValue, startResult, PrefixReads}
@@ -20,8 +19,8 @@ use Rattle.stages.specs.declared.token_tree.types.Part.{Part}
 use Rattle.stages.specs.declared.component.start.StartResult.{StartResult}
 use Rattle.stages.specs.declared.component.start.StartResult.the-variants as S
 use Rattle.stages.proofs.token_tree.Places.{place-above, place-suc, laid-order, laid-first, laid-none, laid-split}
-use Rattle.stages.proofs.component.parse.Splits.{Colon, colon-parts}
-use Rattle.stages.proofs.component.parse.Texts.{laid-part, laid-base, part-fits}
+use Rattle.stages.proofs.component.parse.Splits.{colon-parts}
+use Rattle.stages.proofs.token_tree.Written.{none-fits, laid-part, laid-fits}
 use Rattle.stages.proofs.component.parse.Endings.{range-last, range-none, LastAt, last-kind}
 
 pub below : (a b : ℕ) → a ≤ b → (a ≡ b → ⊥) → a < b
@@ -135,7 +134,7 @@ module _ (image : List ℕ) (t : Tree) (base stop tail r s colon : ℕ) (mid : L
               let m = at .room in
               rw f (record {
                 is = refl;
-                held = (refl, record { part = record { room = omega (arith, m); none = λ x. refl; some = λ x. absurd (omega (arith, x)) }; none = λ x. refl });
+                held = (refl, record { part = none-fits image t base (omega (arith, m)); none = λ x. refl });
               })
           go (some p) g y = let rm = found p g y .room in absurd (omega (arith, rm, z))
 
@@ -164,9 +163,9 @@ module _ (image : List ℕ) (t : Tree) (base stop tail r s colon : ℕ) (mid : L
               let si = d .start-is in
               rw (f, ux) (record {
                 is = some-value image t base k colon p (l .item) (l .rest) (partBy s (d .from)) (l .parts)
-                    (laid-part image t base colon (d .from) r s (p .before) (d .before));
+                    (sym (laid-part image t base colon (d .from) r s (p .before) (d .before)));
                 held = (d .place, record {
-                  part = part-fits image t base s (d .from) (laid-base image t base colon (d .from) r s (p .before) (d .before)) (d .texts) (omega (arith, fit, si));
+                  part = laid-fits image t base colon (d .from) r s (p .before) (d .before) (omega (arith, fit, si));
                   none = λ v. absurd (let v′ : _≡_ {A = ℕ} (colon + 1) 0 = v in omega (arith, v′));
                 });
               })

@@ -24,10 +24,10 @@ use Rattle.stages.specs.declared.ranges.types.UsbResult.{UsbResult}
 use Rattle.stages.specs.declared.ranges.types.UsbResult.the-variants as U
 use Rattle.stages.proofs.token_tree.Forests.{inside-laid}
 use Rattle.stages.proofs.token_tree.Places.{laid-first, laid-order, token-by}
-use Rattle.stages.proofs.ranges.sides.Texts.{no-text-is, none-fits, part-fits}
+use Rattle.stages.proofs.token_tree.Written.{no-text-is, none-fits, laid-part}
+use Rattle.stages.proofs.ranges.sides.Texts.{part-fits}
 use Rattle.stages.proofs.ranges.sides.Ways.{made-new}
 use Rattle.stages.proofs.ranges.bound.AtSign.{read-none, read-some}
-use Rattle.stages.proofs.ranges.bound.Written.{text-laid}
 
 -- ---- over a list
 
@@ -84,7 +84,7 @@ module _ (image : List ℕ) (t : Tree) (base stop e r s : ℕ) (i : Item) (h : L
 
   read-by : readBound (i ∷ [])
       ≡ (if eqb b 43 then ok (Ranges.val (pos 0)) else if eqb b 45 then ok (Ranges.val (pos 0)) else ok (Ranges.text (textIn image t base s e) (pos 0)))
-  read-by = lone-by i (eqb b 43) (eqb b 45) (test-is 43 (omega arith)) (test-is 45 (omega arith)) ∙ rw (← text-laid image t base stop e r s (i ∷ []) h) refl
+  read-by = lone-by i (eqb b 43) (eqb b 45) (test-is 43 (omega arith)) (test-is 45 (omega arith)) ∙ rw (← laid-part image t base stop e r s (i ∷ []) h) refl
 
   pub lone-sign : (u : Usb) → u ≡ zeroBy → t .text ≤ length image → (b ≡ 43) ⊎ (b ≡ 45) → UsbReads image t base (U.Ok u) (readBound (i ∷ []))
   lone-sign u q l k =

@@ -21,7 +21,8 @@ use Rattle.stages.specs.declared.token_tree.types.Tree.{Tree}
 use Rattle.stages.specs.declared.ranges.types.Usb.{Usb}
 use Rattle.stages.specs.declared.ranges.types.UsbResult.{UsbResult}
 use Rattle.stages.specs.declared.ranges.types.UsbResult.the-variants as U
-use Rattle.stages.proofs.ranges.sides.Texts.{no-text-is, none-fits, part-fits}
+use Rattle.stages.proofs.token_tree.Written.{no-text-is, none-fits}
+use Rattle.stages.proofs.ranges.sides.Texts.{part-fits}
 
 pub zero-is : valueOf zeroI ≡ pos 0
 unfolding valueOf
