@@ -20,6 +20,7 @@ use Rattle.stages.specs.declared.component.start.StartResult.{StartResul
 use Rattle.stages.specs.declared.component.start.StartResult.the-variants as S
 use Rattle.stages.proofs.token_tree.Places.{place-above, place-suc, laid-order, laid-first, laid-none, laid-split}
 use Rattle.stages.proofs.component.parse.Splits.{colon-parts}
+use Rattle.stages.proofs.token_tree.Walks.{runs-within}
 use Rattle.stages.proofs.token_tree.Written.{none-fits, laid-part, laid-fits}
 use Rattle.stages.proofs.component.parse.Endings.{range-last, range-none, LastAt, last-kind}
 
@@ -196,15 +197,4 @@ before-runs image t stop tail r last s u w a q =
     let si = a .stands .start in
     let ti = a .tail-is in
     let rm = a .stands .room in
-    let f = w .fits in
-    let tf = w .text-fits in
-    let ts = w .text-small in
-    record {
-      base = w .base;
-      items = a .mid;
-      laid = ld;
-      fits = omega (arith, f, rm);
-      text-fits = omega (arith, q, si, ti, tf);
-      small = w .small;
-      text-small = omega (arith, q, si, ti, ts);
-    }
+    runs-within (w .base) (a .mid) w (omega (arith, rm)) (omega (arith, q, si, ti)) ld

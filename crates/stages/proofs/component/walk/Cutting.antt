@@ -6,8 +6,7 @@ use native.Mathlib.Omega.{arith}
 use borrow.Author.Tests.{le-leb, lt-leb}
 use lib.ListN.{length-append, length-drop, take-append-drop}
 use lib.Seq.{length-take-le}
-use Rattle.definition.specs.Prelude.{ℕ, zero, suc, _+_, _*_, _-_, Bool, true, false, Option, none, some, List, [], _∷_, _++_, length, take, drop, eqb, leb}
-use Rattle.definition.specs.Basics.{if_then_else_}
+use Rattle.definition.specs.Prelude.{ℕ, suc, _+_, _*_, _-_, Bool, true, false, Option, none, some, List, [], _∷_, length, take, drop, eqb, leb}
 use Rattle.definition.specs.Image.{u32At}
 use Rattle.definition.specs.Tree.{Node, recsOf, textOf}
 use Rattle.definition.specs.Text.{Item, items}
@@ -15,15 +14,15 @@ use Rattle.definition.specs.Component.{splitRange, Prefix, prefixOf}
 use Rattle.laws.specs.Tests.{by-test}
 use Rattle.stages.specs.token_tree.Laid.{Laid, Runs, placeOf}
 use Rattle.stages.specs.token_tree.Table.{runIn}
-use Rattle.stages.specs.token_tree.Rows.{nodeOf, Rooted, Rows, TablesFit}
+use Rattle.stages.specs.token_tree.Rows.{nodeOf, Rows, TablesFit}
 use Rattle.stages.specs.component.Parse.{itemsRead}
 use Rattle.stages.specs.component.Start.{AfterIs}
 use Rattle.stages.specs.component.Read.{withoutBy}
 use Rattle.stages.specs.declared.token_tree.types.Run.{Run}
 use Rattle.stages.specs.declared.token_tree.types.Tree.{Tree}
 use Rattle.stages.specs.declared.token_tree.types.Tables.{Tables}
-use Rattle.stages.proofs.token_tree.Places.{laid-split, Split}
-use Rattle.stages.proofs.token_tree.Insides.{runs-after}
+use Rattle.stages.proofs.token_tree.Places.{laid-split}
+use Rattle.stages.proofs.token_tree.Walks.{runs-within}
 use Rattle.stages.proofs.token_tree.Roots.{rows-cons, root-laid, run-is, runs-of}
 use Rattle.stages.proofs.component.parse.Splits.{colon-parts}
 
@@ -77,7 +76,7 @@ module _ (image : List ℕ) (t : Tree) (after s stop tail r : ℕ) (n : Node) (s
       let cut : withoutBy whole after ≡ record { r = record { 0 = after }; stop = record { 0 = stop }; «end» = record { 0 = tail } } =
         rw (lt-leb after r low, lt-leb stop after high) refl in
       subst (Reads true (drop (k + 1) is)) (sym cut)
-      (p .from, rw (one, b) (p .after), high, rw b (runs-after image t stop tail r s s (take (suc k) is) (drop (suc k) is) u p))
+      (p .from, rw (one, b) (p .after), high, rw b (runs-within s (drop (suc k) is) u (omega arith) (omega arith) (p .after)))
 
   cut-scanned : (o : Option Prefix) → prefixOf (nodeOf n) ≡ o
       → elim o as (λ x. Type 0) [ none ↦ after ≡ 0 | some p ↦ (after ≡ placeOf image t r (suc (length (p .before)))) × (1 ≤ length (p .after)) ]

@@ -9,6 +9,7 @@ use Rattle.definition.specs.Prelude.{length, getD, take, drop, leb, ltb, eqb}
 use Rattle.definition.specs.Basics.{if_then_else_, within}
 use Rattle.definition.specs.Numbers.{digitWorth, digitIn, digitsFrom, inner, unsignedParse, tryParse}
 use Rattle.definition.specs.Image.{padded, bytesAt}
+use Rattle.stages.proofs.token_tree.Same.{first-on}
 
 and-false : (t : Bool) → (t && false) ≡ false
 and-false true = refl
@@ -41,13 +42,6 @@ not-number b rest h =
     let plus : eqb b 43 ≡ false = ne-eqb b 43 (λ q. let z : _≡_ {A = ℕ} b 43 = q in omega (arith, z)) in
     let nought : eqb b 48 ≡ false = ne-eqb b 48 (λ q. let z : _≡_ {A = ℕ} b 48 = q in omega (arith, z)) in
     rw (minus, nought, and-false (ltb 2 (suc (length rest))), plus, no-digits b rest h)
-
-first-on : (m k : ℕ) (s : List ℕ) → padded (suc m) (drop k s) ≡ getD s k 0 ∷ padded m (drop (suc k) s)
-unfolding padded
-first-on m zero [] = refl
-first-on m zero (b ∷ s) = refl
-first-on m (suc k) [] = refl
-first-on m (suc k) (b ∷ s) = first-on m k s
 
 whole : (n : ℕ) (s : List ℕ) → n ≤ length s → padded n s ≡ take n s
 unfolding padded

@@ -20,6 +20,7 @@ use Rattle.stages.specs.declared.ranges.types.UsbResult.the-variants as 
 use Rattle.stages.specs.declared.ranges.types.RangeResult.{RangeResult}
 use Rattle.stages.specs.declared.ranges.types.RangeResult.the-variants as R
 use Rattle.stages.proofs.token_tree.Places.{laid-split, laid-order, laid-none}
+use Rattle.stages.proofs.token_tree.Walks.{runs-within}
 use Rattle.stages.proofs.ranges.range.Bounds.{reads-ok, reads-refused}
 use Rattle.stages.proofs.ranges.range.Dotted.{RangeBy, RangeCut, range-by}
 
@@ -136,23 +137,9 @@ module _ (image : List ℕ) (t : Tree) (run : Run) (d : Dots) (some : run .r .0 
       record {
         at-lo = record { room = omega (arith, f .1, h .fits); small = h .small };
         s-before = s;
-        before = record {
-          base = h .base;
-          items = take (c .places .0) (h .items);
-          laid = subst (λ v. Laid image t (h .base) (d .lo .0) v (run .r .0) s (take (c .places .0) (h .items))) (sym e) (x .before);
-          fits = omega (arith, f .1, h .fits);
-          text-fits = omega (arith, e, o .1, h .text-fits);
-          small = h .small;
-          text-small = omega (arith, e, o .1, h .text-small);
-        };
+        before =
+            runs-within (h .base) (take (c .places .0) (h .items)) h (omega (arith, f .1)) (omega (arith, e, o .1))
+            (subst (λ v. Laid image t (h .base) (d .lo .0) v (run .r .0) s (take (c .places .0) (h .items))) (sym e) (x .before));
         s-after = y .from;
-        after = record {
-          base = h .base;
-          items = drop (c .places .1) (h .items);
-          laid = y .after;
-          fits = h .fits;
-          text-fits = h .text-fits;
-          small = h .small;
-          text-small = h .text-small;
-        };
+        after = runs-within (h .base) (drop (c .places .1) (h .items)) h (omega arith) (omega arith) (y .after);
       }
