@@ -3,7 +3,7 @@ use mathlib.Core.Path.{_≡_, refl, sym, ap, subst, _∙_}
 use Prim.Native.Nat.{_≤_, _<_}
 use native.Mathlib.Nat.{add-zero}
 use native.Mathlib.Omega.{arith}
-use Rattle.definition.specs.Prelude.{ℕ, suc, _+_, _*_, _-_, false, none, List, [], _∷_, length}
+use Rattle.definition.specs.Prelude.{ℕ, suc, _+_, _*_, _-_, none, List, [], _∷_, length}
 use Rattle.definition.specs.Basics.{joined}
 use Rattle.definition.specs.Limits.{sizes}
 use Rattle.definition.specs.Image.{Placed}
@@ -18,7 +18,7 @@ use Rattle.stages.specs.answer.merging.Blocks.{Same, same-then}
 use Rattle.stages.specs.answer.merging.State.{IsAt, CloseIs, Goes, StepIs, Writable, Closable}
 use Rattle.stages.specs.declared.answer.merging.Writing.{Writing}
 use Rattle.stages.specs.declared.answer.merging.Merging.{Merging}
-use Rattle.stages.proofs.answer.merging.Stored.{kept-split}
+use Rattle.stages.proofs.component.Rows.{kept-split}
 use Rattle.stages.proofs.answer.merging.Closing.{at-rest, holds-none, written-none}
 
 -- m components are left, from component k of the store on: what is to be written of them gives the whole

@@ -21,8 +21,7 @@ use Rattle.stages.specs.answer.merging.Blocks.{putOne, writtenOne, Same,
 use Rattle.stages.specs.answer.Stage5.{mergedAll}
 use Rattle.stages.specs.concatenation.Check.{Lies}
 use Rattle.stages.specs.declared.answer.merging.Writing.{Writing}
-use Rattle.stages.specs.declared.concatenation.check.Concatenation.{Concatenation as Now}
-use Rattle.stages.proofs.answer.merging.Stored.{kept-split, kept-within}
+use Rattle.stages.proofs.component.Rows.{kept-split, kept-within}
 
 literals-append : (a b : List (Placed Component)) → literalsOf (a ++ b) ≡ literalsOf a ++ literalsOf b
 literals-append a b = ap joined (map-append literalBytes a b) ∙ joined-append (map literalBytes a) (map literalBytes b)

@@ -1,11 +1,11 @@
 -- The loop over the concatenations: one more in front, none, one that stage 1 refuses; and the whole tree.
 use mathlib.Core.Path.{_≡_, refl, sym, ap, subst, _∙_}
-use Prim.Native.Nat.{_≤_, _<_}
-use native.Mathlib.Nat.{add-zero, add-assoc}
+use Prim.Native.Nat.{_≤_}
+use native.Mathlib.Nat.{add-zero}
 use native.Mathlib.Omega.{arith}
 use lib.ListN.{length-append}
 use lib.Seq.{take-at, drop-at}
-use Rattle.definition.specs.Prelude.{ℕ, suc, _+_, _*_, Bool, true, List, [], _∷_, _++_, map, length, take, drop}
+use Rattle.definition.specs.Prelude.{ℕ, suc, _+_, _*_, true, List, [], _∷_, _++_, map, length, take}
 use Rattle.definition.specs.Basics.{Result, ok, refused, _>>=_, joined}
 use Rattle.definition.specs.Image.{Placed, Unparsed, parts, treeOf}
 use Rattle.definition.specs.Tree.{Node, recsOf, allRecs, textOf}
@@ -19,7 +19,7 @@ use Rattle.errors.specs.declared.Checked.the-variants as C
 use Rattle.stages.specs.component.Kept.{KeptFrom}
 use Rattle.stages.specs.component.Read.{isRefusedBy, verdict, firstStage, secondStage, twoStages, walkFrom, TurnsAre, StagesAre}
 use Rattle.stages.specs.declared.component.walk.Walk.{Walk}
-use Rattle.stages.proofs.component.keep.Stores.{kept-none, kept-both, kept-alike}
+use Rattle.stages.proofs.component.Rows.{kept-none, kept-both, kept-alike}
 use Rattle.stages.proofs.component.walk.Each.{bind-on, same-verdict, not-ok, verdict-ok, each-length, tree-verdict, TreeParts, tree-parts, tree-none}
 use Rattle.stages.proofs.component.walk.Rounds.{like-before}
 

@@ -1,12 +1,12 @@
 -- The components of a concatenation one after the other: one more in front, none, and one that stage 1 refuses.
 use mathlib.Core.Path.{_≡_, refl, sym, ap, subst, _∙_}
-use Prim.Native.Nat.{_≤_, _<_}
+use Prim.Native.Nat.{_≤_}
 use native.Mathlib.Nat.{add-zero}
 use native.Mathlib.Omega.{arith}
 use lib.ListN.{length-append}
 use lib.Seq.{take-take}
-use Rattle.definition.specs.Prelude.{ℕ, suc, _+_, _*_, Bool, true, _&&_, List, [], _∷_, _++_, length, take, eqb}
-use Rattle.definition.specs.Basics.{Result, ok, refused, _>>=_, withPlaces, isEmpty, joined}
+use Rattle.definition.specs.Prelude.{ℕ, suc, _+_, _*_, true, _&&_, List, [], _∷_, length, take, eqb}
+use Rattle.definition.specs.Basics.{Result, ok, _>>=_, withPlaces, isEmpty, joined}
 use Rattle.definition.specs.Image.{Placed, Unparsed}
 use Rattle.definition.specs.Tree.{Node, recsOf, allRecs, literalsOf, textOf, packed}
 use Rattle.definition.specs.Component as Def
@@ -20,7 +20,7 @@ use Rattle.stages.specs.token_tree.Rows.{nodeOf}
 use Rattle.stages.specs.component.Kept.{KeptFrom}
 use Rattle.stages.specs.component.Read.{isRefusedBy, verdict, firstStage, secondStage, TurnIs, TurnsAre}
 use Rattle.stages.specs.declared.component.walk.Walk.{Walk}
-use Rattle.stages.proofs.component.keep.Stores.{kept-none, kept-cons, row-written}
+use Rattle.stages.proofs.component.Rows.{kept-none, kept-cons, row-written}
 use Rattle.stages.proofs.component.walk.Each.{bind-on, same-verdict, not-ok, Parts, each-verdict, each-parts, each-none}
 
 -- those from the j-th on

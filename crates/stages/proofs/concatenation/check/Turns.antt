@@ -26,7 +26,7 @@ use Rattle.stages.specs.component.Read.{isRefusedBy}
 use Rattle.stages.proofs.concatenation.check.Flags.{literal-flag, asked-flags}
 use Rattle.stages.proofs.concatenation.check.Shapes.{shape-is, advanced-as}
 use Rattle.stages.proofs.concatenation.check.Counts.{oneMore, countFrom, merge-length}
-use Rattle.stages.proofs.concatenation.check.KeptRows.{Stored, flags-at}
+use Rattle.stages.proofs.component.Rows.{Stored, flags-at}
 
 pub none-left : {A : Type 0} (cs : List A) (j n : ℕ) → length cs ≡ n → n ≤ j → drop j cs ≡ []
 none-left cs j n e l = drop-of-length-le cs {i = j} (rw e l)
@@ -116,7 +116,7 @@ module _ (image words : List ℕ) (k j : ℕ) (cs : List (Placed Component)) (s 
       → m′ + countFrom (eqb (getD words (11 * (k + j)) 0 / 32 % 2) 1) (drop (j + 1) cs) ≡ length (merge cs)
   unfolding countFrom
   count-on m m′ was e h =
-      let t = literal-flag (s .one .value) (getD words (11 * (k + j)) 0) (flags-at image words k j cs s) in
+      let t = literal-flag (s .one .value) (getD words (11 * (k + j)) 0) (flags-at (s .at)) in
       let one = oneMore was (isStaticLiteral (s .one .value)) in
       let rest = countFrom (isStaticLiteral (s .one .value)) (drop (j + 1) cs) in
       let g : m + countFrom was (s .one ∷ drop (j + 1) cs) ≡ length (merge cs) = rw (s .rest) at h in
@@ -128,13 +128,13 @@ module _ (image words : List ℕ) (k j : ℕ) (cs : List (Placed Component)) (s 
   pub asked-here : (unbounded : Bool) → flagsAsk (getD words (11 * (k + j)) 0) unbounded ≡ true → some j ≡ placeFrom (asked unbounded) j (drop j cs)
   unfolding placeFrom
   asked-here unbounded t =
-      rw (s .rest, sym (asked-flags (s .one .value) (getD words (11 * (k + j)) 0) (flags-at image words k j cs s) unbounded (s .one .base)) ∙ t)
+      rw (s .rest, sym (asked-flags (s .one .value) (getD words (11 * (k + j)) 0) (flags-at (s .at)) unbounded (s .one .base)) ∙ t)
 
   pub asked-on : (unbounded : Bool) → flagsAsk (getD words (11 * (k + j)) 0) unbounded ≡ false
       → placeFrom (asked unbounded) (j + 1) (drop (j + 1) cs) ≡ placeFrom (asked unbounded) j (drop j cs)
   unfolding placeFrom
   asked-on unbounded t =
-      rw (s .rest, sym (asked-flags (s .one .value) (getD words (11 * (k + j)) 0) (flags-at image words k j cs s) unbounded (s .one .base)) ∙ t, add-one j)
+      rw (s .rest, sym (asked-flags (s .one .value) (getD words (11 * (k + j)) 0) (flags-at (s .at)) unbounded (s .one .base)) ∙ t, add-one j)
 
 pub asked-end : (cs : List (Placed Component)) (j n : ℕ) (unbounded : Bool) → length cs ≡ n → n ≤ j → none ≡ placeFrom (asked unbounded) j (drop j cs)
 unfolding placeFrom
