@@ -3,22 +3,21 @@ use mathlib.Core.Path.{_≡_, ap, _∙_}
 use Prim.Native.Nat.{_≤_, _<_}
 use native.Mathlib.Omega.{arith}
 use Rattle.definition.specs.Prelude.{ℕ, _+_, _-_, List, length, some, pos}
-use Rattle.definition.specs.Image.{padded}
 use Rattle.definition.specs.Text as Text
 use Rattle.definition.specs.Text.{Item}
-use Rattle.definition.specs.Ranges.{text, val, singleBit}
+use Rattle.definition.specs.Ranges.{text, singleBit}
 use Rattle.numbers.specs.Value.{valueOf}
 use Rattle.stages.specs.token_tree.Table.{startIn}
 use Rattle.stages.specs.token_tree.Laid.{Laid}
 use Rattle.stages.specs.token_tree.Parts.{partBy}
-use Rattle.stages.specs.ranges.Values.{newBy, zeroBy, usbOf, usbrOf, UsbFits, UsbrFits}
+use Rattle.stages.specs.ranges.Values.{newBy, usbrOf, UsbrFits}
 use Rattle.stages.specs.declared.token_tree.types.Tree.{Tree}
 use Rattle.stages.specs.declared.token_tree.types.Part.{Part}
 use Rattle.stages.specs.declared.ranges.types.Usb.{Usb}
 use Rattle.stages.specs.declared.ranges.types.Usbr.{Usbr}
 use Rattle.stages.specs.declared.ranges.types.OptionUsb.the-variants as O
 use Rattle.stages.proofs.token_tree.Places.{laid-first, laid-order}
-use Rattle.stages.proofs.token_tree.Written.{none-fits, laid-part, laid-fits}
+use Rattle.stages.proofs.token_tree.Written.{laid-part, laid-fits}
 
 -- a text and 1
 abbrev oneBy : Part → Usb
@@ -29,14 +28,6 @@ abbrev pub bitBy : Usb → Part → Usbr
 bitBy u p = record { start = u; «end» = O.Some (oneBy p) }
 
 module _ (image : List ℕ) (t : Tree) (base : ℕ) where
-  -- the number 0 has no text
-  pub zero-is : usbOf image t base zeroBy ≡ val (pos 0)
-  unfolding valueOf padded
-  zero-is = let z : 0 - base ≡ 0 = omega arith in rw z
-
-  pub zero-fits : t .text ≤ length image → UsbFits image t base zeroBy
-  zero-fits l = record { part = none-fits image t base l; low = omega arith; high = omega arith }
-
   -- "In a bracket without dots, text s means s up to s + 1"
   single-of : (stop tail r s : ℕ) (is : List Item) → t .text + tail ≤ length image → Laid image t base stop tail r s is
       → (usbrOf image t base (bitBy (newBy (partBy s tail)) (partBy s tail)) ≡ singleBit is)
