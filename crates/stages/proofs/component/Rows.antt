@@ -6,11 +6,12 @@ use native.Mathlib.Numerals.{add-one}
 use mathlib.Core.List.{append-assoc}
 use native.Mathlib.Nat.{add-zero}
 use lib.ListN.{take-append-drop, length-append, length-drop}
-use lib.Seq.{sets, sets-eq, length-sets, take-append-seam, drop-append-seam, drop-drop, drop-at, take-add, length-take-le}
+use lib.Seq.{sets, sets-eq, length-sets, take-append-seam, drop-at, take-add, length-take-le}
 use Rattle.definition.specs.Prelude.{ℕ, zero, suc, _+_, _*_, _-_, List, [], _∷_, _++_, map, length, getD, take, drop}
 use Rattle.definition.specs.Basics.{joined}
 use Rattle.definition.specs.Image.{Placed}
 use Rattle.definition.specs.Component.{Component}
+use Rattle.answer_facts.specs.read.Items.{holds-join}
 use Rattle.prepared.specs.Bytes.{Holds, holds-seam, holds-left, holds-right, holds-getD}
 use Rattle.stages.specs.component.Kept.{fieldsOf, flagsOf, RowIs, RowsAre, wordsOf, KeptFrom}
 use Rattle.stages.specs.declared.component.keep.Row.{Row}
@@ -29,16 +30,6 @@ field-at {image} {words} {k} {p} h f l = holds-getD words (11 * k) (fieldsOf (h 
 pub flags-at : {image words : List ℕ} {k : ℕ} {p : Placed Component} → RowAt image words k p → getD words (11 * k) 0 ≡ flagsOf (p .value)
 flags-at {image} {words} {k} {p} h = ap (λ n. getD words n 0) (sym (add-zero (11 * k))) ∙ field-at h 0 (omega arith) ∙ h .is .flags
 
--- what stands at i, and what stands behind it
-holds-both : (l a b : List ℕ) (i : ℕ) → Holds l i a → Holds l (i + length a) b → Holds l i (a ++ b)
-holds-both l a b i (x, e) (y, f) =
-    (
-      y,
-      e
-      ∙ ap (λ (z : List ℕ). a ++ z) (sym (drop-append-seam a x) ∙ ap (drop (length a)) (sym e) ∙ drop-drop (length a) i l ∙ f)
-      ∙ sym (append-assoc a b y),
-    )
-
 pub kept-none : (image words : List ℕ) (k : ℕ) → KeptFrom image words k []
 unfolding wordsOf joined
 kept-none image words k = record { rows = []; are = tt; holds = (drop (11 * k) words, refl) }
@@ -52,7 +43,7 @@ kept-cons image words k p ps a h =
     record {
       rows = a .row ∷ h .rows;
       are = (a .is, h .are);
-      holds = holds-both words (fieldsOf (a .row)) (joined (map fieldsOf (h .rows))) (11 * k) (a .holds) (rw y at (h .holds));
+      holds = holds-join words (11 * k) (fieldsOf (a .row)) (joined (map fieldsOf (h .rows))) (a .holds) (rw y at (h .holds));
     }
 
 -- the first, and those behind it

@@ -1,15 +1,15 @@
 -- Places of items, and a run cut at one.
-use mathlib.Core.Path.{_≡_, refl, sym, ap, subst, _∙_}
+use mathlib.Core.Bool.{and-true, and-false}
+use mathlib.Core.Path.{_≡_, refl, sym, _∙_}
 use Prim.Native.Nat.{_≤_, _<_}
-use native.Mathlib.Nat.{add-zero, add-assoc}
+use native.Mathlib.Nat.{add-zero}
 use native.Mathlib.Omega.{arith}
 use lib.Seq.{getD-drop}
 use borrow.Author.Tests.{eq-eqb, ne-eqb}
-use Rattle.definition.specs.Prelude.{ℕ, zero, suc, _+_, _*_, _-_, _^_, Bool, true, false, _&&_, not, List, [], _∷_, _++_, length, getD, drop, eqb}
-use Rattle.definition.specs.Basics.{if_then_else_, sameBytes}
+use Rattle.definition.specs.Prelude.{ℕ, zero, suc, _+_, _-_, Bool, true, false, _&&_, not, List, [], _∷_, _++_, length, getD, drop, eqb}
+use Rattle.definition.specs.Basics.{sameBytes}
 use Rattle.definition.specs.Image.{bytesAt, padded}
 use Rattle.definition.specs.Text.{Item, isGroup, isToken}
-use Rattle.laws.specs.Tests.{by-test}
 use Rattle.stages.specs.token_tree.Laid.{Stands, Laid, placeOf}
 use Rattle.stages.specs.declared.token_tree.types.Tree.{Tree}
 use Rattle.stages.specs.token_tree.Table.{skipIn, singleOf, startOr}
@@ -27,14 +27,6 @@ pub place-suc : (image : List ℕ) (t : Tree) (e n : ℕ) → placeOf image t e 
 unfolding placeOf
 place-suc image t e zero = refl
 place-suc image t e (suc n) = place-suc image t (e + skipIn image t e) n
-
-and-false : (t : Bool) → (t && false) ≡ false
-and-false true = refl
-and-false false = refl
-
-and-true : (t : Bool) → (t && true) ≡ t
-and-true true = refl
-and-true false = refl
 
 first-byte : (l : List ℕ) (b : ℕ) → padded 1 l ≡ b ∷ [] → getD l 0 0 ≡ b
 unfolding padded

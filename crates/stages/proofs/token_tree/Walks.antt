@@ -35,9 +35,6 @@ module _ (image : List ℕ) (t : Tree) (stop tail : ℕ) where
   pub runs-order : (e s : ℕ) → Runs image t stop tail e s → (e ≤ stop) × (s ≤ tail)
   runs-order e s r = laid-order image t (r .base) stop tail e s (r .items) (r .laid)
 
-  pub runs-room : (e s : ℕ) → Runs image t stop tail e s → e < stop → e + 1 ≤ stop
-  runs-room e s r l = (laid-first image t (r .base) stop tail e s (r .items) l (r .laid)) .stands .room
-
   -- the facts of the next item
   pub record Next (e s next u : ℕ) : Type 0 where
     pub runs : Runs image t stop tail next u

@@ -31,10 +31,8 @@ use Rattle.stages.specs.declared.component.types.Bits.{Bits}
 use Rattle.stages.specs.declared.component.types.ComponentType.{ComponentType}
 use Rattle.stages.specs.declared.component.types.ComponentType.the-variants as T
 use Rattle.stages.specs.declared.component.types.Component.{Component}
+use Rattle.stages.proofs.Cases.{untrue}
 use Rattle.stages.proofs.ranges.Bounds.{static-yes, static-no}
-
-untrue : {G : Type 0} → false ≡ true → G
-untrue h = let z : _≡_ {A = ℕ} 0 1 = cc in absurd (omega arith)
 
 -- ---- an end at w
 

@@ -6,7 +6,7 @@ use native.Mathlib.Omega.{arith}
 use borrow.Author.Tests.{le-leb, lt-leb}
 use lib.ListN.{length-append, length-drop, take-append-drop}
 use lib.Seq.{length-take-le}
-use Rattle.definition.specs.Prelude.{ℕ, suc, _+_, _*_, _-_, Bool, true, false, Option, none, some, List, [], _∷_, length, take, drop, eqb, leb}
+use Rattle.definition.specs.Prelude.{ℕ, suc, _+_, _*_, _-_, Bool, true, false, Option, none, some, List, [], _∷_, length, take, drop, leb}
 use Rattle.definition.specs.Image.{u32At}
 use Rattle.definition.specs.Tree.{Node, recsOf, textOf}
 use Rattle.definition.specs.Text.{Item, items}
@@ -21,17 +21,11 @@ use Rattle.stages.specs.component.Read.{withoutBy}
 use Rattle.stages.specs.declared.token_tree.types.Run.{Run}
 use Rattle.stages.specs.declared.token_tree.types.Tree.{Tree}
 use Rattle.stages.specs.declared.token_tree.types.Tables.{Tables}
+use Rattle.stages.proofs.component.parse.Splits.{mid-length}
 use Rattle.stages.proofs.token_tree.Places.{laid-split}
 use Rattle.stages.proofs.token_tree.Walks.{runs-within}
 use Rattle.stages.proofs.token_tree.Roots.{rows-cons, root-laid, run-is, runs-of}
 use Rattle.stages.proofs.component.parse.Splits.{colon-parts}
-
--- the items before the range are some of all
-mid-length : (is : List Item) → length ((splitRange is) .mid) ≤ length is
-unfolding splitRange
-mid-length [] = omega arith
-mid-length (i ∷ []) = by-test (eqb (i .kind) 3) (λ t. rw t (omega arith)) (λ t. rw t (omega arith))
-mid-length (i ∷ j ∷ rest) = let h = mid-length (j ∷ rest) in omega (arith, h)
 
 -- items need records
 laid-some : (image : List ℕ) (t : Tree) (base stop tail r s : ℕ) (is : List Item) → 1 ≤ length is → Laid image t base stop tail r s is → r < stop

@@ -4,7 +4,7 @@ use Prim.Native.Nat.{_≤_, _<_}
 use native.Mathlib.Omega.{arith}
 use native.Mathlib.Numerals.{add-one}
 use lib.ListN.{length-append}
-use Rattle.definition.specs.Prelude.{ℕ, zero, suc, _+_, _*_, List, [], _∷_, _++_, map, length, drop}
+use Rattle.definition.specs.Prelude.{ℕ, zero, suc, _+_, _*_, List, [], _∷_, _++_, length, drop}
 use Rattle.definition.specs.Component.{Component}
 use Rattle.definition.specs.Basics.{joined}
 use Rattle.definition.specs.Image.{Placed, u32At}
@@ -52,11 +52,6 @@ module _ (image words : List ℕ) (k i : ℕ) (cc : List (List (Placed Component
 
   pub rest-kept : KeptFrom image words (k + u32At image (40 + 4 * i)) (joined (drop (i + 1) cc))
   rest-kept = rw (p .size) (kept-split image words k (p .here) (joined (drop (i + 1) cc)) (rw (part-joined image i cc p) at h) .1)
-
-drop-map : {A B : Type 0} (f : A → B) (i : ℕ) (l : List A) → drop i (map f l) ≡ map f (drop i l)
-drop-map f zero l = refl
-drop-map f (suc i) [] = refl
-drop-map f (suc i) (a ∷ l) = drop-map f i l
 
 -- ---- room for the i-th, by how much is left
 

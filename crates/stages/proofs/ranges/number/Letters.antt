@@ -1,19 +1,16 @@
 -- A text that begins above `9` is no number: no sign, no `0` before a radix, and no decimal digit. A text within the image is a part of it.
+use mathlib.Core.Bool.{and-false}
 use mathlib.Core.Path.{_≡_, refl, ap, _∙_}
 use Prim.Native.Nat.{_≤_, _<_}
 use native.Mathlib.Omega.{arith}
 use lib.ListN.{length-drop}
 use borrow.Author.Tests.{ne-eqb, le-ltb, lt-leb}
-use Rattle.definition.specs.Prelude.{ℕ, zero, suc, _+_, _*_, _-_, Bool, true, false, _&&_, Option, none, some, List, [], _∷_}
+use Rattle.definition.specs.Prelude.{ℕ, zero, suc, _+_, _*_, _-_, Bool, true, false, Option, none, some, List, [], _∷_}
 use Rattle.definition.specs.Prelude.{length, getD, take, drop, leb, ltb, eqb}
 use Rattle.definition.specs.Basics.{if_then_else_, within}
 use Rattle.definition.specs.Numbers.{digitWorth, digitIn, digitsFrom, inner, unsignedParse, tryParse}
 use Rattle.definition.specs.Image.{padded, bytesAt}
 use Rattle.stages.proofs.token_tree.Same.{first-on}
-
-and-false : (t : Bool) → (t && false) ≡ false
-and-false true = refl
-and-false false = refl
 
 -- the worth of a byte above `9`, and a decimal digit's
 worth-above : (b : ℕ) → 57 < b → digitWorth b ≡ (if within 97 102 b then some (10 + (b - 97)) else if within 65 70 b then some (10 + (b - 65)) else none)

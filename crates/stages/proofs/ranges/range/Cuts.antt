@@ -2,8 +2,9 @@
 use mathlib.Core.Path.{_≡_, refl, sym, ap, subst, _∙_}
 use Prim.Native.Nat.{_≤_, _<_}
 use native.Mathlib.Omega.{arith}
+use lib.ListN.{take-append-drop, length-drop}
 use lib.Seq.{length-take-le}
-use Rattle.definition.specs.Prelude.{ℕ, zero, suc, _+_, _-_, Bool, true, false, List, [], _∷_, _++_, take, drop, length}
+use Rattle.definition.specs.Prelude.{ℕ, _+_, _-_, Bool, true, false, List, [], _∷_, take, drop, length}
 use Rattle.definition.specs.Basics.{refused, _>>=_}
 use Rattle.definition.specs.Text.{Item}
 use Rattle.definition.specs.Ranges.{parseStart, parseRange}
@@ -23,16 +24,6 @@ use Rattle.stages.proofs.token_tree.Places.{laid-split, laid-order, lai
 use Rattle.stages.proofs.token_tree.Walks.{runs-within}
 use Rattle.stages.proofs.ranges.range.Bounds.{reads-ok, reads-refused}
 use Rattle.stages.proofs.ranges.range.Dotted.{RangeBy, RangeCut, range-by}
-
-take-drop : (n : ℕ) (l : List Item) → take n l ++ drop n l ≡ l
-take-drop zero l = refl
-take-drop (suc n) [] = refl
-take-drop (suc n) (x ∷ l) = ap (λ (r : List Item). x ∷ r) (take-drop n l)
-
-drop-length : (n : ℕ) (l : List Item) → n ≤ length l → length (drop n l) ≡ length l - n
-drop-length zero l h = omega arith
-drop-length (suc n) [] h = absurd (omega (arith, h))
-drop-length (suc n) (x ∷ l) h = let k = drop-length n l (omega (arith, h)) in omega (arith, k)
 
 module _ (image : List ℕ) (t : Tree) (base stop tail : ℕ) where
   laid-some : (r s : ℕ) (l : List Item) → 1 ≤ length l → Laid image t base stop tail r s l → (startIn image t r ≡ s) × (r + 1 ≤ stop)
@@ -54,7 +45,7 @@ module _ (image : List ℕ) (t : Tree) (base stop tail : ℕ) where
 
     pub cut-at : (n place : ℕ) → place ≡ placeOf image t r n → n ≤ length is → CutAt n place
     cut-at n place e l =
-        let p = laid-split image t base stop tail r s (take n is) (drop n is) (subst (Laid image t base stop tail r s) (sym (take-drop n is)) h) in
+        let p = laid-split image t base stop tail r s (take n is) (drop n is) (subst (Laid image t base stop tail r s) (sym (take-append-drop n is)) h) in
         let q : placeOf image t r (length (take n is)) ≡ place = ap (placeOf image t r) (length-take-le n is l) ∙ sym e in
         record {
           from = p .from;
@@ -65,7 +56,7 @@ module _ (image : List ℕ) (t : Tree) (base stop tail : ℕ) where
     -- the item there
     pub cut-start : (n place : ℕ) → n < length is → (c : CutAt n place) → (startIn image t place ≡ c .from) × (place + 1 ≤ stop)
     cut-start n place l c =
-        let k = drop-length n is (omega (arith, l)) in
+        let k = length-drop n is in
         laid-some place (c .from) (drop n is) (omega (arith, k, l)) (c .after)
 
     cut-before : (n place : ℕ) → place ≡ placeOf image t r n → n < length is → Laid image t base place (startIn image t place) r s (take n is)

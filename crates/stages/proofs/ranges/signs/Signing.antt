@@ -18,7 +18,7 @@ use Rattle.stages.specs.ranges.Signs.{pairedBy, signsBy, signedBy, cutOf
 use Rattle.stages.specs.declared.token_tree.types.Tree.{Tree}
 use Rattle.stages.specs.declared.ranges.signs.Signs.{Signs}
 use Rattle.stages.proofs.token_tree.Places.{place-above, place-first, place-suc, laid-order, laid-first, laid-none, laid-start, token-by}
-use Rattle.stages.proofs.ranges.signs.Cuts.{ahead, ahead-none, resume, Fresh, cutHere, last-step, pair-step, last-done, pair-done}
+use Rattle.stages.proofs.ranges.signs.Cuts.{ahead, ahead-none, or-none, resume, Fresh, cutHere, last-step, pair-step, last-done, pair-done}
 
 module _ (image : List ℕ) (t : Tree) (e : ℕ) where
   -- the minus just passed, if it was one
@@ -50,10 +50,6 @@ module _ (image : List ℕ) (t : Tree) (base stop tail e : ℕ) where
     pub minus-is : g .minus .0 ≡ cutPlace image t e minus
     pub prev-is : PrevIs image t e g at prev
     pub low : g .minus .0 + 1 ≤ at
-
-or-none : (o : Option Cut) → orElse o none ≡ o
-or-none none = refl
-or-none (some c) = refl
 
 first-last : (c : ℕ) (is : List Item) → cutLast (isToken c) is ≡ orElse (ahead [] (cutLast (isToken c) is)) none
 first-last c is = sym (or-none (ahead [] (cutLast (isToken c) is)) ∙ ahead-none (cutLast (isToken c) is))
