@@ -1,6 +1,6 @@
 -- Places of items, and a run cut at one.
 use mathlib.Core.Bool.{and-true, and-false}
-use mathlib.Core.Path.{_≡_, refl, sym, _∙_}
+use mathlib.Core.Path.{_≡_, refl, sym, ap, subst, _∙_}
 use Prim.Native.Nat.{_≤_, _<_}
 use native.Mathlib.Nat.{add-zero}
 use native.Mathlib.Omega.{arith}
@@ -119,3 +119,34 @@ module _ (image : List ℕ) (t : Tree) (base : ℕ) where
   token-by c e s stop u i pos h q =
       let d : u - s ≡ length (i .part .bytes) = omega (arith, q) in
       rw d (one-byte image (t .text + s) (i .part .bytes) (isGroup i) c pos (h .some) (h .bytes) (λ g. h .group g .long))
+
+  -- the item at `at`, and the run behind it
+  pub record Step (stop tail at s next u : ℕ) (is : List Item) : Type 0 where
+    pub item : Item
+    pub rest : List Item
+    pub parts : is ≡ item ∷ rest
+    pub stands : Stands image t base stop at s item
+    pub laid : Laid image t base stop tail next u rest
+    pub ends : u ≡ s + length (item .part .bytes)
+    pub token : (c b : ℕ) → 0 < c → b ≡ singleOf image (t .text + s) (u - s) → isToken c item ≡ eqb b c
+
+  pub laid-next : (stop tail at s next u : ℕ) (is : List Item) → at < stop → next ≡ at + skipIn image t at → u ≡ startOr image t next stop tail
+      → Laid image t base stop tail at s is → Step stop tail at s next u is
+  laid-next stop tail at s next u is l en et h =
+      let f = laid-first stop tail at s is l h in
+      let v : ℕ = s + length (f .item .part .bytes) in
+      let ld : Laid image t base stop tail next v (f .rest) = subst (λ x. Laid image t base stop tail x v (f .rest)) (sym en) (f .laid) in
+      let ts : u ≡ v = et ∙ sym (laid-start stop tail next v (f .rest) ld) in
+      record {
+        item = f .item;
+        rest = f .rest;
+        parts = f .parts;
+        stands = f .stands;
+        laid = subst (λ x. Laid image t base stop tail next x (f .rest)) (sym ts) ld;
+        ends = ts;
+        token = λ c b pos eb. token-by c at s stop u (f .item) pos (f .stands) ts ∙ ap (λ x. eqb x c) (sym eb);
+      }
+
+  pub laid-from : (stop tail e s u : ℕ) (is : List Item) → u ≡ startOr image t e stop tail → Laid image t base stop tail e s is
+      → Laid image t base stop tail e u is
+  laid-from stop tail e s u is q h = subst (λ x. Laid image t base stop tail e x is) (laid-start stop tail e s is h ∙ sym q) h

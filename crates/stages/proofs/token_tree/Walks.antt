@@ -2,12 +2,12 @@
 use mathlib.Core.Path.{_≡_, refl, sym, subst, _∙_}
 use Prim.Native.Nat.{_≤_, _<_}
 use native.Mathlib.Omega.{arith}
-use Rattle.definition.specs.Prelude.{ℕ, _+_, _^_, List, length}
+use Rattle.definition.specs.Prelude.{ℕ, _+_, _^_, List}
 use Rattle.definition.specs.Text.{Item}
 use Rattle.stages.specs.token_tree.Laid.{Laid, Runs}
 use Rattle.stages.specs.declared.token_tree.types.Tree.{Tree}
 use Rattle.stages.specs.token_tree.Table.{skipIn, startOr, RecordFits}
-use Rattle.stages.proofs.token_tree.Places.{laid-order, laid-first, laid-start}
+use Rattle.stages.proofs.token_tree.Places.{laid-order, laid-start, laid-next}
 
 -- a run whose end is no further is within the image, too
 pub runs-within : {image : List ℕ} {t : Tree} {stop tail r s stop′ tail′ r′ s′ : ℕ} (base : ℕ) (is : List Item) → Runs image t stop tail r s
@@ -45,15 +45,12 @@ module _ (image : List ℕ) (t : Tree) (stop tail : ℕ) where
 
   pub runs-next : (e s next u : ℕ) → Runs image t stop tail e s → e < stop → next ≡ e + skipIn image t e → u ≡ startOr image t next stop tail → Next e s next u
   runs-next e s next u r l en et =
-      let f = laid-first image t (r .base) stop tail e s (r .items) l (r .laid) in
-      let v : ℕ = s + length (f .item .part .bytes) in
-      let ld : Laid image t (r .base) stop tail next v (f .rest) = subst (λ x. Laid image t (r .base) stop tail x v (f .rest)) (sym en) (f .laid) in
-      let ts : u ≡ v = et ∙ sym (laid-start image t (r .base) stop tail next v (f .rest) ld) in
-      let lt : Laid image t (r .base) stop tail next u (f .rest) = subst (λ x. Laid image t (r .base) stop tail next x (f .rest)) (sym ts) ld in
-      let o = laid-order image t (r .base) stop tail next u (f .rest) lt in
+      let f = laid-next image t (r .base) stop tail e s next u (r .items) l en et (r .laid) in
+      let o = laid-order image t (r .base) stop tail next u (f .rest) (f .laid) in
       let sk = f .stands .skip in
+      let ts = f .ends in
       record {
-        runs = runs-within (r .base) (f .rest) r (omega arith) (omega arith) lt;
+        runs = runs-within (r .base) (f .rest) r (omega arith) (omega arith) (f .laid);
         order = omega (arith, en, sk);
         stop-order = o .0;
         text-order = omega (arith, ts);

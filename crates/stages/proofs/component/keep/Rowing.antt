@@ -9,7 +9,6 @@ use Rattle.definition.specs.Basics.{if_then_else_, isEmpty}
 use Rattle.definition.specs.Ranges as Ranges
 use Rattle.definition.specs.Ranges.{staticWidth, staticRange}
 use Rattle.definition.specs.Component as Def
-use Rattle.definition.specs.Component.{hasEnd}
 use Rattle.definition.specs.Concatenation.{hasFullRange}
 use Rattle.definition.specs.Answer.{twos, flag}
 use Rattle.laws.specs.Padded.{length-padded}
@@ -30,6 +29,7 @@ use Rattle.stages.specs.declared.component.types.ComponentType.{Componen
 use Rattle.stages.specs.declared.component.types.ComponentType.the-variants as T
 use Rattle.stages.specs.declared.component.types.Component.{Component}
 use Rattle.stages.specs.declared.component.keep.Row.{Row}
+use Rattle.stages.proofs.component.tests.Tested.{there-is}
 
 -- ---- halves
 
@@ -111,10 +111,6 @@ module _ (image : List ℕ) (t : Tree) (base : ℕ) (low : base < 2 ^ 32) (small
 
   -- ---- flags
 
-  there-is : (x : OptionUsb) (s : Ranges.Usb) → isThere x ≡ hasEnd (record { start = s; «end» = endOf image t base x })
-  there-is (O.Some u) s = refl
-  there-is O.None s = refl
-
 width-flag-is : (x : OptionI128) (y : Option ℤ) → optionOf x ≡ y → _≡_ {A = ℕ} (widthFlagBy x) (elim y [ none ↦ 0 | some w ↦ 8 ])
 width-flag-is (I.Some w) y e = rw (← e) refl
 width-flag-is I.None y e = rw (← e) refl
@@ -154,7 +150,7 @@ row-is image t base literal c h low fits small =
     let d = componentOf image t base literal c in
     let m = h .measured in
     record {
-      flags = sums (kindFlags d) _ _ _ _ (ap (λ b. flag b 4) (there-is image t base low small (c .range .«end») (usbOf image t base (c .range .start))))
+      flags = sums (kindFlags d) _ _ _ _ (ap (λ b. flag b 4) (there-is image t base (c .range .«end») (usbOf image t base (c .range .start))))
           (width-flag-is (c .width) (staticWidth (usbrOf image t base (c .range))) (m .width));
       content = content-is image t base low small literal fits (keptRow image t base c literal) (c .«c_type») refl refl (h .c-type);
       width = ap optionOf (width-read (kindFlags d + flag (isThere (c .range .«end»)) 4) (c .width) (free d (isThere (c .range .«end»)))) ∙ m .width;

@@ -36,13 +36,13 @@ range-none (j ∷ k ∷ l) i h = ap (λ s. record { mid = j ∷ s .mid; range = 
 
 -- ---- the last item of a run
 
-record Ends (i : Item) (is : List Item) : Type 0 where
-  pub mid : List Item
-  pub item : Item
+pub record Ends {A : Type 0} (i : A) (is : List A) : Type 0 where
+  pub mid : List A
+  pub item : A
   pub parts : i ∷ is ≡ mid ++ (item ∷ [])
   pub long : length is ≡ length mid
 
-ends : (i : Item) (is : List Item) → Ends i is
+pub ends : {A : Type 0} (i : A) (is : List A) → Ends i is
 ends i [] = record { mid = []; item = i; parts = refl; long = refl }
 ends i (j ∷ is) = let e = ends j is in record { mid = i ∷ e .mid; item = e .item; parts = ap (λ l. i ∷ l) (e .parts); long = ap suc (e .long) }
 
