@@ -12,7 +12,7 @@ use Rattle.definition.specs.Image.{bytesAt, padded}
 use Rattle.definition.specs.Text.{Item, isGroup, isToken}
 use Rattle.stages.specs.token_tree.Laid.{Stands, Laid, placeOf}
 use Rattle.stages.specs.declared.token_tree.types.Tree.{Tree}
-use Rattle.stages.specs.token_tree.Table.{skipIn, singleOf, startOr}
+use Rattle.stages.specs.token_tree.Table.{startIn, skipIn, singleOf, startOr}
 
 pub place-above : (image : List ℕ) (t : Tree) (e n : ℕ) → e ≤ placeOf image t e n
 unfolding placeOf
@@ -106,6 +106,12 @@ module _ (image : List ℕ) (t : Tree) (base : ℕ) where
   unfolding Laid
   laid-none stop tail e s [] l h = (refl, h .0)
   laid-none stop tail e s (i ∷ is) l h = absurd (omega (arith, l, h .0 .room))
+
+  -- items need records
+  pub laid-some : (stop tail e s : ℕ) (is : List Item) → 1 ≤ length is → Laid image t base stop tail e s is → (startIn image t e ≡ s) × (e < stop)
+  unfolding Laid
+  laid-some stop tail e s [] l h = absurd (omega (arith, l))
+  laid-some stop tail e s (i ∷ is) l h = let m = h .0 .room in (h .0 .start, omega (arith, m))
 
   -- where a run's text starts
   pub laid-start : (stop tail e s : ℕ) (is : List Item) → Laid image t base stop tail e s is → s ≡ startOr image t e stop tail

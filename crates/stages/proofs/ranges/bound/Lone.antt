@@ -23,7 +23,7 @@ use Rattle.stages.specs.declared.ranges.types.Usb.{Usb}
 use Rattle.stages.specs.declared.ranges.types.UsbResult.{UsbResult}
 use Rattle.stages.specs.declared.ranges.types.UsbResult.the-variants as U
 use Rattle.stages.proofs.token_tree.Insides.{last-inside}
-use Rattle.stages.proofs.token_tree.Places.{laid-first, laid-order, token-by}
+use Rattle.stages.proofs.token_tree.Places.{laid-first, laid-order, laid-some, token-by}
 use Rattle.stages.proofs.token_tree.Walks.{runs-within}
 use Rattle.stages.proofs.token_tree.Written.{no-text-is, none-fits, laid-part}
 use Rattle.stages.proofs.ranges.sides.Texts.{part-fits}
@@ -117,10 +117,6 @@ module _ (image : List ℕ) (t : Tree) (base stop tail r s : ℕ) where
   unfolding Laid
   text-ended h = h .1
 
-  begun : (i : Item) (is : List Item) → Laid image t base stop tail r s (i ∷ is) → r + 1 ≤ stop
-  unfolding Laid
-  begun i is h = h .0 .room
-
 refused-as : (image : List ℕ) (t : Tree) (base : ℕ) (is : List Item) → parseUsb is ≡ refused 15 0 0 → UsbReads image t base (U.Refused 15) (parseUsb is)
 refused-as image t base is e = record { is = sym e; held = tt }
 
@@ -162,7 +158,7 @@ module _ (image : List ℕ) (t : Tree) (base stop tail r s : ℕ) (is : List Ite
             ends = text-ended image t base stop tail (r + skipIn image t r) (s + length (i .part .bytes)) k;
           }
       go i (j ∷ rest) e st k =
-          absurd (let m = begun image t base stop tail (r + skipIn image t r) (s + length (i .part .bytes)) j rest k in omega (arith, m, z))
+          absurd (let m = laid-some image t base stop tail (r + skipIn image t r) (s + length (i .part .bytes)) (j ∷ rest) (omega arith) k .1 in omega (arith, m, z))
 
 -- ---- the ways of parse_usb, by what the first record holds
 

@@ -4,7 +4,7 @@ use Prim.Native.Nat.{_≤_, _<_}
 use native.Mathlib.Omega.{arith}
 use lib.ListN.{take-append-drop, length-drop}
 use lib.Seq.{length-take-le}
-use Rattle.definition.specs.Prelude.{ℕ, _+_, _-_, Bool, true, false, List, [], _∷_, take, drop, length}
+use Rattle.definition.specs.Prelude.{ℕ, _-_, Bool, true, false, List, [], _∷_, take, drop, length}
 use Rattle.definition.specs.Basics.{refused, _>>=_}
 use Rattle.definition.specs.Text.{Item}
 use Rattle.definition.specs.Ranges.{parseStart, parseRange}
@@ -20,17 +20,12 @@ use Rattle.stages.specs.declared.ranges.types.UsbResult.{UsbResult}
 use Rattle.stages.specs.declared.ranges.types.UsbResult.the-variants as U
 use Rattle.stages.specs.declared.ranges.types.RangeResult.{RangeResult}
 use Rattle.stages.specs.declared.ranges.types.RangeResult.the-variants as R
-use Rattle.stages.proofs.token_tree.Places.{laid-split, laid-order, laid-none}
+use Rattle.stages.proofs.token_tree.Places.{laid-split, laid-order, laid-none, laid-some}
 use Rattle.stages.proofs.token_tree.Walks.{runs-within}
 use Rattle.stages.proofs.ranges.range.Bounds.{reads-ok, reads-refused}
 use Rattle.stages.proofs.ranges.range.Dotted.{RangeBy, RangeCut, range-by}
 
 module _ (image : List ℕ) (t : Tree) (base stop tail : ℕ) where
-  laid-some : (r s : ℕ) (l : List Item) → 1 ≤ length l → Laid image t base stop tail r s l → (startIn image t r ≡ s) × (r + 1 ≤ stop)
-  unfolding Laid
-  laid-some r s [] n h = absurd (omega (arith, n))
-  laid-some r s (x ∷ l) n h = (h .0 .start, h .0 .room)
-
   laid-length : (r s : ℕ) (l : List Item) → (r ≡ stop → ⊥) → Laid image t base stop tail r s l → 1 ≤ length l
   unfolding Laid
   laid-length r s [] z h = absurd (z (h .0))
@@ -54,10 +49,10 @@ module _ (image : List ℕ) (t : Tree) (base stop tail : ℕ) where
         }
 
     -- the item there
-    pub cut-start : (n place : ℕ) → n < length is → (c : CutAt n place) → (startIn image t place ≡ c .from) × (place + 1 ≤ stop)
+    pub cut-start : (n place : ℕ) → n < length is → (c : CutAt n place) → (startIn image t place ≡ c .from) × (place < stop)
     cut-start n place l c =
         let k = length-drop n is in
-        laid-some place (c .from) (drop n is) (omega (arith, k, l)) (c .after)
+        laid-some image t base stop tail place (c .from) (drop n is) (omega (arith, k, l)) (c .after)
 
     cut-before : (n place : ℕ) → place ≡ placeOf image t r n → n < length is → Laid image t base place (startIn image t place) r s (take n is)
     cut-before n place e l =

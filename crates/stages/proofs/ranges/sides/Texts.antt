@@ -20,7 +20,8 @@ module _ (image : List ℕ) (t : Tree) (base : ℕ) where
 
   pub number-text : (s e : ℕ) → s < e → tryParse (bytesAt image (t .text + s) (e - s)) ≡ numberIn (textIn image t base s e)
   number-text s e l =
-      sym (ap numberIn (text-some image t base s e l) ∙ rw (empty-is (e - s) (drop (t .text + s) image), ne-eqb (e - s) 0 (λ q. let z : _≡_ {A = ℕ} (e - s) 0 = q in omega (arith, l, z))))
+      sym (ap numberIn (text-some image t base s e l)
+      ∙ rw (empty-is (e - s) (drop (t .text + s) image), ne-eqb (e - s) 0 (λ q. let z : _≡_ {A = ℕ} (e - s) 0 = q in omega (arith, l, z))))
 
   pub part-fits : (s e : ℕ) → Between image t base s e → PartFits image t base (partBy s e)
   part-fits s e b = Written.part-fits image t base s e (λ l. b .above) (b .order) (b .room)
