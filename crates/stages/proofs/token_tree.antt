@@ -9,3 +9,4 @@ pub mod Roots
 pub mod Same
 pub mod Trees
 pub mod Walks
+pub mod Written

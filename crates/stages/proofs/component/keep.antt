@@ -1,4 +1,3 @@
--- Laws of the words of a component, and of the store that holds them.
+-- Laws of the words of a component.
 pub mod Rowing
 pub mod Saving
-pub mod Stores

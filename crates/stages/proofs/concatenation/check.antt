@@ -1,6 +1,5 @@
 -- Laws that the functions' proofs cite.
 pub mod Counts
-pub mod KeptRows
 pub mod Flags
 pub mod Shapes
 pub mod Turns

@@ -19,14 +19,15 @@ use Rattle.numbers.specs.Value.{bits, valueOf, optionOf}
 use Rattle.numbers.specs.declared.I128.{I128}
 use Rattle.numbers.specs.declared.OptionI128.{OptionI128}
 use Rattle.numbers.specs.declared.OptionI128.the-variants as I
-use Rattle.stages.specs.token_tree.Parts.{noPart, bytesIn, PartFits}
-use Rattle.stages.specs.ranges.Values.{Tree, valBy, usbOf, endOf, UsbFits, UsbReads}
+use Rattle.stages.specs.token_tree.Parts.{bytesIn}
+use Rattle.stages.specs.ranges.Values.{Tree, zeroI, valBy, zeroBy, usbOf, endOf, UsbFits, UsbReads}
 use Rattle.stages.specs.ranges.Checks.{endVal}
 use Rattle.stages.specs.ranges.Sides.{movedText, raisedOne}
 use Rattle.stages.specs.declared.ranges.types.Usb.{Usb}
 use Rattle.stages.specs.declared.ranges.types.OptionUsb.{OptionUsb}
 use Rattle.stages.specs.declared.ranges.types.OptionUsb.the-variants as O
 use Rattle.stages.specs.declared.ranges.types.UsbResult.the-variants as U
+use Rattle.stages.proofs.token_tree.Written.{no-text-is, none-fits}
 
 pub empty-is : (n : ℕ) (s : List ℕ) → isEmpty (padded n s) ≡ eqb n 0
 unfolding padded
@@ -53,6 +54,10 @@ given r s o = elim o [ none ↦ refuse r | some x ↦ ok (text s x) ]
 abbrev added : D.Usb → Option ℤ → Result D.Usb
 added u o = elim o [ none ↦ ok u | some v ↦ withX overflow noText (u .x +ℤ v) ]
 
+pub zero-value : valueOf zeroI ≡ pos 0
+unfolding valueOf
+zero-value = refl
+
 one : valueOf (record { high = 0; low = 1 }) ≡ pos 1
 unfolding valueOf
 one = refl
@@ -61,14 +66,16 @@ module _ (image : List ℕ) (t : Tree) (base : ℕ) where
   -- ---- a bound that is a number
 
   pub val-is : (x : I128) → usbOf image t base (valBy x) ≡ val (valueOf x)
-  unfolding padded
-  val-is x = let e : 0 - base ≡ 0 = omega arith in ap (λ (n : ℕ). record { s = record { at = n; bytes = [] }; x = valueOf x }) e
-
-  pub none-fits : t .text ≤ length image → PartFits image t base noPart
-  none-fits h = record { room = omega arith; none = λ e. refl; some = λ l. absurd (omega arith) }
+  val-is x = ap (λ (s : Text.Part). text s (valueOf x)) (no-text-is image t base)
 
   pub val-fits : (x : I128) → t .text ≤ length image → x .low < 2 ^ 64 → x .high < 2 ^ 64 → UsbFits image t base (valBy x)
-  val-fits x h l k = record { part = none-fits h; low = l; high = k }
+  val-fits x h l k = record { part = none-fits image t base h; low = l; high = k }
+
+  pub zero-is : usbOf image t base zeroBy ≡ val (pos 0)
+  zero-is = val-is zeroI ∙ ap val zero-value
+
+  pub zero-fits : t .text ≤ length image → UsbFits image t base zeroBy
+  zero-fits h = val-fits zeroI h (omega arith) (omega arith)
 
   pub static-by : (u : Usb) → staticVal (usbOf image t base u) ≡ (if eqb (u .s .len) 0 then some (valueOf (u .x)) else none)
   static-by u = rw empty-is

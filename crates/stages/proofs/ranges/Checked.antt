@@ -1,7 +1,6 @@
 -- Stage 2 of a range, on the definition alone: both bounds, then the tests, and what the tests leave.
 use mathlib.Core.Path.{_≡_, refl, sym, _∙_, subst}
-use native.Mathlib.Omega.{arith}
-use Rattle.definition.specs.Prelude.{ℕ, Bool, true, false, _&&_, Option, none, some, pos, ltZ, nonNeg}
+use Rattle.definition.specs.Prelude.{Bool, true, false, _&&_, Option, none, some, pos, ltZ, nonNeg}
 use Rattle.definition.specs.Basics.{Result, ok, refused, _>>=_}
 use Rattle.definition.specs.Refusals.{need, negative-bound, reversed, zero-width}
 use Rattle.definition.specs.Ranges.{Usbr}
@@ -9,6 +8,7 @@ use Rattle.definition.specs.Component.{simplifyUsb, simplifyEnd, simplifyRange,
 use Rattle.laws.specs.Results.{bind-ok, bind-assoc}
 use Rattle.laws.specs.Tests.{and-iff}
 use Rattle.stages.specs.ranges.Checks.{endSimple, bothSimple, checkedRange, Positive}
+use Rattle.stages.proofs.Cases.{never}
 
 pub bind-same : {A B : Type 0} (m : Result A) {f g : A → Result B} → ((a : A) → f a ≡ g a) → (m >>= f) ≡ (m >>= g)
 bind-same (ok a) h = h a
@@ -23,9 +23,6 @@ unfolding simplifyRange
 range-is v =
     sym (bind-assoc (simplifyUsb (v .start)) (λ s. endSimple s (v .«end»)) thenChecked)
     ∙ bind-same (simplifyUsb (v .start)) (λ s. sym (bind-assoc (simplifyEnd (v .«end»)) (λ e. ok (some (record { start = s; «end» = e }))) thenChecked))
-
-never : {G : Type 0} {A : Type 0} {n i k : ℕ} {a : A} → refused n i k ≡ ok a → G
-never h = let z : _≡_ {A = ℕ} 0 1 = cc in absurd (omega arith)
 
 passed : (v u : Usbr) (a b c : Bool) → (need a negative-bound >>= λ _. (need b reversed >>= λ _. (need c zero-width >>= λ _. ok v))) ≡ ok u
     → (a ≡ true) × (b ≡ true) × (v ≡ u)

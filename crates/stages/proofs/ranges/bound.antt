@@ -1,4 +1,3 @@
 -- Laws of a bound.
 pub mod AtSign
 pub mod Lone
-pub mod Written

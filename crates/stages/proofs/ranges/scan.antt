@@ -1,3 +1,2 @@
 -- The scan for dots.
 pub mod Scans
-pub mod Steps

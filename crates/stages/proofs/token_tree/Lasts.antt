@@ -1,25 +1,15 @@
 -- The last item of a run, found by stepping from item to item.
 use mathlib.Core.Path.{_≡_, refl, sym, ap, subst, _∙_}
 use Prim.Native.Nat.{_≤_, _<_}
-use native.Mathlib.Omega.{arith}
-use Rattle.definition.specs.Prelude.{ℕ, _+_, _*_, _^_, List, [], _∷_, length}
+use Rattle.definition.specs.Prelude.{ℕ, _+_, List, _∷_, length}
 use Rattle.definition.specs.Text.{Item}
 use Rattle.stages.specs.token_tree.Laid.{Laid, Runs, placeOf}
-use Rattle.stages.specs.token_tree.Table.{skipIn, startOr, RecordFits}
+use Rattle.stages.specs.token_tree.Table.{skipIn, startOr}
 use Rattle.stages.specs.declared.token_tree.types.Tree.{Tree}
 use Rattle.stages.proofs.token_tree.Places.{laid-first, laid-none}
-use Rattle.stages.proofs.token_tree.Walks.{Next, runs-next}
+use Rattle.stages.proofs.token_tree.Walks.{runs-next}
 
 module _ (image : List ℕ) (t : Tree) (stop : ℕ) where
-  -- what is asked to step behind an item
-  pub record-fits : (tail r s : ℕ) → Runs image t stop tail r s → r < stop → RecordFits image t r × (r + skipIn image t r < 2 ^ 32)
-  record-fits tail r s h l =
-      let n = runs-next image t stop tail r s (r + skipIn image t r) (startOr image t (r + skipIn image t r) stop tail) h l refl refl in
-      let o = n .stop-order in
-      let f = h .fits in
-      let b = h .small in
-      (record { room = omega (arith, l, f); small = b }, omega (arith, o, f, b))
-
   -- item p of a run, counted from a place within it
   pub record Found (base tail at p : ℕ) : Type 0 where
     pub s : ℕ

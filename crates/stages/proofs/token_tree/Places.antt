@@ -1,18 +1,18 @@
 -- Places of items, and a run cut at one.
+use mathlib.Core.Bool.{and-true, and-false}
 use mathlib.Core.Path.{_≡_, refl, sym, ap, subst, _∙_}
 use Prim.Native.Nat.{_≤_, _<_}
-use native.Mathlib.Nat.{add-zero, add-assoc}
+use native.Mathlib.Nat.{add-zero}
 use native.Mathlib.Omega.{arith}
 use lib.Seq.{getD-drop}
 use borrow.Author.Tests.{eq-eqb, ne-eqb}
-use Rattle.definition.specs.Prelude.{ℕ, zero, suc, _+_, _*_, _-_, _^_, Bool, true, false, _&&_, not, List, [], _∷_, _++_, length, getD, drop, eqb}
-use Rattle.definition.specs.Basics.{if_then_else_, sameBytes}
+use Rattle.definition.specs.Prelude.{ℕ, zero, suc, _+_, _-_, Bool, true, false, _&&_, not, List, [], _∷_, _++_, length, getD, drop, eqb}
+use Rattle.definition.specs.Basics.{sameBytes}
 use Rattle.definition.specs.Image.{bytesAt, padded}
 use Rattle.definition.specs.Text.{Item, isGroup, isToken}
-use Rattle.laws.specs.Tests.{by-test}
 use Rattle.stages.specs.token_tree.Laid.{Stands, Laid, placeOf}
 use Rattle.stages.specs.declared.token_tree.types.Tree.{Tree}
-use Rattle.stages.specs.token_tree.Table.{skipIn, singleOf, startOr}
+use Rattle.stages.specs.token_tree.Table.{startIn, skipIn, singleOf, startOr}
 
 pub place-above : (image : List ℕ) (t : Tree) (e n : ℕ) → e ≤ placeOf image t e n
 unfolding placeOf
@@ -27,14 +27,6 @@ pub place-suc : (image : List ℕ) (t : Tree) (e n : ℕ) → placeOf image t e 
 unfolding placeOf
 place-suc image t e zero = refl
 place-suc image t e (suc n) = place-suc image t (e + skipIn image t e) n
-
-and-false : (t : Bool) → (t && false) ≡ false
-and-false true = refl
-and-false false = refl
-
-and-true : (t : Bool) → (t && true) ≡ t
-and-true true = refl
-and-true false = refl
 
 first-byte : (l : List ℕ) (b : ℕ) → padded 1 l ≡ b ∷ [] → getD l 0 0 ≡ b
 unfolding padded
@@ -115,6 +107,12 @@ module _ (image : List ℕ) (t : Tree) (base : ℕ) where
   laid-none stop tail e s [] l h = (refl, h .0)
   laid-none stop tail e s (i ∷ is) l h = absurd (omega (arith, l, h .0 .room))
 
+  -- items need records
+  pub laid-some : (stop tail e s : ℕ) (is : List Item) → 1 ≤ length is → Laid image t base stop tail e s is → (startIn image t e ≡ s) × (e < stop)
+  unfolding Laid
+  laid-some stop tail e s [] l h = absurd (omega (arith, l))
+  laid-some stop tail e s (i ∷ is) l h = let m = h .0 .room in (h .0 .start, omega (arith, m))
+
   -- where a run's text starts
   pub laid-start : (stop tail e s : ℕ) (is : List Item) → Laid image t base stop tail e s is → s ≡ startOr image t e stop tail
   unfolding Laid
@@ -127,3 +125,34 @@ module _ (image : List ℕ) (t : Tree) (base : ℕ) where
   token-by c e s stop u i pos h q =
       let d : u - s ≡ length (i .part .bytes) = omega (arith, q) in
       rw d (one-byte image (t .text + s) (i .part .bytes) (isGroup i) c pos (h .some) (h .bytes) (λ g. h .group g .long))
+
+  -- the item at `at`, and the run behind it
+  pub record Step (stop tail at s next u : ℕ) (is : List Item) : Type 0 where
+    pub item : Item
+    pub rest : List Item
+    pub parts : is ≡ item ∷ rest
+    pub stands : Stands image t base stop at s item
+    pub laid : Laid image t base stop tail next u rest
+    pub ends : u ≡ s + length (item .part .bytes)
+    pub token : (c b : ℕ) → 0 < c → b ≡ singleOf image (t .text + s) (u - s) → isToken c item ≡ eqb b c
+
+  pub laid-next : (stop tail at s next u : ℕ) (is : List Item) → at < stop → next ≡ at + skipIn image t at → u ≡ startOr image t next stop tail
+      → Laid image t base stop tail at s is → Step stop tail at s next u is
+  laid-next stop tail at s next u is l en et h =
+      let f = laid-first stop tail at s is l h in
+      let v : ℕ = s + length (f .item .part .bytes) in
+      let ld : Laid image t base stop tail next v (f .rest) = subst (λ x. Laid image t base stop tail x v (f .rest)) (sym en) (f .laid) in
+      let ts : u ≡ v = et ∙ sym (laid-start stop tail next v (f .rest) ld) in
+      record {
+        item = f .item;
+        rest = f .rest;
+        parts = f .parts;
+        stands = f .stands;
+        laid = subst (λ x. Laid image t base stop tail next x (f .rest)) (sym ts) ld;
+        ends = ts;
+        token = λ c b pos eb. token-by c at s stop u (f .item) pos (f .stands) ts ∙ ap (λ x. eqb x c) (sym eb);
+      }
+
+  pub laid-from : (stop tail e s u : ℕ) (is : List Item) → u ≡ startOr image t e stop tail → Laid image t base stop tail e s is
+      → Laid image t base stop tail e u is
+  laid-from stop tail e s u is q h = subst (λ x. Laid image t base stop tail e x is) (laid-start stop tail e s is h ∙ sym q) h

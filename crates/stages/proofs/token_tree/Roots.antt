@@ -1,13 +1,13 @@
 -- A component in the rows of its image: where its run ends, and that its items stand there.
-use mathlib.Core.Path.{_≡_, refl, sym, ap, _∙_}
+use mathlib.Core.Path.{_≡_, sym, ap, _∙_}
 use Prim.Native.Nat.{_≤_}
 use native.Mathlib.Nat.{add-zero}
 use native.Mathlib.Omega.{arith}
 use borrow.Author.Tests.{eq-eqb, ne-eqb}
 use lib.ListN.{length-append}
-use Rattle.definition.specs.Prelude.{ℕ, suc, _+_, _*_, List, [], _∷_, _++_, length}
-use Rattle.definition.specs.Basics.{joined, sum, tab}
-use Rattle.definition.specs.Image.{u32At, bytesFor}
+use Rattle.definition.specs.Prelude.{ℕ, suc, _+_, List, [], _∷_, _++_, length}
+use Rattle.definition.specs.Basics.{joined}
+use Rattle.definition.specs.Image.{bytesFor}
 use Rattle.definition.specs.Tree.{Node, recsOf, allRecs, literalsOf, textOf, packed}
 use Rattle.definition.specs.Text.{items}
 use Rattle.prepared.specs.Bits.{length-packed}
@@ -24,6 +24,9 @@ module _ (image : List ℕ) (t : Tables) where
       → Rooted image t k r s l n × Rows image t (suc k) (r + length (recsOf n)) (s + length (textOf (recsOf n))) (l + bytesFor (length (n .bits))) ns
   unfolding Rows
   rows-cons k r s l n ns h = h
+
+  pub rows-moved : (k k′ r r′ s s′ l l′ : ℕ) (ns : List Node) → k ≡ k′ → r ≡ r′ → s ≡ s′ → l ≡ l′ → Rows image t k r s l ns → Rows image t k′ r′ s′ l′ ns
+  rows-moved k k′ r r′ s s′ l l′ ns a b c d h = rw (← a, ← b, ← c, ← d) h
 
   -- all their records and all their text
   pub rows-sum : (k r s l : ℕ) (ns : List Node) → Rows image t k r s l ns
@@ -50,24 +53,10 @@ module _ (image : List ℕ) (t : Tables) where
       let m = ap {A = List ℕ} length (textOf-append (recsOf n) (allRecs ns)) ∙ length-append (textOf (recsOf n)) (textOf (allRecs ns)) in
       let p = length-append (packed (n .bits)) (literalsOf ns) in
       let b = length-packed (n .bits) in
-      moved ms (suc k + length ns) (k + suc (length ns)) (r + length (recsOf n) + length (allRecs ns)) (r + length (allRecs (n ∷ ns)))
+      rows-moved (suc k + length ns) (k + suc (length ns)) (r + length (recsOf n) + length (allRecs ns)) (r + length (allRecs (n ∷ ns)))
       (s + length (textOf (recsOf n)) + length (textOf (allRecs ns))) (s + length (textOf (allRecs (n ∷ ns))))
       (l + bytesFor (length (n .bits)) + length (literalsOf ns)) (l + length (literalsOf (n ∷ ns)))
-      (omega arith) (omega (arith, c)) (omega (arith, m)) (omega (arith, p, b)) o
-    where
-      moved : (ms : List Node) (k k′ r r′ s s′ l l′ : ℕ) → k ≡ k′ → r ≡ r′ → s ≡ s′ → l ≡ l′ → Rows image t k r s l ms → Rows image t k′ r′ s′ l′ ms
-      moved ms k k′ r r′ s s′ l l′ a b c d h = rw (← a, ← b, ← c, ← d) h
-
-  -- their records, counted by their rows
-  pub rows-records : (k r s l : ℕ) (ns ms : List Node) → Rows image t k r s l (ns ++ ms)
-      → sum (tab (λ j. u32At image (t .components + 8 * j)) k (length ns)) ≡ length (allRecs ns)
-  unfolding Rows joined sum tab
-  rows-records k r s l [] ms h = refl
-  rows-records k r s l (n ∷ ns) ms h =
-      let o = rows-records (suc k) (r + length (recsOf n)) (s + length (textOf (recsOf n))) (l + bytesFor (length (n .bits))) ns ms (h .1) in
-      let c = length-append (recsOf n) (allRecs ns) in
-      let z = h .0 .size in
-      omega (arith, o, c, z)
+      ms (omega arith) (omega (arith, c)) (omega (arith, m)) (omega (arith, p, b)) o
 
   -- a component's items
   pub root-laid : (k r s l : ℕ) (n : Node) → Rooted image t k r s l n

@@ -1,7 +1,7 @@
 -- The block of a concatenation from its words, and the head's six blocks.
-use mathlib.Core.Path.{_≡_, refl, sym, ap, _∙_}
+use mathlib.Core.Path.{_≡_, refl, ap, _∙_}
 use lib.Seq.{sets}
-use Rattle.definition.specs.Prelude.{ℕ, _+_, _*_, _%_, _^_, List, [], _∷_, _++_, length, getD, drop}
+use Rattle.definition.specs.Prelude.{ℕ, _+_, _*_, _%_, _^_, List, _∷_, _++_, length, getD, drop}
 use Rattle.definition.specs.Tree.{u32}
 use Rattle.definition.specs.Concatenation.{Concatenation, alignNumber, merge, merged}
 use Rattle.definition.specs.Answer.{flag, concatenationBytes}
@@ -11,7 +11,8 @@ use Rattle.stages.specs.concatenation.alignment.Align.{alignOf}
 use Rattle.stages.specs.concatenation.Heads.{widthOr0, HeadsAre, AllChecked}
 use Rattle.stages.specs.concatenation.Overall.{HasSummary}
 use Rattle.stages.specs.declared.concatenation.overall.Summary.{Summary}
-use Rattle.stages.proofs.answer.heads.Listed.{size-at, width-at}
+use Rattle.stages.proofs.concatenation.HeadsAt.{width-word}
+use Rattle.stages.proofs.answer.heads.Listed.{size-at}
 
 abbrev four : ℕ → ℕ → ℕ → ℕ → List ℕ
 four size align flags width = u32 size ++ u32 align ++ u32 flags ++ wordBytes width
@@ -33,8 +34,8 @@ pub concatenation-put : (l heads : List ℕ) (at i : ℕ) (s : Summary) (size al
 concatenation-put l heads at i s size align f g e₁ e₂ e₃ e₄ p₁ p₂ p₃ p₄ ds rest d h are checked here =
     four-blocks l at 4 8 12 (u32 size) (u32 align) (u32 (f + g)) (wordBytes (getD heads (2 * i + 1) 0)) p₁ refl p₂ refl p₃ refl p₄
     ∙ ap (sets l at)
-    (is-block d size align f g (getD heads (2 * i + 1) 0) (e₁ ∙ size-at heads ds i d rest are here checked) (e₂ ∙ ap alignNumber (h .align-is))
-    (e₃ ∙ ap (λ b. flag b 1) (h .deterministic-is)) (e₄ ∙ ap (λ b. flag b 2) (h .nonzero-is)) (width-at heads ds i d rest are here))
+    (is-block d size align f g (getD heads (2 * i + 1) 0) (e₁ ∙ size-at heads ds rest d i are here checked) (e₂ ∙ ap alignNumber (h .align-is))
+    (e₃ ∙ ap (λ b. flag b 1) (h .deterministic-is)) (e₄ ∙ ap (λ b. flag b 2) (h .nonzero-is)) (width-word heads ds rest d i are here))
 
 pub head-put : (l : List ℕ) (c m width flags align text w f k t : ℕ) {l₁ l₂ l₃ l₄ l₅ l₆ : List ℕ} → w ≡ width → f ≡ flags → k ≡ align → t ≡ text
     → l₁ ≡ sets l 0 (u32 c) → l₂ ≡ sets l₁ 4 (u32 m) → l₃ ≡ sets l₂ 8 (wordBytes w) → l₄ ≡ sets l₃ 16 (u32 f) → l₅ ≡ sets l₄ 20 (u32 k)

@@ -1,21 +1,21 @@
 -- The concatenation of a place, its two words, and the blocks of the first ones.
-use mathlib.Core.Path.{_≡_, refl, sym, ap, subst, _∙_}
+use mathlib.Core.Path.{_≡_, refl, sym, ap, _∙_}
 use mathlib.Core.List.{map-append, append-nil}
 use Prim.Native.Nat.{_≤_, _<_}
-use native.Mathlib.Nat.{le-of-suc-le-suc, zero-add}
+use native.Mathlib.Nat.{le-of-suc-le-suc}
 use native.Mathlib.Numerals.{add-one}
 use native.Mathlib.Omega.{arith}
 use lib.ListN.{length-append}
 use lib.Seq.{sets, length-take-le, take-all}
-use Rattle.definition.specs.Prelude.{ℕ, zero, suc, _+_, _*_, _/_, _%_, _^_, Bool, true, false, List, [], _∷_, _++_, map, length, getD, take, drop}
+use Rattle.definition.specs.Prelude.{ℕ, zero, suc, _+_, _*_, _%_, _^_, Bool, true, false, List, [], _∷_, _++_, map, length, getD, take, drop}
 use Rattle.definition.specs.Basics.{joined, sum}
 use Rattle.definition.specs.Concatenation.{Concatenation, alignNumber, merge, merged}
 use Rattle.definition.specs.Answer.{flag, concatenationBytes}
 use Rattle.laws.specs.Lists.{joined-append, sum-append}
-use Rattle.prepared.specs.Bytes.{Holds, holds-left, holds-right, holds-getD}
 use Rattle.stages.specs.answer.Sizes.{length-concatenation}
 use Rattle.stages.specs.answer.Writing.{and-then}
-use Rattle.stages.specs.concatenation.Heads.{headWords, widthOr0, HeadsAre, CheckedOne, AllChecked, none-left, one-more}
+use Rattle.stages.specs.concatenation.Heads.{HeadsAre, AllChecked}
+use Rattle.stages.proofs.concatenation.HeadsAt.{checked-at, head-word}
 
 -- the concatenation of a place
 pub record Here (ds : List Concatenation) (i : ℕ) : Type 0 where
@@ -31,47 +31,16 @@ here-of (d ∷ ds) (suc i) h =
     let r = here-of ds i (le-of-suc-le-suc h) in
     record { d = r .d; rest = r .rest; here = r .here; next = ap (λ (x : List Concatenation). d ∷ x) (r .next) }
 
-no-drop : {G : Type 0} (i : ℕ) (d : Concatenation) (rest : List Concatenation) → drop i [] ≡ d ∷ rest → G
-no-drop zero d rest e = let z : _≡_ {A = ℕ} 0 1 = cc in absurd (omega arith)
-no-drop (suc i) d rest e = let z : _≡_ {A = ℕ} 0 1 = cc in absurd (omega arith)
-
-words-from : (heads : List ℕ) (k : ℕ) (ds : List Concatenation) (i : ℕ) (d : Concatenation) (rest : List Concatenation)
-    → Holds heads k (joined (map headWords ds)) → drop i ds ≡ d ∷ rest → Holds heads (k + 2 * i) (headWords d)
-unfolding joined
-words-from heads k [] i d rest h e = no-drop i d rest e
-words-from heads k (c ∷ ds) zero d rest h e =
-    let z : k ≡ k + 2 * 0 = omega arith in
-    let same : c ≡ d = cc in
-    subst (λ (x : Concatenation). Holds heads (k + 2 * 0) (headWords x)) same
-    (subst (λ (n : ℕ). Holds heads n (headWords c)) z (holds-left heads k (headWords c) (joined (map headWords ds)) h))
-words-from heads k (c ∷ ds) (suc i) d rest h e =
-    let z : k + 2 + 2 * i ≡ k + 2 * suc i = omega arith in
-    subst (λ (n : ℕ). Holds heads n (headWords d)) z
-    (words-from heads (k + 2) ds i d rest (holds-right heads k (headWords c) (joined (map headWords ds)) h) e)
-
-pub checked-at : (ds : List Concatenation) (i : ℕ) (d : Concatenation) (rest : List Concatenation) → AllChecked ds → drop i ds ≡ d ∷ rest → CheckedOne d
-checked-at [] i d rest h e = no-drop i d rest e
-checked-at (c ∷ ds) zero d rest (one-more h hs) e = let same : c ≡ d = cc in subst CheckedOne same h
-checked-at (c ∷ ds) (suc i) d rest (one-more h hs) e = checked-at ds i d rest hs e
-
 size-in : (n a : ℕ) (z : Bool) → n ≤ 256 → (n + 2 ^ 32 * a + flag z (2 ^ 40)) % 2 ^ 32 ≡ n
 size-in n a true h = omega arith
 size-in n a false h = omega arith
 
-module _ (heads : List ℕ) (ds : List Concatenation) (i : ℕ) (d : Concatenation) (rest : List Concatenation) (are : HeadsAre heads ds) (here : drop i ds ≡ d ∷ rest) where
-  words-at : Holds heads (2 * i) (headWords d)
-  words-at = subst (λ (n : ℕ). Holds heads n (headWords d)) (zero-add (2 * i)) (words-from heads 0 ds i d rest are here)
-
-  -- components after merging
-  pub size-at : AllChecked ds → getD heads (2 * i) 0 % 2 ^ 32 ≡ length (merge (d .comps))
-  size-at checked =
-      let z : 2 * i ≡ 2 * i + 0 = omega arith in
-      ap (λ (n : ℕ). getD heads n 0 % 2 ^ 32) z
-      ∙ ap (λ (n : ℕ). n % 2 ^ 32) (holds-getD heads (2 * i) (headWords d) 0 0 words-at (omega arith))
-      ∙ size-in (length (merge (d .comps))) (alignNumber (d .align)) (d .nonzero) (checked-at ds i d rest checked here .few)
-
-  pub width-at : getD heads (2 * i + 1) 0 ≡ widthOr0 (d .width)
-  width-at = holds-getD heads (2 * i) (headWords d) 1 0 words-at (omega arith)
+-- components after merging
+pub size-at : (heads : List ℕ) (ds rest : List Concatenation) (d : Concatenation) (i : ℕ) → HeadsAre heads ds → drop i ds ≡ d ∷ rest → AllChecked ds
+    → getD heads (2 * i) 0 % 2 ^ 32 ≡ length (merge (d .comps))
+size-at heads ds rest d i are here checked =
+    ap (λ (n : ℕ). n % 2 ^ 32) (head-word heads ds rest d i are here)
+    ∙ size-in (length (merge (d .comps))) (alignNumber (d .align)) (d .nonzero) (checked-at ds rest d i checked here .few)
 
 -- ---- the blocks of the first ones
 
@@ -134,7 +103,7 @@ sum-next heads ds i m size h are checked e s = go (here-of ds i h)
   where
     go : Here ds i → m + size ≡ sum (map sizeOf (take (i + 1) ds))
     go r =
-        let z : size ≡ sizeOf (r .d) = e ∙ size-at heads ds i (r .d) (r .rest) are (r .here) checked in
+        let z : size ≡ sizeOf (r .d) = e ∙ size-at heads ds (r .rest) (r .d) i are (r .here) checked in
         let a : sum (map sizeOf (take i ds ++ (r .d ∷ []))) ≡ sum (map sizeOf (take i ds)) + sizeOf (r .d) =
         ap sum (map-append sizeOf (take i ds) (r .d ∷ [])) ∙ sum-append (map sizeOf (take i ds)) (sizeOf (r .d) ∷ [])
         ∙ ap (λ x. sum (map sizeOf (take i ds)) + x) (one-sum (sizeOf (r .d))) in

@@ -4,7 +4,7 @@ use Prim.Native.Nat.{_≤_, _<_}
 use native.Mathlib.Omega.{arith}
 use lib.ListN.{length-append}
 use lib.Seq.{sets}
-use Rattle.definition.specs.Prelude.{ℕ, _+_, _*_, _-_, _%_, _^_, true, false, none, some, List, [], _∷_, _++_, length, drop}
+use Rattle.definition.specs.Prelude.{ℕ, _+_, _*_, _-_, _%_, _^_, true, false, none, some, List, [], _∷_, _++_, length}
 use Rattle.definition.specs.Image.{Placed, bytesFor}
 use Rattle.definition.specs.Tree.{packed}
 use Rattle.definition.specs.Component as Def
@@ -17,14 +17,14 @@ use Rattle.laws.specs.Tests.{by-test}
 use Rattle.prepared.specs.Bits as Prepared
 use Rattle.prepared.specs.Bits.{length-packed}
 use Rattle.stages.specs.answer.Blocks.{plainBlock, openBlock}
-use Rattle.stages.specs.answer.literal_bits.Put.{bitsFrom}
 use Rattle.stages.specs.answer.merging.Put.{Room}
 use Rattle.stages.specs.answer.merging.Blocks.{putOne, writtenOne, Same, same-then, length-literals}
 use Rattle.stages.specs.answer.merging.State.{Holds, LongerIs, Closes, CloseIs, OtherIs, Goes, StepIs, Writable, Closable}
 use Rattle.stages.specs.declared.answer.merging.Writing.{Writing}
 use Rattle.stages.specs.declared.answer.merging.Merging.{Merging}
 use Rattle.stages.proofs.answer.blocks.Rows.{kindNumber, variable-block, filler-block, literal-block}
-use Rattle.stages.proofs.answer.merging.Stored.{RowAt, BitsAt, placeAt, fromAt, toAt}
+use Rattle.stages.proofs.component.Rows.{RowAt, field-at}
+use Rattle.stages.proofs.answer.merging.Stored.{BitsAt, placeAt, fromAt, toAt}
 use Rattle.stages.proofs.answer.merging.Closing.{at-rest, no-run, same-area, Behind, block-put, block-first}
 
 -- the literal of an open run is among the literals to come
@@ -114,8 +114,8 @@ module _ (d : Placed Component) where
         go : (t : Def.ComponentType) → (kindNumber t ≡ 1 → ⊥) → RowAt image words k (of t)
             → (bitsOf (of t .value) ≡ []) × (plainBlock words (11 * k) ≡ componentBytes offset (of t))
         go (Def.literal b) other at = absurd (other refl)
-        go (Def.variable q) other at = (refl, variable-block image words (11 * k) (at .row) (at .fields) (d .base) offset (d .value .range) q (at .is))
-        go Def.filler other at = (refl, filler-block image words (11 * k) (at .row) (at .fields) (d .base) offset (d .value .range) (at .is))
+        go (Def.variable q) other at = (refl, variable-block image words (11 * k) (at .row) (field-at at) (d .base) offset (d .value .range) q (at .is))
+        go Def.filler other at = (refl, filler-block image words (11 * k) (at .row) (field-at at) (d .base) offset (d .value .range) (at .is))
 
     pub plain-other : (c r : Merging) (mid after : List ℕ) → length mid < 2 ^ 64 → c .running ≡ false → (kindNumber (d .value .c-type) ≡ 1 → ⊥)
         → after ≡ sets mid (c .w .at) (plainBlock words (11 * k)) → Behind (c .w) 0 r → OtherIs d c r mid after
@@ -137,7 +137,7 @@ module _ (d : Placed Component) where
 
         go : (t : Def.ComponentType) → kindNumber t ≡ 1 → RowAt image words k (of t) → bits ≡ length (bitsOf (of t .value))
             → openBlock words (11 * k) bits offset ≡ componentBytes offset (of t)
-        go (Def.literal b) e at c = rw c (literal-block image words (11 * k) (at .row) (at .fields) (d .base) offset (d .value .range) b (at .is))
+        go (Def.literal b) e at c = rw c (literal-block image words (11 * k) (at .row) (field-at at) (d .base) offset (d .value .range) b (at .is))
         go (Def.variable q) e at c = absurd (omega arith)
         go Def.filler e at c = absurd (omega arith)
 

@@ -1,11 +1,10 @@
 -- The walk over a concatenation: as it begins, component after component, and as it ends.
-use mathlib.Core.Path.{_≡_, refl, sym, ap, subst, _∙_}
+use mathlib.Core.Path.{_≡_, refl, sym, ap₂, subst, _∙_}
 use Prim.Native.Nat.{_≤_, _<_}
 use native.Mathlib.Nat.{add-zero}
 use native.Mathlib.Omega.{arith}
-use Rattle.definition.specs.Prelude.{ℕ, suc, _+_, _*_, _-_, false, none, List, [], _∷_, length}
+use Rattle.definition.specs.Prelude.{ℕ, suc, _+_, _-_, none, List, [], _∷_, length}
 use Rattle.definition.specs.Basics.{joined}
-use Rattle.definition.specs.Limits.{sizes}
 use Rattle.definition.specs.Image.{Placed}
 use Rattle.definition.specs.Component.{Component}
 use Rattle.definition.specs.Concatenation.{merge}
@@ -18,7 +17,7 @@ use Rattle.stages.specs.answer.merging.Blocks.{Same, same-then}
 use Rattle.stages.specs.answer.merging.State.{IsAt, CloseIs, Goes, StepIs, Writable, Closable}
 use Rattle.stages.specs.declared.answer.merging.Writing.{Writing}
 use Rattle.stages.specs.declared.answer.merging.Merging.{Merging}
-use Rattle.stages.proofs.answer.merging.Stored.{kept-split}
+use Rattle.stages.proofs.component.Rows.{kept-split}
 use Rattle.stages.proofs.answer.merging.Closing.{at-rest, holds-none, written-none}
 
 -- m components are left, from component k of the store on: what is to be written of them gives the whole
@@ -29,15 +28,13 @@ pub record Midway (image words : List ℕ) (k m : ℕ) (base : List ℕ) (w : Wr
   pub fixed : AllFixed left
   pub goes : Goes base w ms left after r
 
-nothing-put : (area : List ℕ) (w : Writing) → (putAll area w [] ≡ area) × (writtenTo w [] ≡ w)
+pub nothing-put : (area : List ℕ) (w : Writing) → putAll area w [] ≡ area
 unfolding componentsBytes joined
-nothing-put area w =
-    let a : w .at + sizes .component * 0 ≡ w .at = omega arith in
-    let b : w .offset + 0 ≡ w .offset = omega arith in (
-      refl,
-      ap (λ (x : ℕ). record { at = x; literals = w .literals; offset = w .offset + 0 }) a
-          ∙ ap (λ (x : ℕ). record { at = w .at; literals = w .literals; offset = x }) b,
-    )
+nothing-put area w = refl
+
+pub nothing-written : (w : Writing) → writtenTo w [] ≡ w
+unfolding joined
+nothing-written w = ap₂ (λ (x y : ℕ). record { at = x; literals = w .literals; offset = y }) (add-zero (w .at)) (add-zero (w .offset))
 
 module _ (image words : List ℕ) where
   pub walk-starts : (k n : ℕ) (w : Writing) (area : List ℕ) (cs : List (Placed Component)) → length cs ≡ n → KeptFrom image words k cs → AllFixed cs
@@ -140,7 +137,7 @@ module _ (image words : List ℕ) where
       go goes =
           let same = at-end base w ms area s goes in
           let cl = close (goes .area) (goes .run) [] (goes .holds) (same .room) in
-          let (p, q) = nothing-put (cl .area) (r .w) in (
-            written-none (cl .area) after r (cl .holds) ∙ sym p ∙ sym (cl .same .bytes) ∙ sym (same .bytes),
-            sym q ∙ sym (cl .same .place) ∙ sym (same .place),
+          (
+            written-none (cl .area) after r (cl .holds) ∙ sym (nothing-put (cl .area) (r .w)) ∙ sym (cl .same .bytes) ∙ sym (same .bytes),
+            sym (nothing-written (r .w)) ∙ sym (cl .same .place) ∙ sym (same .place),
           )

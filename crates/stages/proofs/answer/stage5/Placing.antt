@@ -1,8 +1,7 @@
 -- The merged components of every concatenation, one concatenation after the other.
-use mathlib.Core.Path.{_≡_, refl, sym, ap, ap₂, subst, _∙_}
+use mathlib.Core.Path.{_≡_, refl, sym, ap, subst, _∙_}
 use mathlib.Core.List.{map-append}
 use Prim.Native.Nat.{_≤_, _<_}
-use native.Mathlib.Nat.{add-zero}
 use native.Mathlib.Omega.{arith}
 use lib.ListN.{length-append}
 use Rattle.definition.specs.Prelude.{ℕ, suc, _+_, _-_, _*_, List, [], _∷_, _++_, map, length}
@@ -10,7 +9,7 @@ use Rattle.definition.specs.Basics.{joined}
 use Rattle.definition.specs.Image.{Placed, u32At, componentCount}
 use Rattle.definition.specs.Component.{Component}
 use Rattle.definition.specs.Concatenation.{merge}
-use Rattle.definition.specs.Answer.{componentsBytes, literalBytes}
+use Rattle.definition.specs.Answer.{literalBytes}
 use Rattle.laws.specs.Lists.{joined-append}
 use Rattle.answer_facts.specs.fits.Fixed.{AllFixed, none-left, one-more}
 use Rattle.answer_facts.specs.fits.Statement.{literalsOf}
@@ -21,8 +20,8 @@ use Rattle.stages.specs.answer.merging.Blocks.{putOne, writtenOne, Same,
 use Rattle.stages.specs.answer.Stage5.{mergedAll}
 use Rattle.stages.specs.concatenation.Check.{Lies}
 use Rattle.stages.specs.declared.answer.merging.Writing.{Writing}
-use Rattle.stages.specs.declared.concatenation.check.Concatenation.{Concatenation as Now}
-use Rattle.stages.proofs.answer.merging.Stored.{kept-split, kept-within}
+use Rattle.stages.proofs.answer.merging.Turns.{nothing-put, nothing-written}
+use Rattle.stages.proofs.component.Rows.{kept-split, kept-within}
 
 literals-append : (a b : List (Placed Component)) → literalsOf (a ++ b) ≡ literalsOf a ++ literalsOf b
 literals-append a b = ap joined (map-append literalBytes a b) ∙ joined-append (map literalBytes a) (map literalBytes b)
@@ -36,14 +35,6 @@ room-first area w a b r =
     let q = r .literal-block in
     let s = r .offsets in
     record { blocks = omega arith; literal-block = omega arith; offsets = omega arith }
-
-nothing-put : (area : List ℕ) (w : Writing) → putAll area w [] ≡ area
-unfolding componentsBytes joined
-nothing-put area w = refl
-
-nothing-written : (w : Writing) → writtenTo w [] ≡ w
-unfolding joined
-nothing-written w = ap₂ (λ (x y : ℕ). record { at = x; literals = w .literals; offset = y }) (add-zero (w .at)) (add-zero (w .offset))
 
 -- some, and then the others
 same-many : (area : List ℕ) (w : Writing) (a b : List (Placed Component)) → Room area w (a ++ b) → Same area w (a ++ b) (putAll area w a) (writtenTo w a) b

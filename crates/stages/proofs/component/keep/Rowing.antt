@@ -1,24 +1,21 @@
 -- The eleven words of a component in code are those of the definition's.
-use mathlib.Core.Path.{_≡_, refl, sym, ap, subst, _∙_}
+use mathlib.Core.Path.{_≡_, refl, sym, ap, _∙_}
 use Prim.Native.Nat.{_≤_, _<_}
 use native.Mathlib.Nat.{add-mul, one-mul}
 use native.Mathlib.Omega.{arith}
 use borrow.Author.Tests.{eq-eqb, ne-eqb}
-use Rattle.definition.specs.Prelude.{ℕ, zero, suc, _+_, _-_, _*_, _/_, _%_, _^_, Bool, true, false, Option, none, some, List, [], _∷_, length, drop, eqb, ltb, ℤ, pos, negsuc}
+use Rattle.definition.specs.Prelude.{ℕ, suc, _+_, _-_, _*_, _/_, _%_, _^_, Bool, true, false, Option, none, some, List, [], _∷_, length, drop, ltb, ℤ, pos, negsuc}
 use Rattle.definition.specs.Basics.{if_then_else_, isEmpty}
-use Rattle.definition.specs.Image.{padded, bytesAt}
-use Rattle.definition.specs.Text as Text
 use Rattle.definition.specs.Ranges as Ranges
 use Rattle.definition.specs.Ranges.{staticWidth, staticRange}
 use Rattle.definition.specs.Component as Def
-use Rattle.definition.specs.Component.{hasEnd}
 use Rattle.definition.specs.Concatenation.{hasFullRange}
 use Rattle.definition.specs.Answer.{twos, flag}
+use Rattle.laws.specs.Padded.{length-padded}
 use Rattle.numbers.specs.Value.{bits, valueOf, optionOf}
 use Rattle.numbers.specs.declared.I128.{I128}
 use Rattle.numbers.specs.declared.OptionI128.{OptionI128}
 use Rattle.numbers.specs.declared.OptionI128.the-variants as I
-use Rattle.stages.specs.answer.literal_bits.Put.{bitsFrom}
 use Rattle.stages.specs.token_tree.Parts.{partOf, bytesIn, PartFits}
 use Rattle.stages.specs.ranges.Values.{Tree, usbOf, endOf, usbrOf, UsbFits, EndFits}
 use Rattle.stages.specs.component.Values.{typeOf, componentOf, endOr, TypeFits, ComponentStaged}
@@ -32,6 +29,7 @@ use Rattle.stages.specs.declared.component.types.ComponentType.{Componen
 use Rattle.stages.specs.declared.component.types.ComponentType.the-variants as T
 use Rattle.stages.specs.declared.component.types.Component.{Component}
 use Rattle.stages.specs.declared.component.keep.Row.{Row}
+use Rattle.stages.proofs.component.tests.Tested.{there-is}
 
 -- ---- halves
 
@@ -65,18 +63,11 @@ twos-bits w h l = go (ltb (w .high) (2 ^ 63))
     go true = refl
     go false = turned (2 ^ 64) (w .high) (w .low) h l
 
-padded-length : (n : ℕ) (s : List ℕ) → length (padded n s) ≡ n
-unfolding padded
-padded-length zero [] = refl
-padded-length zero (x ∷ s) = refl
-padded-length (suc n) [] = ap suc (padded-length n [])
-padded-length (suc n) (x ∷ s) = ap suc (padded-length n s)
-
 module _ (image : List ℕ) (t : Tree) (base : ℕ) (low : base < 2 ^ 32) (small : length image < 2 ^ 31) where
   -- ---- texts
 
   size : (p : Part) → length (bytesIn image t p) ≡ p .len
-  size p = padded-length (p .len) (drop (t .text + p .at .0) image)
+  size p = length-padded (p .len) (drop (t .text + p .at .0) image)
 
   text-is : (p : Part) → PartFits image t base p
       → (textWordBy p ≡ textWord base (partOf image t base p)) × (base + (p .at .0 - base) < 2 ^ 32) × (length (bytesIn image t p) < 2 ^ 32)
@@ -120,10 +111,6 @@ module _ (image : List ℕ) (t : Tree) (base : ℕ) (low : base < 2 ^ 32) (small
 
   -- ---- flags
 
-  there-is : (x : OptionUsb) (s : Ranges.Usb) → isThere x ≡ hasEnd (record { start = s; «end» = endOf image t base x })
-  there-is (O.Some u) s = refl
-  there-is O.None s = refl
-
 width-flag-is : (x : OptionI128) (y : Option ℤ) → optionOf x ≡ y → _≡_ {A = ℕ} (widthFlagBy x) (elim y [ none ↦ 0 | some w ↦ 8 ])
 width-flag-is (I.Some w) y e = rw (← e) refl
 width-flag-is I.None y e = rw (← e) refl
@@ -163,7 +150,7 @@ row-is image t base literal c h low fits small =
     let d = componentOf image t base literal c in
     let m = h .measured in
     record {
-      flags = sums (kindFlags d) _ _ _ _ (ap (λ b. flag b 4) (there-is image t base low small (c .range .«end») (usbOf image t base (c .range .start))))
+      flags = sums (kindFlags d) _ _ _ _ (ap (λ b. flag b 4) (there-is image t base (c .range .«end») (usbOf image t base (c .range .start))))
           (width-flag-is (c .width) (staticWidth (usbrOf image t base (c .range))) (m .width));
       content = content-is image t base low small literal fits (keptRow image t base c literal) (c .«c_type») refl refl (h .c-type);
       width = ap optionOf (width-read (kindFlags d + flag (isThere (c .range .«end»)) 4) (c .width) (free d (isThere (c .range .«end»)))) ∙ m .width;

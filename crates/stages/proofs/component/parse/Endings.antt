@@ -3,9 +3,8 @@ use mathlib.Core.Path.{_≡_, refl, sym, ap, subst, _∙_}
 use Prim.Native.Nat.{_≤_, _<_}
 use native.Mathlib.Omega.{arith}
 use borrow.Author.Tests.{eq-eqb, ne-eqb}
-use Rattle.definition.specs.Prelude.{ℕ, zero, suc, _+_, _*_, _-_, _^_, true, none, some, List, [], _∷_, _++_, length, eqb}
-use Rattle.definition.specs.Basics.{ok, if_then_else_}
-use Rattle.definition.specs.Image.{kinds, opens}
+use Rattle.definition.specs.Prelude.{ℕ, suc, _+_, _-_, _^_, true, none, some, List, [], _∷_, _++_, length}
+use Rattle.definition.specs.Image.{opens}
 use Rattle.definition.specs.Text.{Item, items, isGroup}
 use Rattle.definition.specs.Ranges.{parseRange}
 use Rattle.definition.specs.Component.{splitRange}
@@ -18,7 +17,8 @@ use Rattle.stages.specs.declared.token_tree.types.Run.{Run}
 use Rattle.stages.specs.declared.ranges.types.RangeResult.{RangeResult}
 use Rattle.stages.specs.declared.ranges.types.RangeResult.the-variants as R
 use Rattle.stages.proofs.token_tree.Places.{place-above, laid-order, laid-first, laid-split}
-use Rattle.stages.proofs.token_tree.Forests.{inside-laid}
+use Rattle.stages.proofs.token_tree.Insides.{last-inside}
+use Rattle.stages.proofs.token_tree.Walks.{runs-within}
 
 -- ---- the definition by the last item
 
@@ -36,13 +36,13 @@ range-none (j ∷ k ∷ l) i h = ap (λ s. record { mid = j ∷ s .mid; range = 
 
 -- ---- the last item of a run
 
-record Ends (i : Item) (is : List Item) : Type 0 where
-  pub mid : List Item
-  pub item : Item
+pub record Ends {A : Type 0} (i : A) (is : List A) : Type 0 where
+  pub mid : List A
+  pub item : A
   pub parts : i ∷ is ≡ mid ++ (item ∷ [])
   pub long : length is ≡ length mid
 
-ends : (i : Item) (is : List Item) → Ends i is
+pub ends : {A : Type 0} (i : A) (is : List A) → Ends i is
 ends i [] = record { mid = []; item = i; parts = refl; long = refl }
 ends i (j ∷ is) = let e = ends j is in record { mid = i ∷ e .mid; item = e .item; parts = ap (λ l. i ∷ l) (e .parts); long = ap suc (e .long) }
 
@@ -145,8 +145,6 @@ module _ (image : List ℕ) (t : Tree) (run : Run) (last : ℕ) where
       let ti = a .tail-is in
       let two = n .two in
       let long = n .long in
-      let p : last + (skipIn image t last - 1) ≡ run .stop .0 - 1 = omega (arith, si, two) in
-      let q : a .from + (length (i .part .bytes) - 1) ≡ run .«end» .0 - 1 = omega (arith, ti, long) in
       record {
         from = a .from;
         before = a .before;
@@ -156,9 +154,7 @@ module _ (image : List ℕ) (t : Tree) (run : Run) (last : ℕ) where
         text-order = f .1 .1;
         two = omega (arith, si, two);
         text-two = omega (arith, ti, long);
-        inside = subst (λ x. Laid image t base x (run .«end» .0 - 1) (last + 1) (a .from + 1) (items (i .inside-at) (i .inside))) p
-            (subst (λ x. Laid image t base (last + (skipIn image t last - 1)) x (last + 1) (a .from + 1) (items (i .inside-at) (i .inside))) q
-            (inside-laid image t base (run .stop .0) last (a .from) i (a .stands) g));
+        inside = last-inside image t base (run .stop .0) (run .«end» .0) last (a .from) i (a .stands) g si ti;
       }
     where
       first : (mid : List Item) → 1 ≤ length mid → (from : ℕ) → Laid image t base last from (run .r .0) s mid
@@ -182,19 +178,7 @@ module _ (image : List ℕ) (t : Tree) (run : Run) (last : ℕ) where
     last-small = let k = b .two in let f = w .fits in let m = w .small in omega (arith, k, f, m)
 
     pub inside-runs : Runs image t (run .stop .0 - 1) (run .«end» .0 - 1) (last + 1) (b .from + 1)
-    inside-runs =
-        let f = w .fits in
-        let tf = w .text-fits in
-        let ts = w .text-small in
-        record {
-          base = base;
-          items = items (i .inside-at) (i .inside);
-          laid = b .inside;
-          fits = omega (arith, f);
-          text-fits = omega (arith, tf);
-          small = w .small;
-          text-small = omega (arith, ts);
-        }
+    inside-runs = runs-within base (items (i .inside-at) (i .inside)) w (omega arith) (omega arith) (b .inside)
 
     -- a range without dots is not empty
     pub single-fits : (q : RangeResult) → ((base s : ℕ) (is : List Item) → Laid image t base (run .stop .0 - 1) (run .«end» .0 - 1) (last + 1) s is → RangeReads image t base q (parseRange is))

@@ -1,15 +1,15 @@
 -- A component's items: without those behind a starting value's colon, and without its range.
 use mathlib.Core.Path.{_≡_, refl, sym, ap, _∙_}
-use Prim.Native.Nat.{_≤_, _<_}
+use Prim.Native.Nat.{_≤_}
 use native.Mathlib.Nat.{suc-add}
 use native.Mathlib.Omega.{arith}
 use lib.ListN.{length-append}
-use Rattle.definition.specs.Prelude.{ℕ, zero, suc, _+_, Bool, true, false, Option, none, some, List, [], _∷_, _++_, length, drop, eqb}
-use Rattle.definition.specs.Image.{Unparsed}
+use Rattle.definition.specs.Prelude.{ℕ, zero, suc, _+_, true, false, Option, none, some, List, [], _∷_, _++_, length, drop, eqb}
 use Rattle.definition.specs.Text.{Item, items, isToken}
 use Rattle.definition.specs.Component.{Split, splitRange, Prefix, beyond, splitColon, prefixOf, parseComponent}
 use Rattle.laws.specs.Tests.{by-test}
-use Rattle.stages.specs.component.Parse.{parseItems, itemsRead, StageItems}
+use Rattle.stages.specs.component.Parse.{parseItems, StageItems}
+use Rattle.stages.proofs.Cases.{none-some, some-is}
 
 -- ---- the colon
 
@@ -18,30 +18,24 @@ pub record Colon (is : List Item) (p : Prefix) : Type 0 where
   pub token : isToken 58 sign ≡ true
   pub parts : is ≡ p .before ++ (sign ∷ p .after)
 
-some-is : {A : Type 0} (a b : A) → some a ≡ some b → a ≡ b
-some-is a b h = cc
-
-no-some : {A : Type 0} {G : Type 0} (a : A) → none ≡ some a → G
-no-some a h = let z : _≡_ {A = ℕ} 0 1 = cc in absurd (omega (arith, z))
-
 -- one item more before it
 colon-beyond : (i : Item) (is : List Item) (o : Option Prefix) (p : Prefix) → ((q : Prefix) → o ≡ some q → Colon is q) → beyond i o ≡ some p → Colon (i ∷ is) p
-colon-beyond i is none p f h = no-some p h
+colon-beyond i is none p f h = none-some h
 colon-beyond i is (some q) p f h =
     let c = f q refl in
-    let e : record { before = i ∷ q .before; after = q .after } ≡ p = some-is _ p h in
+    let e : record { before = i ∷ q .before; after = q .after } ≡ p = some-is h in
     record { sign = c .sign; token = c .token; parts = ap (λ l. i ∷ l) (c .parts) ∙ ap (λ (x : Prefix). x .before ++ (c .sign ∷ x .after)) e }
 
 colon-here : (i : Item) (is : List Item) (p : Prefix) → isToken 58 i ≡ true → some (record { before = []; after = is }) ≡ some p → Colon (i ∷ is) p
 colon-here i is p t h =
-    record { sign = i; token = t; parts = ap (λ (x : Prefix). x .before ++ (i ∷ x .after)) (some-is (record { before = []; after = is }) p h) }
+    record { sign = i; token = t; parts = ap (λ (x : Prefix). x .before ++ (i ∷ x .after)) (some-is h) }
 
 -- a colon that is found stands between the items before it and those after
 pub colon-parts : (is : List Item) (p : Prefix) → splitColon is ≡ some p → Colon is p
 unfolding splitColon
-colon-parts [] p h = no-some p h
+colon-parts [] p h = none-some h
 colon-parts (i ∷ []) p h =
-    by-test (isToken 58 i) (λ t. colon-here i [] p t (rw t at h)) (λ t. no-some p (rw t at h))
+    by-test (isToken 58 i) (λ t. colon-here i [] p t (rw t at h)) (λ t. none-some (rw t at h))
 colon-parts (i ∷ j ∷ rest) p h =
     by-test (isToken 58 i)
     (λ t. by-test (isToken 58 j)
@@ -87,3 +81,10 @@ stage-items true u = go (prefixOf u) refl
         let d : drop (length (p .before) + 1) ((splitRange is) .mid) ≡ p .after = ap (drop (length (p .before) + 1)) (c .parts) ∙ drop-before (p .before) (p .after) (c .sign) in
         sym (ap (λ (s : Split). parseComponent (s .mid) (s .range) (u .bits)) (drop-range (length (p .before) + 1) is n)
         ∙ ap (λ m. parseComponent m ((splitRange is) .range) (u .bits)) d)
+
+-- the items before the range are some of all
+pub mid-length : (is : List Item) → length ((splitRange is) .mid) ≤ length is
+unfolding splitRange
+mid-length [] = omega arith
+mid-length (i ∷ []) = by-test (eqb (i .kind) 3) (λ t. rw t (omega arith)) (λ t. rw t (omega arith))
+mid-length (i ∷ j ∷ rest) = let k = mid-length (j ∷ rest) in omega (arith, k)

@@ -4,21 +4,16 @@ use Prim.Native.Nat.{_≤_, _<_}
 use native.Mathlib.Nat.{add-zero}
 use native.Mathlib.Omega.{arith}
 use lib.Seq.{getD-drop}
-use borrow.Author.Tests.{eq-eqb, ne-eqb, eqb-false, le-leb, lt-leb}
-use Rattle.definition.specs.Prelude.{ℕ, _+_, _-_, Bool, true, false, _&&_, _||_, not, List, [], _∷_, _++_, length, getD, drop, eqb, leb}
-use Rattle.definition.specs.Basics.{if_then_else_, within}
-use Rattle.definition.specs.Image.{bytesAt, padded, delimiter}
-use Rattle.definition.specs.Text as Text
-use Rattle.definition.specs.Text.{Item, isGroup, bytesOf}
+use borrow.Author.Tests.{eq-eqb, ne-eqb, le-leb, lt-leb}
+use Rattle.definition.specs.Prelude.{ℕ, _+_, _-_, Bool, true, false, _&&_, _||_, not, List, [], _∷_, length, getD, drop, eqb, leb}
+use Rattle.definition.specs.Basics.{within}
+use Rattle.definition.specs.Image.{delimiter}
+use Rattle.definition.specs.Text.{Item, isGroup}
 use Rattle.definition.specs.Component.{isLiteral}
 use Rattle.laws.specs.Tests.{by-test}
 use Rattle.laws.specs.Padded.{getD-padded}
-use Rattle.laws.specs.Padded.{bytes-add}
-use Rattle.stages.specs.token_tree.Table.{skipIn}
 use Rattle.stages.specs.token_tree.Laid.{Stands, Laid}
-use Rattle.stages.specs.token_tree.Parts.{noPart, partBy, partOf, PartFits}
 use Rattle.stages.specs.declared.token_tree.types.Tree.{Tree}
-use Rattle.stages.proofs.token_tree.Places.{laid-order}
 
 -- `-` or a digit
 abbrev pub beginsBy : ℕ → Bool
@@ -39,43 +34,6 @@ opening-no k =
     (λ a. by-test (eqb k 2) (λ b. rw (a, b) refl) (λ b. by-test (eqb k 3) (λ d. rw (a, b, d) refl) (λ d. rw (a, b, d) refl)))
 
 module _ (image : List ℕ) (t : Tree) (base : ℕ) where
-  pub laid-bytes : (stop tail r s : ℕ) (is : List Item) → Laid image t base stop tail r s is → bytesOf is ≡ bytesAt image (t .text + s) (tail - s)
-  unfolding Laid bytesOf padded
-  laid-bytes stop tail r s [] h = let z : tail - s ≡ 0 = omega (arith, h .1) in rw z
-  laid-bytes stop tail r s (i ∷ is) h =
-      let n : ℕ = length (i .part .bytes) in
-      let o = laid-order image t base stop tail (r + skipIn image t r) (s + n) is (h .1) in
-      let a : tail - s ≡ n + (tail - (s + n)) = omega (arith, o .1) in
-      let m : t .text + s + n ≡ t .text + (s + n) = omega arith in
-      ap (λ l. i .part .bytes ++ l) (laid-bytes stop tail (r + skipIn image t r) (s + n) is (h .1))
-      ∙ sym (ap (λ k. bytesAt image (t .text + s) k) a
-      ∙ bytes-add image (t .text + s) n (tail - (s + n))
-      ∙ ap (λ l. l ++ bytesAt image (t .text + s + n) (tail - (s + n))) (h .0 .bytes)
-      ∙ ap (λ k. i .part .bytes ++ bytesAt image k (tail - (s + n))) m)
-
-  -- the part from the first to behind the last
-  pub laid-part : (stop tail r s : ℕ) (is : List Item) → Laid image t base stop tail r s is → Text.partOf is ≡ partOf image t base (partBy s tail)
-  unfolding Laid padded
-  laid-part stop tail r s [] h = let z : 0 - base ≡ 0 = omega arith in rw (eq-eqb s tail (h .1), z) refl
-  laid-part stop tail r s (i ∷ is) h =
-      let n : ℕ = length (i .part .bytes) in
-      let o = laid-order image t base stop tail (r + skipIn image t r) (s + n) is (h .1) in
-      let k = h .0 .some in
-      let e = h .0 .at in
-      let a : i .part .at ≡ s - base = omega (arith, e) in
-      rw (ne-eqb s tail (λ q. let z : _≡_ {A = ℕ} s tail = q in omega (arith, z, o .1, k)), laid-bytes stop tail r s (i ∷ is) h, a) refl
-
-  pub laid-base : (stop tail r s : ℕ) (is : List Item) → Laid image t base stop tail r s is → s < tail → base ≤ s
-  unfolding Laid
-  laid-base stop tail r s [] h l = absurd (omega (arith, h .1, l))
-  laid-base stop tail r s (i ∷ is) h l = let e = h .0 .at in omega (arith, e)
-
-  pub part-fits : (s tail : ℕ) → (s < tail → base ≤ s) → s ≤ tail → t .text + tail ≤ length image → PartFits image t base (partBy s tail)
-  part-fits s tail b o f =
-      by-test (eqb s tail) (λ q. rw q (record { room = omega (arith, f); none = λ z. refl; some = λ z. absurd (omega (arith, z)) }))
-      (λ q. let n = eqb-false s tail q in
-      rw q (record { room = omega (arith, f, o); none = λ z. absurd (n (omega (arith, z, o))); some = λ z. b (omega (arith, z)) }))
-
   -- the first byte says whether it is a literal
   first-byte : (stop r s b : ℕ) (i : Item) → Stands image t base stop r s i → b ≡ getD image (t .text + s) 0 → getD (i .part .bytes) 0 0 ≡ b
   first-byte stop r s b i h e =

@@ -1,19 +1,16 @@
 -- The type of a component, and stage 1 by what its range gives.
 use mathlib.Core.Path.{_≡_, refl, sym, ap, subst, _∙_}
-use Prim.Native.Nat.{_≤_, _<_}
+use Prim.Native.Nat.{_≤_}
 use native.Mathlib.Omega.{arith}
-use Rattle.definition.specs.Prelude.{ℕ, zero, suc, _+_, _-_, Bool, true, false, not, none, some, List, [], _∷_, length, getD, drop}
-use Rattle.definition.specs.Basics.{Result, ok, refused, _>>=_, if_then_else_, isEmpty, tab}
-use Rattle.definition.specs.Refusals.{need}
-use Rattle.definition.specs.Image.{bitsAt, padded}
+use Rattle.definition.specs.Prelude.{ℕ, zero, suc, _+_, _-_, Bool, true, false, none, some, List, [], _∷_, length, getD}
+use Rattle.definition.specs.Basics.{Result, ok, refused, _>>=_, isEmpty, tab}
+use Rattle.definition.specs.Image.{bitsAt}
 use Rattle.definition.specs.Text.{Item}
 use Rattle.definition.specs.Ranges as Ranges
 use Rattle.definition.specs.Ranges.{parseRange, singleBit, unbounded}
 use Rattle.definition.specs.Component as Def
 use Rattle.definition.specs.Component.{isLiteral, typed, parseComponent}
-use Rattle.numbers.specs.Value.{valueOf}
-use Rattle.stages.specs.answer.literal_bits.Put.{bitsFrom}
-use Rattle.stages.specs.token_tree.Parts.{noPart, partBy}
+use Rattle.stages.specs.token_tree.Parts.{partBy}
 use Rattle.stages.specs.token_tree.Laid.{Laid}
 use Rattle.stages.specs.ranges.Values.{Tree, unboundedBy, usbrOf, UsbrFits, RangeReads}
 use Rattle.stages.specs.component.Values.{componentBy, ComponentReads}
@@ -24,7 +21,9 @@ use Rattle.stages.specs.declared.ranges.types.RangeResult.the-variants a
 use Rattle.stages.specs.declared.component.types.ComponentType.the-variants as T
 use Rattle.stages.specs.declared.component.types.ComponentResult.{ComponentResult}
 use Rattle.stages.specs.declared.component.types.ComponentResult.the-variants as C
-use Rattle.stages.proofs.component.parse.Texts.{beginsBy, laid-part, laid-base, part-fits, laid-literal}
+use Rattle.stages.proofs.token_tree.Written.{laid-part, laid-fits}
+use Rattle.stages.proofs.ranges.Bounds.{zero-is, zero-fits}
+use Rattle.stages.proofs.component.parse.Texts.{beginsBy, laid-literal}
 
 -- ---- a literal or a variable
 
@@ -67,8 +66,8 @@ module _ (image : List ℕ) (t : Tree) (s tail w b : ℕ) (range : Usbr) (is-num
   typed-variable q p n o f ep e =
       let l : isLiteral mid ≡ false = literal-is ∙ n in
       rw (e, ep) (record {
-        is = rw (l, laid-part image t base stop tail r s mid h) refl;
-        held = record { c-type = part-fits image t base s tail (laid-base image t base stop tail r s mid h) o f; range = fits };
+        is = rw (l, ← laid-part image t base stop tail r s mid h) refl;
+        held = record { c-type = laid-fits image t base stop tail r s mid h f; range = fits };
       })
 
 -- ---- stage 1 by what the range gives
@@ -150,17 +149,5 @@ module _ (image : List ℕ) (t : Tree) (base at : ℕ) (mid : List Item) (bits :
 -- without bounds
 pub unbounded-is : (image : List ℕ) (t : Tree) (base : ℕ) (u : Usbr) → u ≡ unboundedBy → t .text ≤ length image
     → (usbrOf image t base u ≡ unbounded) × UsbrFits image t base u
-unfolding padded valueOf
 unbounded-is image t base u e f =
-    let z : 0 - base ≡ 0 = omega arith in
-    rw e (
-      rw z refl,
-      record {
-        start = record {
-          part = record { room = omega (arith, f); none = λ k. refl; some = λ k. absurd (omega (arith, k)) };
-          low = omega arith;
-          high = omega arith;
-        };
-        «end» = tt;
-      },
-    )
+    rw e (ap (λ (x : Ranges.Usb). record { start = x; «end» = none }) (zero-is image t base), record { start = zero-fits image t base f; «end» = tt })

@@ -2,7 +2,7 @@
 use mathlib.Core.Path.{_≡_, refl, sym, ap, subst, _∙_}
 use mathlib.Core.Logic.{_⊎_, inl, inr}
 use native.Mathlib.Omega.{arith}
-use Rattle.definition.specs.Prelude.{ℕ, Bool, true, false, List}
+use Rattle.definition.specs.Prelude.{ℕ, true, List}
 use Rattle.definition.specs.Basics.{Result, ok, refused, _>>=_}
 use Rattle.definition.specs.Component as Def
 use Rattle.definition.specs.Component.{simplify}
@@ -33,10 +33,6 @@ no-key (inr e) = let z : _≡_ {A = ℕ} 0 2 = e in omega (arith, z)
 pub second-stays : (c : Checked) (q : ReadResult) (i j : ℕ) → isRefusedBy c ≡ true → resultOf c ≡ secondBy (resultOf c) q i j
 second-stays C.Passed q i j h = cc h
 second-stays (C.Refused x) q i j h = refl
-
-pub passed : (c : Checked) → isRefusedBy c ≡ false → resultOf c ≡ ok tt
-passed C.Passed h = refl
-passed (C.Refused x) h = cc h
 
 -- what stage 1 says of one that it reads, or refuses
 module _ (image : List ℕ) (t : Tree) (base at : ℕ) (q : ComponentResult) (m : Result Def.Component) (h : ComponentReads image t base at q m) where

@@ -25,8 +25,8 @@ use Rattle.stages.specs.declared.ranges.types.Usb.{Usb}
 use Rattle.stages.specs.declared.ranges.types.Usbr.{Usbr}
 use Rattle.stages.specs.declared.ranges.types.OptionUsb.{OptionUsb}
 use Rattle.stages.specs.declared.ranges.types.OptionUsb.the-variants as O
-use Rattle.stages.proofs.ranges.Bounds.{low-is, val-is, val-fits, static-yes, static-no}
-use Rattle.stages.proofs.component.simplify.Defined.{untrue}
+use Rattle.stages.proofs.Cases.{untrue, none-some}
+use Rattle.stages.proofs.ranges.Bounds.{low-is, zero-is, val-is, val-fits, static-yes, static-no}
 use Rattle.stages.proofs.component.simplify.Ends.{number-is, InOrder, places, last-place, cutBy}
 
 -- ---- bits
@@ -44,9 +44,6 @@ module _ (image : List ℕ) (at w : ℕ) where
       ap (drop m) (first-bits n h) ∙ drop-tab (bitOf (drop at image)) m 0 (n - 0) ∙ rw (zero-add m, e)
 
 -- ---- both numbers, or one
-
-none-some : {G : Type 0} {A : Type 0} {a : A} → none ≡ some a → G
-none-some h = let z : _≡_ {A = ℕ} 0 1 = cc in absurd (omega arith)
 
 both-inv : (a b : Option ℤ) (x y : ℤ) → some (x, y) ≡ bothOf a b → (a ≡ some x) × (b ≡ some y)
 both-inv none b x y h = none-some (sym h)
@@ -149,7 +146,7 @@ module _ (image : List ℕ) (t : Tree) (base at : ℕ) (w : ℕ) (few : w ≤ 40
       let e : valueOf d ≡ valueOf b -ℤ valueOf a =
       small d refl ∙ sym (difference (b .low) (a .low) (f .order)) ∙ ap (λ (z : ℤ). z -ℤ pos (a .low)) (sym (f .«end»))
       ∙ ap (λ (z : ℤ). valueOf b -ℤ z) (sym (f .start)) in
-      ap (λ (u : D.Usb). record { start = u; «end» = some (usbOf image t base (valBy d)) }) (val-is image t base zeroI ∙ ap val (small zeroI refl))
+      ap (λ (u : D.Usb). record { start = u; «end» = some (usbOf image t base (valBy d)) }) (zero-is image t base)
       ∙ ap (λ (u : D.Usb). record { start = val (pos 0); «end» = some u }) (val-is image t base d ∙ ap val e)
 
   same-width : (a b : I128) → Halves w a b

@@ -2,10 +2,9 @@
 use mathlib.Core.Path.{_≡_, refl, subst}
 use Prim.Native.Nat.{_<_}
 use native.Mathlib.Nat.{le-refl, le-of-lt}
-use native.Mathlib.Omega.{arith}
 use borrow.Author.Tests.{ltb-true, le-leb}
 use Rattle.definition.specs.Prelude.{ℕ, _-_, Bool, true, false, _&&_, _||_, Option, none, some, List, [], _∷_, length, ltb, ℤ, pos, negsuc, _-ℤ_, ltZ, leZ, nonNeg}
-use Rattle.definition.specs.Basics.{ok, refused, _>>=_, if_then_else_, isEmpty, sameBytes}
+use Rattle.definition.specs.Basics.{ok, _>>=_, if_then_else_, isEmpty, sameBytes}
 use Rattle.definition.specs.Numbers.{half128, narrow}
 use Rattle.definition.specs.Refusals.{need, start-above-width, end-above-width, range-above-width, end-zero, open-start}
 use Rattle.definition.specs.Ranges.{Usb, Usbr, staticVal}
@@ -14,6 +13,7 @@ use Rattle.laws.specs.Numbers.{difference}
 use Rattle.laws.specs.Tests.{by-test, and-iff}
 use Rattle.stages.specs.ranges.Checks.{passes, Positive, literalRange}
 use Rattle.stages.specs.component.Stage2.{Within, withType, cutAll, byType}
+use Rattle.stages.proofs.Cases.{untrue, never}
 use Rattle.stages.proofs.ranges.Checked.{bind-same}
 
 -- ---- by type
@@ -57,12 +57,6 @@ literal-is bits v =
     (ifStaticEnd (ltZ (pos 0)) v)
 
 -- ---- what the tests leave
-
-pub never : {G : Type 0} {A : Type 0} {n i k : ℕ} {a : A} → refused n i k ≡ ok a → G
-never h = let z : _≡_ {A = ℕ} 0 1 = cc in absurd (omega arith)
-
-pub untrue : {G : Type 0} → false ≡ true → G
-untrue h = let z : _≡_ {A = ℕ} 0 1 = cc in absurd (omega arith)
 
 passed : (v u : Usbr) (a b c d : Bool)
     → (need a start-above-width >>= λ _. (need b end-above-width >>= λ _. (need c range-above-width >>= λ _. (need d end-zero >>= λ _. ok v)))) ≡ ok u

@@ -16,8 +16,9 @@ use Rattle.laws.specs.Results.{bind-ok}
 use Rattle.laws.specs.Tests.{by-test, and-iff}
 use Rattle.stages.specs.ranges.Checks.{passes, Positive, literalRange}
 use Rattle.stages.specs.component.Stage2.{Within, byType, withType}
+use Rattle.stages.proofs.Cases.{untrue, none-some, never}
 use Rattle.stages.proofs.ranges.Checked.{range-positive}
-use Rattle.stages.proofs.component.simplify.Defined.{stage-is, literal-is, within, untrue, never}
+use Rattle.stages.proofs.component.simplify.Defined.{stage-is, literal-is, within}
 
 -- ---- numbers that fit
 
@@ -34,15 +35,12 @@ in-order (suc k) n l h =
 
 -- ---- a bound that is a number
 
-no-number : {G : Type 0} {z : ℤ} → none ≡ some z → G
-no-number h = let z : _≡_ {A = ℕ} 0 1 = cc in absurd (omega arith)
-
 pub number-is : (u : Usb) (z : ℤ) → staticVal u ≡ some z → (u .s .bytes ≡ []) × (u .x ≡ z)
 number-is u z = go (u .s .bytes)
   where
     go : (l : List ℕ) → (if isEmpty l then some (u .x) else none) ≡ some z → (l ≡ []) × (u .x ≡ z)
     go [] h = (refl, cc)
-    go (b ∷ l) h = no-number h
+    go (b ∷ l) h = none-some h
 
 -- ---- places among w bits
 
@@ -95,9 +93,6 @@ cutBy bits s e a x =
         | some a ↦ record { c-type = literal (drop (natAbs a) (take (natAbs x) bits)); range = record { start = val (pos 0); «end» = some (val (x -ℤ a)) } }
       ]
     ]
-
-pub cut-is : (bits : List ℕ) (s e : Usb) → cutLiteral bits (record { start = s; «end» = some e }) ≡ cutBy bits s e (staticVal s) (staticVal e)
-cut-is bits s e = refl
 
 given : (bits : List ℕ) (s e : Usb) (a x : Option ℤ) → ifStatic nonNeg e ≡ true → ((b y : ℤ) → a ≡ some b → x ≡ some y → nonNeg (y -ℤ b) ≡ true)
     → ifStaticEnd nonNeg ((cutBy bits s e a x) .range) ≡ true

@@ -1,21 +1,20 @@
 -- Which component the record behind a starting value's colon stands in, and the starting value of the whole tree.
 use mathlib.Core.Path.{_≡_, refl, sym, ap, subst, _∙_}
 use mathlib.Core.Logic.{_⊎_, inl, inr}
-use Prim.Native.Nat.{_≤_, _<_}
-use native.Mathlib.Nat.{add-zero, zero-add, add-suc, suc-add, add-assoc}
+use Prim.Native.Nat.{_≤_}
+use native.Mathlib.Nat.{add-zero, zero-add}
 use native.Mathlib.Omega.{arith}
 use borrow.Author.Tests.{ne-eqb}
 use lib.ListN.{length-append}
-use Rattle.definition.specs.Prelude.{ℕ, zero, suc, _+_, _-_, Bool, true, false, _&&_, not, Option, none, some, List, [], _∷_, _++_, map, length, take, eqb}
-use Rattle.definition.specs.Basics.{Result, ok, refused, _>>=_, withPlaces, isEmpty, joined}
+use Rattle.definition.specs.Prelude.{ℕ, zero, suc, _+_, _-_, true, false, not, Option, none, some, List, [], _∷_, _++_, length, take}
+use Rattle.definition.specs.Basics.{Result, ok, _>>=_, withPlaces, isEmpty, joined}
 use Rattle.definition.specs.Refusals.{need, empty-after-colon}
-use Rattle.definition.specs.Image.{Unparsed, Placed, parts, treeOf, componentCount}
+use Rattle.definition.specs.Image.{Placed, parts, treeOf, componentCount}
 use Rattle.definition.specs.Tree as Tree
 use Rattle.definition.specs.Tree.{Node, recsOf, allRecs, textOf}
 use Rattle.definition.specs.Text as Text
 use Rattle.definition.specs.Text.{Item, items}
-use Rattle.definition.specs.Component.{Prefix, splitRange, splitColon, prefixOf, startingValue, source}
-use Rattle.laws.specs.Tests.{by-test}
+use Rattle.definition.specs.Component.{Prefix, splitRange, prefixOf, startingValue, source}
 use Rattle.prepared.specs.Statement.{placedFrom, placedTree}
 use Rattle.prepared.specs.Groups.{textOf-append}
 use Rattle.stages.specs.token_tree.Table.{startIn, skipIn, treeIn, tablesIn}
@@ -28,6 +27,7 @@ use Rattle.stages.specs.declared.token_tree.types.Tables.{Tables}
 use Rattle.stages.specs.declared.token_tree.types.Run.{Run}
 use Rattle.stages.specs.declared.component.start.StartResult.{StartResult}
 use Rattle.stages.specs.declared.component.start.StartResult.the-variants as S
+use Rattle.stages.proofs.component.parse.Splits.{mid-length}
 use Rattle.stages.proofs.token_tree.Places.{place-above, laid-order}
 use Rattle.stages.proofs.component.parse.Splits.{colon-parts}
 use Rattle.stages.proofs.component.start.Sources.{Source, Ran}
@@ -66,12 +66,6 @@ module _ (image : List ℕ) (t : Table) (after : ℕ) where
       before a b c e (inr l) = inr (omega (arith, l, e))
 
 -- ---- the one that does
-
-mid-length : (is : List Item) → length ((splitRange is) .mid) ≤ length is
-unfolding splitRange
-mid-length [] = omega arith
-mid-length (i ∷ []) = by-test (eqb (i .kind) 3) (λ t. rw t (omega arith)) (λ t. rw t (omega arith))
-mid-length (i ∷ j ∷ rest) = let k = mid-length (j ∷ rest) in omega (arith, k)
 
 place-within : (image : List ℕ) (t : Table) (base stop tail r s n : ℕ) (is : List Item) → n ≤ length is → Laid image t base stop tail r s is → placeOf image t r n ≤ stop
 unfolding Laid placeOf

@@ -1,17 +1,16 @@
 -- The scan for a starting value's colon: what the loop keeps.
-use mathlib.Core.Path.{_≡_, refl, sym, ap, subst, _∙_}
+use mathlib.Core.Path.{_≡_, refl, sym, ap, _∙_}
 use Prim.Native.Nat.{_≤_, _<_}
 use native.Mathlib.Omega.{arith}
 use borrow.Author.Tests.{eq-eqb, ne-eqb}
-use Rattle.definition.specs.Prelude.{ℕ, _+_, _-_, true, false, Option, none, some, List, [], _∷_, length, eqb}
-use Rattle.definition.specs.Basics.{if_then_else_}
+use Rattle.definition.specs.Prelude.{ℕ, _+_, _-_, true, false, Option, none, some, List, [], _∷_}
 use Rattle.definition.specs.Text.{Item, isToken}
 use Rattle.definition.specs.Component.{Prefix, beyond, splitColon}
 use Rattle.stages.specs.token_tree.Table.{skipIn, singleOf, startOr}
 use Rattle.stages.specs.token_tree.Laid.{Laid, placeOf}
 use Rattle.stages.specs.component.Start.{colonBy, colonPlace}
 use Rattle.stages.specs.declared.token_tree.types.Tree.{Tree}
-use Rattle.stages.proofs.token_tree.Places.{laid-first, laid-none, laid-start, token-by}
+use Rattle.stages.proofs.token_tree.Places.{laid-none, Step, laid-next, laid-from}
 
 -- ---- the definition by its first items
 
@@ -58,7 +57,7 @@ module _ (image : List ℕ) (t : Tree) (base stop tail r : ℕ) where
 
   pub seeing-start : (is : List Item) (s u : ℕ) → Laid image t base stop tail r s is → u ≡ startOr image t r stop tail → Seeing is stop r u
   seeing-start is s u h e =
-      closed is refl (subst (λ x. Laid image t base stop tail r x is) (laid-start image t base stop tail r s is h ∙ sym e) h) refl
+      closed is refl (laid-from image t base stop tail r s u is e h) refl
 
   pub seeing-end : (is : List Item) (seen at s : ℕ) → Seeing is seen at s → stop ≤ at → seen ≡ colonPlace image t r stop (splitColon is)
   seeing-end is seen at s (closed rest a h e) l =
@@ -71,63 +70,45 @@ module _ (image : List ℕ) (t : Tree) (base stop tail r : ℕ) where
   -- the item at `at`
   module _ (at s next u b : ℕ) (l : at < stop) (en : next ≡ at + skipIn image t at) (eu : u ≡ startOr image t next stop tail)
       (eb : b ≡ singleOf image (t .text + s) (u - s)) where
-    record Step (rest : List Item) : Type 0 where
-      pub item : Item
-      pub more : List Item
-      pub parts : rest ≡ item ∷ more
-      pub laid : Laid image t base stop tail next u more
-      pub token : isToken 58 item ≡ eqb b 58
-
-    step : (rest : List Item) → Laid image t base stop tail at s rest → Step rest
-    step rest h =
-        let f = laid-first image t base stop tail at s rest l h in
-        let v : ℕ = s + length (f .item .part .bytes) in
-        let ld : Laid image t base stop tail next v (f .rest) = subst (λ x. Laid image t base stop tail x v (f .rest)) (sym en) (f .laid) in
-        let ts : u ≡ v = eu ∙ sym (laid-start image t base stop tail next v (f .rest) ld) in
-        record {
-          item = f .item;
-          more = f .rest;
-          parts = f .parts;
-          laid = subst (λ x. Laid image t base stop tail next x (f .rest)) (sym ts) ld;
-          token = token-by image t base 58 at s stop u (f .item) (omega arith) (f .stands) ts ∙ ap (λ x. eqb x 58) (sym eb);
-        }
+    step : (rest : List Item) → Laid image t base stop tail at s rest → Step image t base stop tail at s next u rest
+    step rest h = laid-next image t base stop tail at s next u rest l en eu h
 
     module _ (is : List Item) (seen : ℕ) where
       pub seeing-colon : (seen′ : ℕ) → Seeing is seen at s → b ≡ 58 → seen′ ≡ colonBy seen at stop → Seeing is seen′ next u
       seeing-colon seen′ (closed rest a h e) z q =
           let p = step rest h in
           let i : seen′ ≡ at = q ∙ rw (eq-eqb seen stop a) refl in
-          opening (p .item) (p .more) (p .token ∙ eq-eqb b 58 z) (λ y. let w : _≡_ {A = ℕ} seen′ stop = y in omega (arith, w, i, l))
+          opening (p .item) (p .rest) (p .token 58 b (omega arith) eb ∙ eq-eqb b 58 z) (λ y. let w : _≡_ {A = ℕ} seen′ stop = y in omega (arith, w, i, l))
           (en ∙ ap (λ x. x + skipIn image t x) (sym i)) (p .laid)
-          (e ∙ ap (λ x. colonPlace image t at stop (splitColon x)) (p .parts) ∙ ap (λ x. colonPlace image t x stop (splitColon (p .item ∷ p .more))) (sym i))
+          (e ∙ ap (λ x. colonPlace image t at stop (splitColon x)) (p .parts) ∙ ap (λ x. colonPlace image t x stop (splitColon (p .item ∷ p .rest))) (sym i))
       seeing-colon seen′ (opening sign rest k a c h e) z q =
           let p = step rest h in
-          let d = colon-double sign (p .item) (p .more) k (p .token ∙ eq-eqb b 58 z) in
-          closed (p .more) (q ∙ rw (ne-eqb seen stop a) refl) (p .laid)
+          let d = colon-double sign (p .item) (p .rest) k (p .token 58 b (omega arith) eb ∙ eq-eqb b 58 z) in
+          closed (p .rest) (q ∙ rw (ne-eqb seen stop a) refl) (p .laid)
           (e
           ∙ ap (λ x. colonPlace image t seen stop (splitColon (sign ∷ x))) (p .parts)
           ∙ ap (colonPlace image t seen stop) d
-          ∙ place-beyond seen sign (beyond (p .item) (splitColon (p .more)))
-          ∙ ap (λ x. colonPlace image t x stop (beyond (p .item) (splitColon (p .more)))) (sym c)
-          ∙ place-beyond at (p .item) (splitColon (p .more))
-          ∙ ap (λ x. colonPlace image t x stop (splitColon (p .more))) (sym en))
+          ∙ place-beyond seen sign (beyond (p .item) (splitColon (p .rest)))
+          ∙ ap (λ x. colonPlace image t x stop (beyond (p .item) (splitColon (p .rest)))) (sym c)
+          ∙ place-beyond at (p .item) (splitColon (p .rest))
+          ∙ ap (λ x. colonPlace image t x stop (splitColon (p .rest))) (sym en))
 
       pub seeing-other : Seeing is seen at s → (b ≡ 58 → ⊥) → seen ≡ stop → Seeing is seen next u
       seeing-other (closed rest a h e) z y =
           let p = step rest h in
-          closed (p .more) a (p .laid)
+          closed (p .rest) a (p .laid)
           (e
           ∙ ap (λ x. colonPlace image t at stop (splitColon x)) (p .parts)
-          ∙ ap (colonPlace image t at stop) (colon-other (p .item) (p .more) (p .token ∙ ne-eqb b 58 z))
-          ∙ place-beyond at (p .item) (splitColon (p .more))
-          ∙ ap (λ x. colonPlace image t x stop (splitColon (p .more))) (sym en))
+          ∙ ap (colonPlace image t at stop) (colon-other (p .item) (p .rest) (p .token 58 b (omega arith) eb ∙ ne-eqb b 58 z))
+          ∙ place-beyond at (p .item) (splitColon (p .rest))
+          ∙ ap (λ x. colonPlace image t x stop (splitColon (p .rest))) (sym en))
       seeing-other (opening sign rest k a c h e) z y = absurd (a y)
 
       pub seeing-found : Seeing is seen at s → (b ≡ 58 → ⊥) → (seen ≡ stop → ⊥) → seen ≡ colonPlace image t r stop (splitColon is)
       seeing-found (closed rest a h e) z y = absurd (y a)
       seeing-found (opening sign rest k a c h e) z y =
           let p = step rest h in
-          place-here seen (p .item ∷ p .more)
+          place-here seen (p .item ∷ p .rest)
           ∙ sym (e
           ∙ ap (λ x. colonPlace image t seen stop (splitColon (sign ∷ x))) (p .parts)
-          ∙ ap (colonPlace image t seen stop) (colon-then sign (p .item) (p .more) k (p .token ∙ ne-eqb b 58 z)))
+          ∙ ap (colonPlace image t seen stop) (colon-then sign (p .item) (p .rest) k (p .token 58 b (omega arith) eb ∙ ne-eqb b 58 z)))

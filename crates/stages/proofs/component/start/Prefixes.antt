@@ -3,15 +3,14 @@ use mathlib.Core.Path.{_≡_, refl, sym, ap, subst, _∙_}
 use Prim.Native.Nat.{_≤_, _<_}
 use native.Mathlib.Omega.{arith}
 use borrow.Author.Tests.{ne-eqb}
-use Rattle.definition.specs.Prelude.{ℕ, suc, _+_, _*_, _-_, _^_, Bool, true, false, _&&_, not, Option, none, some, List, [], _∷_, _++_, length, eqb}
-use Rattle.definition.specs.Basics.{Result, ok, refused, _>>=_, withPlaces, if_then_else_, isEmpty, sameBytes}
-use Rattle.definition.specs.Refusals.{need, empty-after-colon}
+use Rattle.definition.specs.Prelude.{ℕ, suc, _+_, _*_, _-_, _^_, Bool, true, false, _&&_, not, Option, none, some, List, [], _∷_, length, eqb}
+use Rattle.definition.specs.Basics.{sameBytes}
 use Rattle.definition.specs.Text as Text
-use Rattle.definition.specs.Text.{Item, isGroup, isToken}
+use Rattle.definition.specs.Text.{Item, isGroup}
 use Rattle.definition.specs.Component.{Prefix, Split, splitRange, splitColon}
 use Rattle.errors.specs.declared.Refusal.{Refusal}
 use Rattle.laws.specs.Tests.{and-iff}
-use Rattle.stages.specs.token_tree.Table.{kindIn, startIn, skipIn, RecordFits}
+use Rattle.stages.specs.token_tree.Table.{kindIn, startIn, skipIn}
 use Rattle.stages.specs.token_tree.Laid.{Laid, Runs, placeOf}
 use Rattle.stages.specs.token_tree.Parts.{noPart, partBy, partOf}
 use Rattle.stages.specs.component.Start.{colonPlace, ColonAt, prefixValue, startResult, PrefixReads}
@@ -20,8 +19,9 @@ use Rattle.stages.specs.declared.token_tree.types.Part.{Part}
 use Rattle.stages.specs.declared.component.start.StartResult.{StartResult}
 use Rattle.stages.specs.declared.component.start.StartResult.the-variants as S
 use Rattle.stages.proofs.token_tree.Places.{place-above, place-suc, laid-order, laid-first, laid-none, laid-split}
-use Rattle.stages.proofs.component.parse.Splits.{Colon, colon-parts}
-use Rattle.stages.proofs.component.parse.Texts.{laid-part, laid-base, part-fits}
+use Rattle.stages.proofs.component.parse.Splits.{colon-parts}
+use Rattle.stages.proofs.token_tree.Walks.{runs-within}
+use Rattle.stages.proofs.token_tree.Written.{none-fits, laid-part, laid-fits}
 use Rattle.stages.proofs.component.parse.Endings.{range-last, range-none, LastAt, last-kind}
 
 pub below : (a b : ℕ) → a ≤ b → (a ≡ b → ⊥) → a < b
@@ -65,7 +65,7 @@ module _ (image : List ℕ) (t : Tree) (base stop tail r s colon : ℕ) (mid : L
       let c = colon-parts mid p e in
       let sp = laid-split image t base stop tail r s (p .before) (c .sign ∷ p .after) (subst (Laid image t base stop tail r s) (c .parts) h) in
       let a : Laid image t base stop tail colon (sp .from) (c .sign ∷ p .after) =
-      subst (λ x. Laid image t base stop tail x (sp .from) (c .sign ∷ p .after)) (sym q) (sp .after) in
+          subst (λ x. Laid image t base stop tail x (sp .from) (c .sign ∷ p .after)) (sym q) (sp .after) in
       let b : Laid image t base colon (sp .from) r s (p .before) = subst (λ x. Laid image t base x (sp .from) r s (p .before)) (sym q) (sp .before) in
       let o = laid-order image t base colon (sp .from) r s (p .before) b in
       let m = laid-order image t base stop tail colon (sp .from) (c .sign ∷ p .after) a in
@@ -135,7 +135,7 @@ module _ (image : List ℕ) (t : Tree) (base stop tail r s colon : ℕ) (mid : L
               let m = at .room in
               rw f (record {
                 is = refl;
-                held = (refl, record { part = record { room = omega (arith, m); none = λ x. refl; some = λ x. absurd (omega (arith, x)) }; none = λ x. refl });
+                held = (refl, record { part = none-fits image t base (omega (arith, m)); none = λ x. refl });
               })
           go (some p) g y = let rm = found p g y .room in absurd (omega (arith, rm, z))
 
@@ -164,14 +164,11 @@ module _ (image : List ℕ) (t : Tree) (base stop tail r s colon : ℕ) (mid : L
               let si = d .start-is in
               rw (f, ux) (record {
                 is = some-value image t base k colon p (l .item) (l .rest) (partBy s (d .from)) (l .parts)
-                    (laid-part image t base colon (d .from) r s (p .before) (d .before));
-                held = (
-                  d .place,
-                  record {
-                    part = part-fits image t base s (d .from) (laid-base image t base colon (d .from) r s (p .before) (d .before)) (d .texts) (omega (arith, fit, si));
-                    none = λ v. absurd (let v′ : _≡_ {A = ℕ} (colon + 1) 0 = v in omega (arith, v′));
-                  },
-                );
+                    (sym (laid-part image t base colon (d .from) r s (p .before) (d .before)));
+                held = (d .place, record {
+                  part = laid-fits image t base colon (d .from) r s (p .before) (d .before) (omega (arith, fit, si));
+                  none = λ v. absurd (let v′ : _≡_ {A = ℕ} (colon + 1) 0 = v in omega (arith, v′));
+                });
               })
 
 -- ---- a run: its items before a range in brackets
@@ -200,15 +197,4 @@ before-runs image t stop tail r last s u w a q =
     let si = a .stands .start in
     let ti = a .tail-is in
     let rm = a .stands .room in
-    let f = w .fits in
-    let tf = w .text-fits in
-    let ts = w .text-small in
-    record {
-      base = w .base;
-      items = a .mid;
-      laid = ld;
-      fits = omega (arith, f, rm);
-      text-fits = omega (arith, q, si, ti, tf);
-      small = w .small;
-      text-small = omega (arith, q, si, ti, ts);
-    }
+    runs-within (w .base) (a .mid) w (omega (arith, rm)) (omega (arith, q, si, ti)) ld

@@ -8,7 +8,7 @@ use mathlib.Core.List.{append-assoc}
 use lib.ListN.{length-append}
 use Rattle.definition.specs.Prelude.{ℕ, zero, suc, _+_, _*_, _-_, _^_, List, [], _∷_, _++_, length}
 use Rattle.definition.specs.Basics.{sum, tab, joined}
-use Rattle.definition.specs.Image.{u32At, componentCount, tables, counts}
+use Rattle.definition.specs.Image.{u32At, componentCount}
 use Rattle.definition.specs.Tree.{Node, recsOf, allRecs, literalsOf, textOf}
 use Rattle.definition.specs.Text.{items}
 use Rattle.laws.specs.Lists.{sum-tab-add}
@@ -19,6 +19,7 @@ use Rattle.stages.specs.token_tree.Grown.{Grown}
 use Rattle.stages.specs.component.Start.{recordsBefore, RecordsFit}
 use Rattle.stages.specs.declared.token_tree.types.Tables.{Tables}
 use Rattle.stages.specs.declared.token_tree.types.Run.{Run}
+use Rattle.stages.proofs.component.parse.Endings.{ends}
 use Rattle.stages.proofs.token_tree.Places.{laid-first}
 use Rattle.stages.proofs.token_tree.Roots.{rows-cons, rows-order, rows-behind, root-laid, run-fits, runs-of, run-is}
 use Rattle.stages.proofs.token_tree.Trees.{tables-fit}
@@ -70,15 +71,6 @@ module _ (image : List ℕ) (t : Tables) where
 
 -- ---- the last component of concatenation 0
 
-record Ends (x : Node) (xs : List Node) : Type 0 where
-  pub pre : List Node
-  pub node : Node
-  pub parts : x ∷ xs ≡ pre ++ (node ∷ [])
-
-ends : (x : Node) (xs : List Node) → Ends x xs
-ends x [] = record { pre = []; node = x; parts = refl }
-ends x (y ∷ ys) = let e = ends y ys in record { pre = x ∷ e .pre; node = e .node; parts = ap (λ l. x ∷ l) (e .parts) }
-
 pub record Source (image : List ℕ) (tree : List (List Node)) : Type 0 where
   pub pre : List Node
   pub node : Node
@@ -93,11 +85,8 @@ source-of : (image : List ℕ) (tree : List (List Node)) → 1 ≤ length tree �
 unfolding Sizes joined
 source-of image [] l z h = absurd (omega (arith, l))
 source-of image ([] ∷ cs) l z h = let k = z .1 in absurd (omega (arith, k))
-source-of image ((x ∷ xs) ∷ cs) l z h = go (e .pre) (e .node) (e .parts)
+source-of image ((x ∷ xs) ∷ cs) l z h = let e = ends x xs in go (e .mid) (e .item) (e .parts)
   where
-    e : Ends x xs
-    e = ends x xs
-
     go : (pre : List Node) (node : Node) → x ∷ xs ≡ pre ++ (node ∷ []) → Source image ((x ∷ xs) ∷ cs)
     go pre node p =
         let q : (x ∷ xs) ++ joined cs ≡ pre ++ (node ∷ joined cs) = ap (λ a. a ++ joined cs) p ∙ append-assoc pre (node ∷ []) (joined cs) in

@@ -31,10 +31,8 @@ use Rattle.stages.specs.declared.component.types.Bits.{Bits}
 use Rattle.stages.specs.declared.component.types.ComponentType.{ComponentType}
 use Rattle.stages.specs.declared.component.types.ComponentType.the-variants as T
 use Rattle.stages.specs.declared.component.types.Component.{Component}
+use Rattle.stages.proofs.Cases.{untrue}
 use Rattle.stages.proofs.ranges.Bounds.{static-yes, static-no}
-
-untrue : {G : Type 0} → false ≡ true → G
-untrue h = let z : _≡_ {A = ℕ} 0 1 = cc in absurd (omega arith)
 
 -- ---- an end at w
 
@@ -101,6 +99,10 @@ range-static : (s : D.Usb) (e : Option D.Usb) → isKnown (bothOf (staticVal s) 
 range-static s none = none-known (isEmpty (s .s .bytes)) (s .x)
 range-static s (some e) = both-known (isEmpty (s .s .bytes)) (isEmpty (e .s .bytes)) (s .x) (e .x)
 
+pub there-is : (image : List ℕ) (t : Tree) (base : ℕ) (e : OptionUsb) (s : D.Usb) → isThere e ≡ hasEnd (record { start = s; «end» = endOf image t base e })
+there-is image t base (O.Some u) s = refl
+there-is image t base O.None s = refl
+
 module _ (image : List ℕ) (t : Tree) (base at : ℕ) (c : Component) where
   abbrev staticBy : ComponentType → Bool
   staticBy k = isStaticLiteral (record { c-type = typeOf image t base at k; range = usbrOf image t base (c .range) })
@@ -128,10 +130,6 @@ module _ (image : List ℕ) (t : Tree) (base at : ℕ) (c : Component) where
         | Def.filler ↦ hasEnd (usbrOf image t base (c .range))
       ]
 
-  there-is : (e : OptionUsb) → isThere e ≡ hasEnd (record { start = usbOf image t base (c .range .start); «end» = endOf image t base e })
-  there-is (O.Some u) = refl
-  there-is O.None = refl
-
   module _ (z : Bool) (e : z ≡ isZero (usbOf image t base (c .range .start))) where
     pub full-not : z ≡ false → false ≡ hasFullRange (componentOf image t base at c)
     full-not h = sym (ap (λ (z : Bool). fullBy z (c .«c_type»)) (sym e ∙ h))
@@ -147,7 +145,7 @@ module _ (image : List ℕ) (t : Tree) (base at : ℕ) (c : Component) where
 
     pub full-variable : (p : Part) (r : Bool) → z ≡ true → c .«c_type» ≡ T.Variable p → r ≡ isThere (c .range .«end»)
         → not r ≡ hasFullRange (componentOf image t base at c)
-    full-variable p r h q g = full-is (T.Variable p) h q (ap not (g ∙ there-is (c .range .«end»)))
+    full-variable p r h q g = full-is (T.Variable p) h q (ap not (g ∙ there-is image t base (c .range .«end») (usbOf image t base (c .range .start))))
 
     pub full-filler : (r : Bool) → z ≡ true → c .«c_type» ≡ T.Filler → r ≡ isThere (c .range .«end») → r ≡ hasFullRange (componentOf image t base at c)
-    full-filler r h q g = full-is T.Filler h q (g ∙ there-is (c .range .«end»))
+    full-filler r h q g = full-is T.Filler h q (g ∙ there-is image t base (c .range .«end») (usbOf image t base (c .range .start)))

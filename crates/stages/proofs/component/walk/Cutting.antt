@@ -6,8 +6,7 @@ use native.Mathlib.Omega.{arith}
 use borrow.Author.Tests.{le-leb, lt-leb}
 use lib.ListN.{length-append, length-drop, take-append-drop}
 use lib.Seq.{length-take-le}
-use Rattle.definition.specs.Prelude.{ℕ, zero, suc, _+_, _*_, _-_, Bool, true, false, Option, none, some, List, [], _∷_, _++_, length, take, drop, eqb, leb}
-use Rattle.definition.specs.Basics.{if_then_else_}
+use Rattle.definition.specs.Prelude.{ℕ, suc, _+_, _*_, _-_, Bool, true, false, Option, none, some, List, _∷_, length, take, drop, leb}
 use Rattle.definition.specs.Image.{u32At}
 use Rattle.definition.specs.Tree.{Node, recsOf, textOf}
 use Rattle.definition.specs.Text.{Item, items}
@@ -15,30 +14,18 @@ use Rattle.definition.specs.Component.{splitRange, Prefix, prefixOf}
 use Rattle.laws.specs.Tests.{by-test}
 use Rattle.stages.specs.token_tree.Laid.{Laid, Runs, placeOf}
 use Rattle.stages.specs.token_tree.Table.{runIn}
-use Rattle.stages.specs.token_tree.Rows.{nodeOf, Rooted, Rows, TablesFit}
+use Rattle.stages.specs.token_tree.Rows.{nodeOf, Rows, TablesFit}
 use Rattle.stages.specs.component.Parse.{itemsRead}
 use Rattle.stages.specs.component.Start.{AfterIs}
 use Rattle.stages.specs.component.Read.{withoutBy}
 use Rattle.stages.specs.declared.token_tree.types.Run.{Run}
 use Rattle.stages.specs.declared.token_tree.types.Tree.{Tree}
 use Rattle.stages.specs.declared.token_tree.types.Tables.{Tables}
-use Rattle.stages.proofs.token_tree.Places.{laid-split, Split}
-use Rattle.stages.proofs.token_tree.Insides.{runs-after}
+use Rattle.stages.proofs.component.parse.Splits.{mid-length}
+use Rattle.stages.proofs.token_tree.Places.{laid-split, laid-some}
+use Rattle.stages.proofs.token_tree.Walks.{runs-within}
 use Rattle.stages.proofs.token_tree.Roots.{rows-cons, root-laid, run-is, runs-of}
 use Rattle.stages.proofs.component.parse.Splits.{colon-parts}
-
--- the items before the range are some of all
-mid-length : (is : List Item) → length ((splitRange is) .mid) ≤ length is
-unfolding splitRange
-mid-length [] = omega arith
-mid-length (i ∷ []) = by-test (eqb (i .kind) 3) (λ t. rw t (omega arith)) (λ t. rw t (omega arith))
-mid-length (i ∷ j ∷ rest) = let h = mid-length (j ∷ rest) in omega (arith, h)
-
--- items need records
-laid-some : (image : List ℕ) (t : Tree) (base stop tail r s : ℕ) (is : List Item) → 1 ≤ length is → Laid image t base stop tail r s is → r < stop
-unfolding Laid
-laid-some image t base stop tail r s [] l h = absurd (omega (arith, l))
-laid-some image t base stop tail r s (i ∷ is) l h = let m = h .0 .room in omega (arith, m)
 
 -- the run that is read, of a component whose text begins at s
 pub record Cut (image : List ℕ) (t : Tree) (s : ℕ) (scanned : Bool) (n : Node) (run : Run) : Type 0 where
@@ -71,13 +58,13 @@ module _ (image : List ℕ) (t : Tree) (after s stop tail r : ℕ) (n : Node) (s
       let len : length (take (suc k) is) ≡ suc k = length-take-le (suc k) is (omega (arith, f)) in
       let p = laid-split image t s stop tail r s (take (suc k) is) (drop (suc k) is) (rw (take-append-drop (suc k) is) l) in
       let b : after ≡ placeOf image t r (length (take (suc k) is)) = a ∙ ap (placeOf image t r) (sym len) in
-      let low : r < after = rw b (laid-some image t s _ _ r s (take (suc k) is) (omega (arith, len)) (p .before)) in
+      let low : r < after = rw b (laid-some image t s _ _ r s (take (suc k) is) (omega (arith, len)) (p .before) .1) in
       let rest : length (drop (suc k) is) ≡ length is - suc k = length-drop (suc k) is in
-      let high : after < stop = rw b (laid-some image t s stop tail _ (p .from) (drop (suc k) is) (omega (arith, rest, f)) (p .after)) in
+      let high : after < stop = rw b (laid-some image t s stop tail _ (p .from) (drop (suc k) is) (omega (arith, rest, f)) (p .after) .1) in
       let cut : withoutBy whole after ≡ record { r = record { 0 = after }; stop = record { 0 = stop }; «end» = record { 0 = tail } } =
       rw (lt-leb after r low, lt-leb stop after high) refl in
       subst (Reads true (drop (k + 1) is)) (sym cut)
-      (p .from, rw (one, b) (p .after), high, rw b (runs-after image t stop tail r s s (take (suc k) is) (drop (suc k) is) u p))
+      (p .from, rw (one, b) (p .after), high, rw b (runs-within s (drop (suc k) is) u (omega arith) (omega arith) (p .after)))
 
   cut-scanned : (o : Option Prefix) → prefixOf (nodeOf n) ≡ o
       → elim o as (λ x. Type 0) [ none ↦ after ≡ 0 | some p ↦ (after ≡ placeOf image t r (suc (length (p .before)))) × (1 ≤ length (p .after)) ]

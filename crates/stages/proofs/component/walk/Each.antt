@@ -1,11 +1,11 @@
 -- A stage over a list of placed components and over a tree: what it says, one more in front.
 use mathlib.Core.Path.{_≡_, refl, sym, ap, _∙_}
-use native.Mathlib.Omega.{arith}
-use Rattle.definition.specs.Prelude.{ℕ, suc, _+_, Bool, _&&_, List, [], _∷_, length, eqb}
+use Rattle.definition.specs.Prelude.{ℕ, suc, Bool, _&&_, List, [], _∷_, length, eqb}
 use Rattle.definition.specs.Basics.{Result, ok, refused, _>>=_, withPlaces, isEmpty}
 use Rattle.definition.specs.Image.{Placed}
 use Rattle.definition.specs.Component.{keepBase, eachIn, each}
 use Rattle.stages.specs.component.Read.{verdict}
+use Rattle.stages.proofs.Cases.{never}
 
 pub bind-on : {A B : Type 0} (x : Result A) (y : Result A) (z : Result B) → ((x >>= λ _. y) >>= λ _. z) ≡ (x >>= λ _. y >>= λ _. z)
 bind-on (ok a) y z = refl
@@ -18,13 +18,10 @@ same-verdict (refused n i k) = refl
 pub ok-is : {A : Type 0} (a b : A) → ok a ≡ ok b → a ≡ b
 ok-is a b h = cc
 
-pub not-ok : {A : Type 0} {G : Type 0} {n i k : ℕ} {a : A} → refused n i k ≡ ok a → G
-not-ok h = let z : _≡_ {A = ℕ} 0 1 = cc in absurd (omega (arith, z))
-
 -- a stage whose verdict is `ok`
 pub verdict-ok : {A : Type 0} (m : Result A) → verdict m ≡ ok tt → (a : A) × (m ≡ ok a)
 verdict-ok (ok a) h = (a, refl)
-verdict-ok (refused n i k) h = not-ok h
+verdict-ok (refused n i k) h = never h
 
 module _ {A B : Type 0} (g : Bool → A → Result B) (i : ℕ) where
   -- one more in front
@@ -54,8 +51,8 @@ module _ {A B : Type 0} (g : Bool → A → Result B) (i : ℕ) where
       go : (a : Result B) (n : Result (List (Placed B))) → g (eqb i 0 && isEmpty l) (p .value) ≡ a → eachIn (keepBase g) i (suc j) l ≡ n
           → (withPlaces i j (a >>= λ b. ok (record { base = p .base; value = b })) >>= λ b. n >>= λ bs. ok (b ∷ bs)) ≡ ok m → Parts j p l m
       go (ok a) (ok n) e f h = record { one = a; rest = n; reads = e; others = f; all = ok-is _ _ (sym h) }
-      go (ok a) (refused x y z) e f h = not-ok h
-      go (refused x y z) n e f h = not-ok h
+      go (ok a) (refused x y z) e f h = never h
+      go (refused x y z) n e f h = never h
 
   pub each-none : (j : ℕ) (m : List (Placed B)) → eachIn (keepBase g) i j [] ≡ ok m → m ≡ []
   unfolding eachIn
@@ -95,8 +92,8 @@ module _ {A B : Type 0} (g : Bool → A → Result B) where
       go : (a : Result (List (Placed B))) (n : Result (List (List (Placed B)))) → eachIn (keepBase g) i 0 c ≡ a → each (keepBase g) (suc i) t ≡ n
           → (a >>= λ b. n >>= λ bs. ok (b ∷ bs)) ≡ ok m → TreeParts i c t m
       go (ok a) (ok n) e f h = record { one = a; rest = n; reads = e; others = f; all = ok-is _ _ (sym h) }
-      go (ok a) (refused x y z) e f h = not-ok h
-      go (refused x y z) n e f h = not-ok h
+      go (ok a) (refused x y z) e f h = never h
+      go (refused x y z) n e f h = never h
 
   pub tree-none : (i : ℕ) (m : List (List (Placed B))) → each (keepBase g) i [] ≡ ok m → m ≡ []
   unfolding each

@@ -1,11 +1,11 @@
 -- The loop over the concatenations: one more in front, none, one that stage 1 refuses; and the whole tree.
 use mathlib.Core.Path.{_≡_, refl, sym, ap, subst, _∙_}
-use Prim.Native.Nat.{_≤_, _<_}
-use native.Mathlib.Nat.{add-zero, add-assoc}
+use Prim.Native.Nat.{_≤_}
+use native.Mathlib.Nat.{add-zero}
 use native.Mathlib.Omega.{arith}
 use lib.ListN.{length-append}
 use lib.Seq.{take-at, drop-at}
-use Rattle.definition.specs.Prelude.{ℕ, suc, _+_, _*_, Bool, true, List, [], _∷_, _++_, map, length, take, drop}
+use Rattle.definition.specs.Prelude.{ℕ, suc, _+_, _*_, true, List, [], _∷_, _++_, map, length, take}
 use Rattle.definition.specs.Basics.{Result, ok, refused, _>>=_, joined}
 use Rattle.definition.specs.Image.{Placed, Unparsed, parts, treeOf}
 use Rattle.definition.specs.Tree.{Node, recsOf, allRecs, textOf}
@@ -15,12 +15,12 @@ use Rattle.prepared.specs.Groups.{textOf-append}
 use Rattle.prepared.specs.Statement.{placedFrom, placedTree}
 use Rattle.errors.specs.Refused.{resultOf}
 use Rattle.errors.specs.declared.Checked.{Checked}
-use Rattle.errors.specs.declared.Checked.the-variants as C
 use Rattle.stages.specs.component.Kept.{KeptFrom}
 use Rattle.stages.specs.component.Read.{isRefusedBy, verdict, firstStage, secondStage, twoStages, walkFrom, TurnsAre, StagesAre}
 use Rattle.stages.specs.declared.component.walk.Walk.{Walk}
-use Rattle.stages.proofs.component.keep.Stores.{kept-none, kept-both, kept-alike}
-use Rattle.stages.proofs.component.walk.Each.{bind-on, same-verdict, not-ok, verdict-ok, each-length, tree-verdict, TreeParts, tree-parts, tree-none}
+use Rattle.stages.proofs.Cases.{not-passed, never}
+use Rattle.stages.proofs.component.Rows.{kept-none, kept-both, kept-alike}
+use Rattle.stages.proofs.component.walk.Each.{bind-on, same-verdict, verdict-ok, each-length, tree-verdict, TreeParts, tree-parts, tree-none}
 use Rattle.stages.proofs.component.walk.Rounds.{like-before}
 
 -- ---- the tree's lists
@@ -86,7 +86,7 @@ stages-are image t q words words′ e h =
     both : (m : Result (List (List (Placed Def.Component)))) → each firstStage 0 (placedLists 0 t) ≡ m → (dss : List (List (Placed Def.Component)))
         → (each firstStage 0 (placedLists 0 t) >>= each secondStage 0) ≡ ok dss → KeptFrom image words′ 0 (joined dss)
     both (ok bss) p dss g = h .kept bss dss p (ap (λ m. m >>= each secondStage 0) (sym p) ∙ g)
-    both (refused x y z) p dss g = not-ok (ap (λ m. m >>= each secondStage 0) (sym p) ∙ g)
+    both (refused x y z) p dss g = never (ap (λ m. m >>= each secondStage 0) (sym p) ∙ g)
 
 -- none are left
 pub stages-none : (image : List ℕ) (i s : ℕ) (w : Walk) (words : List ℕ) → StagesFrom image i s [] w (w .second) words words
@@ -129,16 +129,12 @@ module _ (image : List ℕ) (i s : ℕ) (c : List Node) (t : List (List Node)) (
         answer = stays (m .first) e (eachIn firstStage i 0 (placedFrom s c)) (h .first) (λ bs. each firstStage (suc i) (placedLists behind t) >>= λ bss. ok (bs ∷ bss))
             (λ bss. resultOf (w .second) >>= λ _. verdict (each secondStage i bss))
             ∙ ap (λ x. x >>= λ bss. resultOf (w .second) >>= λ _. verdict (each secondStage i bss)) (sym each-cons);
-        kept = λ bss dss f g. never (m .first) e (h .first ∙ ap verdict (parts-of bss f .reads));
+        kept = λ bss dss f g. not-passed (m .first) e (h .first ∙ ap verdict (parts-of bss f .reads));
       }
     where
-      never : {G : Type 0} (x : Checked) → isRefusedBy x ≡ true → resultOf x ≡ ok tt → G
-      never C.Passed q f = let z : _≡_ {A = ℕ} 0 1 = cc q in absurd (omega (arith, z))
-      never (C.Refused r) q f = not-ok f
-
       stays : {A B : Type 0} (x : Checked) → isRefusedBy x ≡ true → (a : Result A) → resultOf x ≡ verdict a → (f : A → Result B) (g : B → Result Unit)
           → resultOf x ≡ ((a >>= f) >>= g)
-      stays x q (ok a) e f g = never x q e
+      stays x q (ok a) e f g = not-passed x q e
       stays x q (refused y z u) e f g = e
 
   joined-one : (ds : List (Placed Def.Component)) (rest dss : List (List (Placed Def.Component))) → dss ≡ ds ∷ rest → joined dss ≡ ds ++ joined rest

@@ -1,20 +1,18 @@
 -- The loop over the components of a concatenation: where it stands, and what is said of all once the rest is done.
-use mathlib.Core.Path.{_≡_, refl, sym, ap, subst, _∙_}
+use mathlib.Core.Path.{_≡_, refl, sym, ap, subst}
 use Prim.Native.Nat.{_≤_, _<_}
 use native.Mathlib.Omega.{arith}
 use native.Mathlib.Numerals.{add-one}
 use Rattle.definition.specs.Prelude.{ℕ, suc, _+_, _*_, Bool, true, _&&_, List, [], _∷_, _++_, length, eqb}
 use Rattle.definition.specs.Basics.{ok, isEmpty}
-use Rattle.definition.specs.Image.{bytesFor}
 use Rattle.definition.specs.Tree.{Node, recsOf, textOf}
-use Rattle.prepared.specs.Bits.{length-packed}
 use Rattle.errors.specs.Refused.{resultOf}
 use Rattle.stages.specs.token_tree.Rows.{Rows}
 use Rattle.stages.specs.component.Start.{AfterIs, AfterIn}
 use Rattle.stages.specs.component.Read.{isRefusedBy, WalkFits, TurnIs, TurnsAre}
 use Rattle.stages.specs.declared.token_tree.types.Tables.{Tables}
 use Rattle.stages.specs.declared.component.walk.Walk.{Walk}
-use Rattle.stages.proofs.token_tree.Roots.{rows-cons}
+use Rattle.stages.proofs.token_tree.Roots.{rows-cons, rows-moved}
 use Rattle.stages.proofs.component.walk.Standing.{fits-next}
 use Rattle.stages.proofs.component.walk.Rounds.{TurnsFrom, turns-are, turns-cons, turns-refused, turns-none}
 
@@ -38,16 +36,13 @@ module _ (image : List ℕ) (t : Tables) (after i : ℕ) where
   next-of w s [] ms h l = absurd (omega (arith, l))
   next-of w s (n ∷ ns) ms h l = record { node = n; others = ns; parts = refl; rows = h .rows; after-is = h .after-in .0; after-in = h .after-in .1 }
 
-  rows-moved : (k k′ r r′ s l l′ : ℕ) (ns : List Node) → k ≡ k′ → r ≡ r′ → l ≡ l′ → Rows image t k r s l ns → Rows image t k′ r′ s l′ ns
-  rows-moved k k′ r r′ s l l′ ns p q e h = rw (← p, ← q, ← e) h
-
   pub left-next : (w m : Walk) (s : ℕ) (rest ms : List Node) (x : Next w s rest ms) (j : ℕ) (scanned : Bool) (words words₁ : List ℕ)
       → TurnIs image i j scanned s (x .node) w m words words₁ → Left m (s + length (textOf (recsOf (x .node)))) (x .others) ms
   left-next w m s rest ms x j scanned words words₁ h =
       let g = rows-cons image t (w .k .0) (w .r .0) s (w .l) (x .node) (x .others ++ ms) (x .rows) in
       let k = h .k in
       record {
-        rows = rows-moved (suc (w .k .0)) (m .k .0) _ (m .r .0) _ _ (m .l) (x .others ++ ms) (omega (arith, k)) (sym (h .r-is)) (sym (h .l)) (g .1);
+        rows = rows-moved image t (suc (w .k .0)) (m .k .0) _ (m .r .0) _ _ _ (m .l) (x .others ++ ms) (omega (arith, k)) (sym (h .r-is)) refl (sym (h .l)) (g .1);
         after-in = subst (λ r. AfterIn image (t .tree) after i r (x .others)) (sym (h .r-is)) (x .after-in);
       }
 

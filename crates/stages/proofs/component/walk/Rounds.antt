@@ -1,12 +1,12 @@
 -- The components of a concatenation one after the other: one more in front, none, and one that stage 1 refuses.
 use mathlib.Core.Path.{_≡_, refl, sym, ap, subst, _∙_}
-use Prim.Native.Nat.{_≤_, _<_}
+use Prim.Native.Nat.{_≤_}
 use native.Mathlib.Nat.{add-zero}
 use native.Mathlib.Omega.{arith}
 use lib.ListN.{length-append}
 use lib.Seq.{take-take}
-use Rattle.definition.specs.Prelude.{ℕ, suc, _+_, _*_, Bool, true, _&&_, List, [], _∷_, _++_, length, take, eqb}
-use Rattle.definition.specs.Basics.{Result, ok, refused, _>>=_, withPlaces, isEmpty, joined}
+use Rattle.definition.specs.Prelude.{ℕ, suc, _+_, _*_, true, _&&_, List, [], _∷_, length, take, eqb}
+use Rattle.definition.specs.Basics.{Result, ok, _>>=_, withPlaces, isEmpty, joined}
 use Rattle.definition.specs.Image.{Placed, Unparsed}
 use Rattle.definition.specs.Tree.{Node, recsOf, allRecs, literalsOf, textOf, packed}
 use Rattle.definition.specs.Component as Def
@@ -20,8 +20,9 @@ use Rattle.stages.specs.token_tree.Rows.{nodeOf}
 use Rattle.stages.specs.component.Kept.{KeptFrom}
 use Rattle.stages.specs.component.Read.{isRefusedBy, verdict, firstStage, secondStage, TurnIs, TurnsAre}
 use Rattle.stages.specs.declared.component.walk.Walk.{Walk}
-use Rattle.stages.proofs.component.keep.Stores.{kept-none, kept-cons, row-written}
-use Rattle.stages.proofs.component.walk.Each.{bind-on, same-verdict, not-ok, Parts, each-verdict, each-parts, each-none}
+use Rattle.stages.proofs.Cases.{not-passed}
+use Rattle.stages.proofs.component.Rows.{kept-none, kept-cons, row-written}
+use Rattle.stages.proofs.component.walk.Each.{bind-on, same-verdict, Parts, each-verdict, each-parts, each-none}
 
 -- those from the j-th on
 pub record TurnsFrom (image : List ℕ) (i j s : ℕ) (ns : List Node) (w r : Walk) (words words′ : List ℕ) : Type 0 where
@@ -93,18 +94,14 @@ module _ (image : List ℕ) (i j s : ℕ) (n : Node) (ns : List Node) (w m : Wal
         long = h .long;
         before = h .before;
         first = sym (first-is ∙ stays (m .first) e _);
-        places = λ f. never (m .first) e f;
-        second = λ bs f. never (m .first) e (passes bs f);
-        kept = λ bs ds f g. never (m .first) e (passes bs f);
+        places = λ f. not-passed (m .first) e f;
+        second = λ bs f. not-passed (m .first) e (passes bs f);
+        kept = λ bs ds f g. not-passed (m .first) e (passes bs f);
       }
     where
       stays : (c : Checked) → isRefusedBy c ≡ true → (x : Result Unit) → (resultOf c >>= λ _. x) ≡ resultOf c
       stays C.Passed q x = cc q
       stays (C.Refused r) q x = refl
-
-      never : {G : Type 0} (c : Checked) → isRefusedBy c ≡ true → resultOf c ≡ ok tt → G
-      never C.Passed q f = let z : _≡_ {A = ℕ} 0 1 = cc q in absurd (omega (arith, z))
-      never (C.Refused r) q f = not-ok f
 
       passes : (bs : List (Placed Def.Component)) → eachIn firstStage i j (placedFrom s (n ∷ ns)) ≡ ok bs → resultOf (m .first) ≡ ok tt
       passes bs f = h .first ∙ ap (λ x. withPlaces i j (verdict x)) (reads-of bs (parts-of bs f))

@@ -25,10 +25,11 @@ use Rattle.stages.specs.declared.component.keep.Row.{Row}
 use Rattle.stages.specs.declared.component.read.ReadResult.{ReadResult}
 use Rattle.stages.specs.declared.component.read.ReadResult.the-variants as Q
 use Rattle.stages.specs.declared.component.walk.Walk.{Walk}
+use Rattle.stages.proofs.Cases.{never}
 use Rattle.stages.proofs.token_tree.Roots.{rows-cons}
 use Rattle.stages.proofs.component.parse.Splits.{stage-items}
 use Rattle.stages.proofs.component.keep.Rowing.{row-is}
-use Rattle.stages.proofs.component.walk.Each.{ok-is, not-ok}
+use Rattle.stages.proofs.component.walk.Each.{ok-is}
 
 pub ordered-read : (image : List ℕ) (t : Tree) (base at : ℕ) (q : ReadResult) (m : Result Def.Component) → ReadIs image t base at q m → OrderedRead q
 ordered-read image t base at (Q.Ok c) m (e, h, g) = go (c .«c_type») (h .c-type)
@@ -57,7 +58,7 @@ pub record Answers (image : List ℕ) (i j k : ℕ) (s : ℕ) (m : Result Def.Co
 
 passed-first : (i j : ℕ) (m : Result Def.Component) (d : Def.Component) → (m >>= simplify) ≡ ok d → ok tt ≡ withPlaces i j (verdict m)
 passed-first i j (ok a) d e = refl
-passed-first i j (refused x y z) d e = not-ok e
+passed-first i j (refused x y z) d e = never e
 
 pub answers : (image : List ℕ) (t : Tree) (i j k s at : ℕ) (q : ReadResult) (m : Result Def.Component) (before first second : Result Unit) (words words′ : List ℕ)
     → s < 2 ^ 32 → at ≤ length image → length image < 2 ^ 31 → 11 * k + 11 ≤ length words → ReadIs image t s at q m → KeptBy q k at words words′
@@ -78,8 +79,8 @@ answers image t i j k s at (Q.First n) m before first second words words′ low 
       long = ap {A = List ℕ} length kept;
       same = ap (take (11 * k)) kept;
       first-is = f₁ ∙ ap (λ (x : Result Def.Component). withPlaces i j (verdict x)) (sym e);
-      second-is = λ d p. not-ok (sym e ∙ p);
-      kept = λ d p. not-ok (ap (λ x. x >>= simplify) (sym e) ∙ p);
+      second-is = λ d p. never (sym e ∙ p);
+      kept = λ d p. never (ap (λ x. x >>= simplify) (sym e) ∙ p);
     }
 answers image t i j k s at (Q.Second n) m before first second words words′ low fits small room (a, e, g) kept f₁ f₂ =
     record {
@@ -87,7 +88,7 @@ answers image t i j k s at (Q.Second n) m before first second words words′ low
       same = ap (take (11 * k)) kept;
       first-is = f₁ ∙ ap (λ (x : Result Def.Component). withPlaces i j (verdict x)) (sym e);
       second-is = λ d p. f₂ ∙ ap (λ (x : Result Def.Component). before >>= λ _. withPlaces i j (verdict x)) (sym g ∙ ap simplify (ok-is a d (sym e ∙ p)));
-      kept = λ d p. not-ok (sym g ∙ ap (λ x. x >>= simplify) (sym e) ∙ p);
+      kept = λ d p. never (sym g ∙ ap (λ x. x >>= simplify) (sym e) ∙ p);
     }
 
 pub turn-is : (image : List ℕ) (i j : ℕ) (scanned : Bool) (s : ℕ) (n : Node) (w r : Walk) (words words′ : List ℕ) (width : ℕ)

@@ -1,5 +1,5 @@
 -- The loop over all concatenations: where it stands, and what is said of the whole tree once the rest is done.
-use mathlib.Core.Path.{_≡_, refl, sym, ap, subst, _∙_}
+use mathlib.Core.Path.{_≡_, refl, sym, ap, subst}
 use Prim.Native.Nat.{_≤_, _<_}
 use native.Mathlib.Omega.{arith}
 use native.Mathlib.Numerals.{add-one}
@@ -7,7 +7,7 @@ use lib.ListN.{length-append}
 use Rattle.definition.specs.Prelude.{ℕ, suc, _+_, _*_, true, List, [], _∷_, _++_, length}
 use Rattle.definition.specs.Basics.{ok, joined}
 use Rattle.definition.specs.Image.{u32At, counts}
-use Rattle.definition.specs.Tree.{Node, allRecs, literalsOf, textOf}
+use Rattle.definition.specs.Tree.{Node, allRecs, textOf}
 use Rattle.errors.specs.Refused.{resultOf}
 use Rattle.errors.specs.declared.Checked.{Checked}
 use Rattle.stages.specs.token_tree.Table.{tablesIn}
@@ -17,7 +17,7 @@ use Rattle.stages.specs.component.Start.{AfterIn, AfterTree}
 use Rattle.stages.specs.component.Read.{isRefusedBy, walkFrom, WalkFits, TurnsAre, StagesAre}
 use Rattle.stages.specs.declared.token_tree.types.Tables.{Tables}
 use Rattle.stages.specs.declared.component.walk.Walk.{Walk}
-use Rattle.stages.proofs.token_tree.Roots.{rows-behind}
+use Rattle.stages.proofs.token_tree.Roots.{rows-behind, rows-moved}
 use Rattle.stages.proofs.token_tree.Trees.{tables-fit}
 use Rattle.stages.proofs.component.walk.Standing.{fits-behind}
 use Rattle.stages.proofs.component.walk.Forest.{StagesFrom, stages-are, stages-none, stages-refused, stages-cons}
@@ -97,9 +97,6 @@ module _ (image : List ℕ) (t : Tables) (after : ℕ) where
         v .goes (m .first) words₁ (subst (λ y. StagesFrom image i (v .s) y w (m .first) words words₁) (sym (x .parts))
         (stages-refused image i (v .s) (x .nodes) (x .others) w m words words₁ h e))
 
-    rows-moved : (k k′ r r′ s l l′ : ℕ) (ns : List Node) → k ≡ k′ → r ≡ r′ → l ≡ l′ → Rows image t k r s l ns → Rows image t k′ r′ s l′ ns
-    rows-moved k k′ r r′ s l l′ ns p q e h = rw (← p, ← q, ← e) h
-
     pub stands-next : resultOf (m .first) ≡ ok tt → Stands (i + 1) m words₁
     stands-next e =
         let (k, r, l) = h .places e in
@@ -111,7 +108,7 @@ module _ (image : List ℕ) (t : Tables) (after : ℕ) where
           s = v .s + length (textOf (allRecs (x .nodes)));
           rest = x .others;
           count = omega (arith, c, z);
-          rows = rows-moved _ (m .k .0) _ (m .r .0) _ _ (m .l) (joined (x .others)) (sym k) (sym r) (sym l)
+          rows = rows-moved image t _ (m .k .0) _ (m .r .0) _ _ _ (m .l) (joined (x .others)) (sym k) (sym r) refl (sym l)
               (rows-behind image t (w .k .0) (w .r .0) (v .s) (w .l) (x .nodes) (joined (x .others)) (x .rows));
           fits = subst (WalkFits image t m (length (joined (x .others)))) (sym (h .long))
               (fits-behind image t w m (v .s) (length words) (x .nodes) (joined (x .others)) (x .rows) (x .fits) k l);

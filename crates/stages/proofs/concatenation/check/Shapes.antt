@@ -12,21 +12,20 @@ use Rattle.stages.specs.component.Kept.{widthIn}
 use Rattle.stages.specs.declared.concatenation.running_check.running.Shape.{Shape}
 use Rattle.stages.specs.concatenation.running_check.Running.{kindOf, stepOf, stepAs, addAs, checkOpen, checkLiteral, withFull, checkAs, settledOf, advancedAs}
 use Rattle.stages.specs.concatenation.Check.{ShapeOf, shapeBy}
-use Rattle.stages.proofs.concatenation.check.KeptRows.{Stored, word-at, flags-at}
+use Rattle.stages.proofs.component.Rows.{Stored, field-at, flags-at}
 use Rattle.stages.proofs.concatenation.check.Flags.{kind-flags, end-flag, full-flag}
 
 module _ (image words : List ℕ) (k j : ℕ) (cs : List (Placed Component)) (s : Stored image words k j cs) where
   width-words : optionOf (widthIn (getD words (11 * (k + j)) 0) (getD words (11 * (k + j) + 3) 0) (getD words (11 * (k + j) + 2) 0))
       ≡ staticWidth (s .one .value .range)
   width-words =
-      rw (flags-at image words k j cs s ∙ sym (s .is .flags), word-at image words k j cs s 3 (omega arith), word-at image words k j cs s 2 (omega arith))
-      (s .is .width)
+      rw (flags-at (s .at) ∙ sym (s .at .is .flags), field-at (s .at) 3 (omega arith), field-at (s .at) 2 (omega arith)) (s .at .is .width)
 
   pub shape-is : ShapeOf (s .one .value) (shapeBy words (11 * (k + j)))
   shape-is =
       let d = s .one .value in
       let n = getD words (11 * (k + j)) 0 in
-      let e = flags-at image words k j cs s in
+      let e = flags-at (s .at) in
       record { kind-is = kind-flags d n e; width-is = width-words; end-is = end-flag d n e; full-is = full-flag d n e }
 
 -- ---- a step

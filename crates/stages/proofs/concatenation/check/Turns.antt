@@ -1,13 +1,13 @@
 -- The loops over the kept components of a concatenation: one turn, and the end.
 use mathlib.Core.Bool.{true≢false}
-use mathlib.Core.Path.{_≡_, refl, ap, sym, _∙_}
+use mathlib.Core.Path.{_≡_, ap, sym, _∙_}
 use mathlib.Core.Logic.{_⊎_, ⊎-elim}
 use Prim.Native.Nat.{_≤_, _<_}
 use native.Mathlib.Nat.{add-zero, zero-add}
 use native.Mathlib.Omega.{arith}
 use native.Mathlib.Numerals.{add-one}
 use borrow.Author.Tests.{eq-eqb, ne-eqb}
-use lib.ListN.{length-drop, drop-of-length-le}
+use lib.ListN.{length-drop}
 use Rattle.definition.specs.Component.{Component}
 use Rattle.definition.specs.Basics.{Result, ok, refused, _>>=_, withPlaces, isEmpty, if_then_else_}
 use Rattle.definition.specs.Overall.{placeFrom}
@@ -23,13 +23,12 @@ use Rattle.stages.specs.concatenation.Check.{concatenationOf, shapeBy, a
 use Rattle.stages.specs.concatenation.running_check.Running.{runningOf, stepOf, finishOf, keptOf, verdictOf, settledOf, advancedAs}
 use Rattle.stages.specs.declared.concatenation.running_check.running.Running.{Running as Now}
 use Rattle.stages.specs.component.Read.{isRefusedBy}
+use Rattle.stages.proofs.concatenation.stage4.Loops.{end-at}
+use Rattle.stages.proofs.Cases.{passed}
 use Rattle.stages.proofs.concatenation.check.Flags.{literal-flag, asked-flags}
 use Rattle.stages.proofs.concatenation.check.Shapes.{shape-is, advanced-as}
 use Rattle.stages.proofs.concatenation.check.Counts.{oneMore, countFrom, merge-length}
-use Rattle.stages.proofs.concatenation.check.KeptRows.{Stored, flags-at}
-
-pub none-left : {A : Type 0} (cs : List A) (j n : ℕ) → length cs ≡ n → n ≤ j → drop j cs ≡ []
-none-left cs j n e l = drop-of-length-le cs {i = j} (rw e l)
+use Rattle.stages.proofs.component.Rows.{Stored, flags-at}
 
 -- whether the component behind j is the last
 pub last-is : {A : Type 0} (cs : List A) (j n : ℕ) → length cs ≡ n → j < n → eqb (j + 1) n ≡ isEmpty (drop (j + 1) cs)
@@ -44,14 +43,6 @@ last-is {A} cs j n e l = go (drop (j + 1) cs) (length-drop (j + 1) cs)
 kept-ok : (m : Result Running) (r r′ : Running) → r′ ≡ keptOf r m → ok tt ≡ verdictOf m → m ≡ ok r′
 kept-ok (ok x) r r′ h e = ap ok (sym h)
 kept-ok (refused n i k) r r′ h e = let z : _≡_ {A = ℕ} 0 1 = cc in absurd (omega arith)
-
-kept-refused : (m : Result Running) (n i k : ℕ) → refused n i k ≡ verdictOf m → m ≡ refused n i k
-kept-refused (ok x) n i k e = let z : _≡_ {A = ℕ} 0 1 = cc in absurd (omega arith)
-kept-refused (refused n₁ i₁ k₁) n i k e = cc
-
-passed : (q : Checked) → isRefusedBy q ≡ false → resultOf q ≡ ok tt
-passed C.Passed h = refl
-passed (C.Refused e) h = cc
 
 -- a step's refusal is the whole check's
 refused-through : {A B : Type 0} (q : Checked) (m : Result Running) (x : B) (g : Running → Result A) (f : A → Result B) → isRefusedBy q ≡ true
@@ -106,7 +97,7 @@ pub check-end :
 unfolding check checkFrom
 check-end i j n cs r q e l inv f =
     ap (λ m. m >>= λ _. ok (concatenationBy cs (runningOf r))) f
-    ∙ ap (λ m. m >>= ended i cs) (sym (ap (λ l. checkFrom i j (eqb j 0) l (runningOf r)) (none-left cs j n e l)) ∙ inv)
+    ∙ ap (λ m. m >>= ended i cs) (sym (ap (λ l. checkFrom i j (eqb j 0) l (runningOf r)) (end-at cs j n e l)) ∙ inv)
 
 -- ---- the count after merging
 
@@ -116,7 +107,7 @@ module _ (image words : List ℕ) (k j : ℕ) (cs : List (Placed Component)) (s 
       → m′ + countFrom (eqb (getD words (11 * (k + j)) 0 / 32 % 2) 1) (drop (j + 1) cs) ≡ length (merge cs)
   unfolding countFrom
   count-on m m′ was e h =
-      let t = literal-flag (s .one .value) (getD words (11 * (k + j)) 0) (flags-at image words k j cs s) in
+      let t = literal-flag (s .one .value) (getD words (11 * (k + j)) 0) (flags-at (s .at)) in
       let one = oneMore was (isStaticLiteral (s .one .value)) in
       let rest = countFrom (isStaticLiteral (s .one .value)) (drop (j + 1) cs) in
       let g : m + countFrom was (s .one ∷ drop (j + 1) cs) ≡ length (merge cs) = rw (s .rest) at h in
@@ -128,17 +119,17 @@ module _ (image words : List ℕ) (k j : ℕ) (cs : List (Placed Component)) (s 
   pub asked-here : (unbounded : Bool) → flagsAsk (getD words (11 * (k + j)) 0) unbounded ≡ true → some j ≡ placeFrom (asked unbounded) j (drop j cs)
   unfolding placeFrom
   asked-here unbounded t =
-      rw (s .rest, sym (asked-flags (s .one .value) (getD words (11 * (k + j)) 0) (flags-at image words k j cs s) unbounded (s .one .base)) ∙ t)
+      rw (s .rest, sym (asked-flags (s .one .value) (getD words (11 * (k + j)) 0) (flags-at (s .at)) unbounded (s .one .base)) ∙ t)
 
   pub asked-on : (unbounded : Bool) → flagsAsk (getD words (11 * (k + j)) 0) unbounded ≡ false
       → placeFrom (asked unbounded) (j + 1) (drop (j + 1) cs) ≡ placeFrom (asked unbounded) j (drop j cs)
   unfolding placeFrom
   asked-on unbounded t =
-      rw (s .rest, sym (asked-flags (s .one .value) (getD words (11 * (k + j)) 0) (flags-at image words k j cs s) unbounded (s .one .base)) ∙ t, add-one j)
+      rw (s .rest, sym (asked-flags (s .one .value) (getD words (11 * (k + j)) 0) (flags-at (s .at)) unbounded (s .one .base)) ∙ t, add-one j)
 
 pub asked-end : (cs : List (Placed Component)) (j n : ℕ) (unbounded : Bool) → length cs ≡ n → n ≤ j → none ≡ placeFrom (asked unbounded) j (drop j cs)
 unfolding placeFrom
-asked-end cs j n unbounded e l = rw (none-left cs j n e l)
+asked-end cs j n unbounded e l = rw (end-at cs j n e l)
 
 pub count-start : (cs : List (Placed Component)) → 0 + countFrom false cs ≡ length (merge cs)
 count-start cs = rw zero-add (sym (merge-length cs))
@@ -146,7 +137,7 @@ count-start cs = rw zero-add (sym (merge-length cs))
 pub count-end : (cs : List (Placed Component)) (j n m : ℕ) (was : Bool) → length cs ≡ n → n ≤ j → m + countFrom was (drop j cs) ≡ length (merge cs)
     → m ≡ length (merge cs)
 unfolding countFrom
-count-end cs j n m was e l h = let g : m + 0 ≡ length (merge cs) = rw (none-left cs j n e l) at h in sym (add-zero m) ∙ g
+count-end cs j n m was e l h = let g : m + 0 ≡ length (merge cs) = rw (end-at cs j n e l) at h in sym (add-zero m) ∙ g
 
 -- what `was && now` says, and what is added by it
 pub added : (was now t : Bool) (m m′ : ℕ) → ((was ≡ true) × (t ≡ now)) ⊎ ((was ≡ false) × (t ≡ false))

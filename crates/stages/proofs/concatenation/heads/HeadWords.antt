@@ -1,22 +1,20 @@
 -- The two words of a concatenation: written, and read back.
-use mathlib.Core.Path.{_≡_, refl, ap, subst, sym, _∙_}
+use mathlib.Core.Path.{_≡_, refl, ap, sym}
 use Prim.Native.Nat.{_≤_}
-use native.Mathlib.Nat.{add-zero}
 use native.Mathlib.Omega.{arith}
 use native.Mathlib.Numerals.{add-one}
 use borrow.Author.Tests.{ne-eqb, le-leb, lt-leb}
 use lib.Seq.{sets}
 use lib.ListN.{set}
-use Rattle.definition.specs.Basics.{joined}
 use Rattle.definition.specs.Answer.{flag}
 use Rattle.definition.specs.Concatenation.{Concatenation, FillerAlign, align-none, align-single, align-lsb, align-msb, align-mid, align-multiple, alignNumber, merge}
-use Rattle.definition.specs.Prelude.{ℕ, zero, suc, _+_, _*_, _/_, _%_, _^_, Bool, true, false, Option, none, some, List, [], _∷_, map, length, getD, drop, leb}
-use Rattle.prepared.specs.Bytes.{Holds, holds-left, holds-right, holds-getD}
+use Rattle.definition.specs.Prelude.{ℕ, _+_, _*_, _/_, _%_, _^_, Bool, true, false, Option, none, some, List, [], _∷_, length, getD, drop, leb}
 use Rattle.numbers.specs.Value.{optionUsize}
-use Rattle.stages.specs.concatenation.Heads.{alignFrom, widthFrom, summaryBy, widthOr0, headWords, HeadsAre, CheckedOne, AllChecked, one-more}
+use Rattle.stages.specs.concatenation.Heads.{alignFrom, widthFrom, summaryBy, widthOr0, HeadsAre, AllChecked}
 use Rattle.stages.specs.concatenation.Overall.{HasSummary}
 use Rattle.stages.specs.declared.concatenation.alignment.align.FillerAlign.the-variants as A
 use Rattle.stages.specs.concatenation.alignment.Align.{alignOf}
+use Rattle.stages.proofs.concatenation.HeadsAt.{checked-at, head-word, width-word}
 
 pub align-small : (a : FillerAlign) → alignNumber a ≤ 5
 align-small align-none = omega arith
@@ -48,45 +46,6 @@ module _ (n : ℕ) where
 
   pub from-other : (n ≡ 0 → ⊥) → (n ≡ 1 → ⊥) → (n ≡ 2 → ⊥) → (n ≡ 3 → ⊥) → (n ≡ 4 → ⊥) → A.Multiple ≡ alignFrom n
   from-other a b c d e = rw (ne-eqb n 0 a, ne-eqb n 1 b, ne-eqb n 2 c, ne-eqb n 3 d, ne-eqb n 4 e)
-
--- ---- where they stand
-
-one-of : (heads : List ℕ) (b : ℕ) (d : Concatenation) (ds : List Concatenation) → Holds heads (2 * b) (joined (map headWords (d ∷ ds)))
-    → Holds heads (2 * b) (headWords d) × Holds heads (2 * suc b) (joined (map headWords ds))
-unfolding joined
-one-of heads b d ds h =
-    let y : 2 * b + 2 ≡ 2 * suc b = omega arith in (
-      holds-left heads (2 * b) (headWords d) (joined (map headWords ds)) h,
-      subst (λ n. Holds heads n (joined (map headWords ds))) y (holds-right heads (2 * b) (headWords d) (joined (map headWords ds)) h),
-    )
-
-holds-at : (heads : List ℕ) (ds rest : List Concatenation) (d : Concatenation) (b i : ℕ) → Holds heads (2 * b) (joined (map headWords ds))
-    → drop i ds ≡ d ∷ rest
-    → Holds heads (2 * (b + i)) (headWords d)
-holds-at heads [] rest d b zero h e = let z : _≡_ {A = ℕ} 0 1 = cc in absurd (omega arith)
-holds-at heads [] rest d b (suc i) h e = let z : _≡_ {A = ℕ} 0 1 = cc in absurd (omega arith)
-holds-at heads (x ∷ ds) rest d b zero h e =
-    let g : x ≡ d = cc in
-    subst (λ n. Holds heads (2 * n) (headWords d)) (sym (add-zero b)) (subst (λ y. Holds heads (2 * b) (headWords y)) g (one-of heads b x ds h .0))
-holds-at heads (x ∷ ds) rest d b (suc i) h e =
-    let z : suc b + i ≡ b + suc i = omega arith in
-    subst (λ n. Holds heads (2 * n) (headWords d)) z (holds-at heads ds rest d (suc b) i (one-of heads b x ds h .1) e)
-
-module _ (heads : List ℕ) (ds rest : List Concatenation) (d : Concatenation) (i : ℕ) (h : HeadsAre heads ds) (e : drop i ds ≡ d ∷ rest) where
-  here : Holds heads (2 * i) (headWords d)
-  here = let z : 0 + i ≡ i = omega arith in subst (λ n. Holds heads (2 * n) (headWords d)) z (holds-at heads ds rest d 0 i h e)
-
-  pub head-word : getD heads (2 * i) 0 ≡ length (merge (d .comps)) + 2 ^ 32 * alignNumber (d .align) + flag (d .nonzero) (2 ^ 40)
-  head-word = ap (λ n. getD heads n 0) (sym (add-zero (2 * i))) ∙ holds-getD heads (2 * i) (headWords d) 0 0 here (omega arith)
-
-  pub width-word : getD heads (2 * i + 1) 0 ≡ widthOr0 (d .width)
-  width-word = holds-getD heads (2 * i) (headWords d) 1 0 here (omega arith)
-
-pub checked-at : (ds rest : List Concatenation) (d : Concatenation) (i : ℕ) → AllChecked ds → drop i ds ≡ d ∷ rest → CheckedOne d
-checked-at [] rest d zero h e = let z : _≡_ {A = ℕ} 0 1 = cc in absurd (omega arith)
-checked-at [] rest d (suc i) h e = let z : _≡_ {A = ℕ} 0 1 = cc in absurd (omega arith)
-checked-at (x ∷ ds) rest d zero (one-more g h) e = let f : x ≡ d = cc in subst (λ y. CheckedOne y) f g
-checked-at (x ∷ ds) rest d (suc i) (one-more g h) e = checked-at ds rest d i h e
 
 -- ---- read back
 

@@ -4,7 +4,7 @@ use Prim.Native.Nat.{_≤_, _<_}
 use native.Mathlib.Omega.{arith}
 use native.Mathlib.Numerals.{add-one}
 use lib.ListN.{length-append}
-use Rattle.definition.specs.Prelude.{ℕ, zero, suc, _+_, _*_, List, [], _∷_, _++_, map, length, drop}
+use Rattle.definition.specs.Prelude.{ℕ, zero, suc, _+_, _*_, List, [], _∷_, _++_, length, drop}
 use Rattle.definition.specs.Component.{Component}
 use Rattle.definition.specs.Basics.{joined}
 use Rattle.definition.specs.Image.{Placed, u32At}
@@ -13,7 +13,7 @@ use Rattle.stages.specs.concatenation.Check.{Lies}
 use Rattle.stages.specs.token_tree.Rows.{Sizes}
 use Rattle.stages.specs.concatenation.Heads.{CountsFit}
 use Rattle.stages.specs.component.Kept.{KeptFrom}
-use Rattle.stages.proofs.concatenation.check.KeptRows.{kept-left, kept-right}
+use Rattle.stages.proofs.component.Rows.{kept-split}
 
 pub record Part {A : Type 0} (image : List ℕ) (i : ℕ) (cc : List (List A)) : Type 0 where
   pub here : List A
@@ -48,15 +48,10 @@ module _ {A : Type 0} (image : List ℕ) (i : ℕ) (cc : List (List A)) where
 
 module _ (image words : List ℕ) (k i : ℕ) (cc : List (List (Placed Component))) (p : Part image i cc) (h : KeptFrom image words k (joined (drop i cc))) where
   pub part-kept : KeptFrom image words k (p .here)
-  part-kept = kept-left image words k (p .here) (joined (drop (i + 1) cc)) (rw (part-joined image i cc p) at h)
+  part-kept = kept-split image words k (p .here) (joined (drop (i + 1) cc)) (rw (part-joined image i cc p) at h) .0
 
   pub rest-kept : KeptFrom image words (k + u32At image (40 + 4 * i)) (joined (drop (i + 1) cc))
-  rest-kept = rw (p .size) (kept-right image words k (p .here) (joined (drop (i + 1) cc)) (rw (part-joined image i cc p) at h))
-
-drop-map : {A B : Type 0} (f : A → B) (i : ℕ) (l : List A) → drop i (map f l) ≡ map f (drop i l)
-drop-map f zero l = refl
-drop-map f (suc i) [] = refl
-drop-map f (suc i) (a ∷ l) = drop-map f i l
+  rest-kept = rw (p .size) (kept-split image words k (p .here) (joined (drop (i + 1) cc)) (rw (part-joined image i cc p) at h) .1)
 
 -- ---- room for the i-th, by how much is left
 

@@ -1,17 +1,14 @@
 -- The checks of stage 4 after its loop, and its end.
-use mathlib.Core.Path.{_≡_, refl}
+use mathlib.Core.Bool.{or-true}
+use mathlib.Core.Path.{_≡_}
 use borrow.Author.Tests.{eq-eqb, ne-eqb}
 use Rattle.definition.specs.Refusals.{numberOf, no-common-width}
 use Rattle.definition.specs.Basics.{ok, refused}
 use Rattle.definition.specs.Overall.{Overall, overallFrom, overallStart, stage4}
 use Rattle.definition.specs.Concatenation.{Concatenation}
-use Rattle.definition.specs.Prelude.{ℕ, Option, none, some, Bool, true, false, not, _&&_, _||_, List, leb, eqb}
+use Rattle.definition.specs.Prelude.{ℕ, Option, none, some, Bool, true, not, _&&_, List, leb, eqb}
 use Rattle.laws.specs.Tests.{and-iff, eqb-iff}
 use Rattle.stages.specs.concatenation.Overall.{commonOf, checksOf}
-
-or-true : (t : Bool) → (t || true) ≡ true
-or-true true = refl
-or-true false = refl
 
 pub common-known : (mode : ℕ) (p : Option ℕ) (w : ℕ) → p ≡ some w → ok tt ≡ commonOf mode p
 common-known mode p w e = rw (e, or-true (not (eqb mode 2)))

@@ -25,7 +25,7 @@ use Rattle.stages.proofs.token_tree.Places.{place-above, laid-order, la
 use Rattle.stages.proofs.ranges.sides.Texts.{part-fits}
 use Rattle.stages.proofs.ranges.sides.Ways.{made-new}
 use Rattle.stages.proofs.ranges.signs.CutParts.{Parts, bound-parts}
-use Rattle.stages.proofs.ranges.bound.Written.{text-laid}
+use Rattle.stages.proofs.token_tree.Written.{laid-part}
 
 -- a token's one byte
 one-long : (l : List ℕ) (c : ℕ) → sameBytes l (c ∷ []) ≡ true → length l ≡ 1
@@ -64,7 +64,7 @@ module _ (image : List ℕ) (t : Tree) (base stop tail r s : ℕ) (is : List Ite
   bound-whole at e z = go (cutBound is) refl (sym e ∙ z)
     where
       go : (o : Option Cut) → cutBound is ≡ o → cutPlace image t r o ≡ 0 → ok (Ranges.text (textIn image t base s tail) (pos 0)) ≡ readBound is
-      go none q k = ap (λ p. ok (Ranges.text p (pos 0))) (text-laid image t base stop tail r s is h) ∙ sym (read-none is q)
+      go none q k = ap (λ p. ok (Ranges.text p (pos 0))) (laid-part image t base stop tail r s is h) ∙ sym (read-none is q)
       go (some c) q k = absurd (let m = place-above image t r (length (c .before)) in omega (arith, m, k, above))
 
   -- the sign at record `at`
@@ -86,13 +86,13 @@ module _ (image : List ℕ) (t : Tree) (base stop tail r s : ℕ) (is : List Ite
 
     kept-is : (n : Bool) → (if n then textIn image t base p tail else textIn image t base (p + 1) tail)
         ≡ (if n then Text.partOf (c .sign ∷ c .after) else Text.partOf (c .after))
-    kept-is true = text-laid image t base stop tail at p (c .sign ∷ c .after) both
-    kept-is false = text-laid image t base stop tail (at + skipIn image t at) (p + 1) (c .after) rear
+    kept-is true = laid-part image t base stop tail at p (c .sign ∷ c .after) both
+    kept-is false = laid-part image t base stop tail (at + skipIn image t at) (p + 1) (c .after) rear
 
     cut-reads : sidesIn image t base p s tail ≡ readBound is
     cut-reads =
-        join-same (text-laid image t base stop tail r s is h) (text-laid image t base at p r s (c .before) front)
-        (text-laid image t base stop tail (at + skipIn image t at) (p + 1) (c .after) rear)
+        join-same (laid-part image t base stop tail r s is h) (laid-part image t base at p r s (c .before) front)
+        (laid-part image t base stop tail (at + skipIn image t at) (p + 1) (c .after) rear)
         (kept-is (eqb (getD image (t .text + p) 0) 45) ∙ ap (λ n. if n then Text.partOf (c .sign ∷ c .after) else Text.partOf (c .after)) minus-is) minus-is
         ∙ sym (join-is (Text.partOf is) c) ∙ sym (read-some is c q)
 

@@ -22,12 +22,13 @@ use Rattle.stages.specs.declared.token_tree.types.Tree.{Tree}
 use Rattle.stages.specs.declared.ranges.types.Usb.{Usb}
 use Rattle.stages.specs.declared.ranges.types.UsbResult.{UsbResult}
 use Rattle.stages.specs.declared.ranges.types.UsbResult.the-variants as U
-use Rattle.stages.proofs.token_tree.Forests.{inside-laid}
-use Rattle.stages.proofs.token_tree.Places.{laid-first, laid-order, token-by}
-use Rattle.stages.proofs.ranges.sides.Texts.{no-text-is, none-fits, part-fits}
+use Rattle.stages.proofs.token_tree.Insides.{last-inside}
+use Rattle.stages.proofs.token_tree.Places.{laid-first, laid-order, laid-some, token-by}
+use Rattle.stages.proofs.token_tree.Walks.{runs-within}
+use Rattle.stages.proofs.token_tree.Written.{no-text-is, none-fits, laid-part}
+use Rattle.stages.proofs.ranges.sides.Texts.{part-fits}
 use Rattle.stages.proofs.ranges.sides.Ways.{made-new}
 use Rattle.stages.proofs.ranges.bound.AtSign.{read-none, read-some}
-use Rattle.stages.proofs.ranges.bound.Written.{text-laid}
 
 -- ---- over a list
 
@@ -84,7 +85,7 @@ module _ (image : List ℕ) (t : Tree) (base stop e r s : ℕ) (i : Item) (h : L
 
   read-by : readBound (i ∷ [])
       ≡ (if eqb b 43 then ok (Ranges.val (pos 0)) else if eqb b 45 then ok (Ranges.val (pos 0)) else ok (Ranges.text (textIn image t base s e) (pos 0)))
-  read-by = lone-by i (eqb b 43) (eqb b 45) (test-is 43 (omega arith)) (test-is 45 (omega arith)) ∙ rw (← text-laid image t base stop e r s (i ∷ []) h) refl
+  read-by = lone-by i (eqb b 43) (eqb b 45) (test-is 43 (omega arith)) (test-is 45 (omega arith)) ∙ rw (← laid-part image t base stop e r s (i ∷ []) h) refl
 
   pub lone-sign : (u : Usb) → u ≡ zeroBy → t .text ≤ length image → (b ≡ 43) ⊎ (b ≡ 45) → UsbReads image t base (U.Ok u) (readBound (i ∷ []))
   lone-sign u q l k =
@@ -115,10 +116,6 @@ module _ (image : List ℕ) (t : Tree) (base stop tail r s : ℕ) where
   text-ended : Laid image t base stop tail r s [] → s ≡ tail
   unfolding Laid
   text-ended h = h .1
-
-  begun : (i : Item) (is : List Item) → Laid image t base stop tail r s (i ∷ is) → r + 1 ≤ stop
-  unfolding Laid
-  begun i is h = h .0 .room
 
 refused-as : (image : List ℕ) (t : Tree) (base : ℕ) (is : List Item) → parseUsb is ≡ refused 15 0 0 → UsbReads image t base (U.Refused 15) (parseUsb is)
 refused-as image t base is e = record { is = sym e; held = tt }
@@ -161,7 +158,7 @@ module _ (image : List ℕ) (t : Tree) (base stop tail r s : ℕ) (is : List Ite
             ends = text-ended image t base stop tail (r + skipIn image t r) (s + length (i .part .bytes)) k;
           }
       go i (j ∷ rest) e st k =
-          absurd (let m = begun image t base stop tail (r + skipIn image t r) (s + length (i .part .bytes)) j rest k in omega (arith, m, z))
+          absurd (let m = laid-some image t base stop tail (r + skipIn image t r) (s + length (i .part .bytes)) (j ∷ rest) (omega arith) k .1 in omega (arith, m, z))
 
 -- ---- the ways of parse_usb, by what the first record holds
 
@@ -212,17 +209,8 @@ module _ (image : List ℕ) (t : Tree) (base stop tail r s : ℕ) (is : List Ite
 
       pub inner-laid : Laid image t base (stop - 1) (tail - 1) (r + 1) (start + 1) inner
       inner-laid =
-          let g = in-parentheses k in
-          let two = (lone .stands .group g) .two in
-          let long = (lone .stands .group g) .long in
-          let e = lone .ends in
-          let y = skipped z in
-          let a : r + (skipIn image t r - 1) ≡ stop - 1 = omega (arith, two, y) in
-          let b : s + (length (lone .item .part .bytes) - 1) ≡ tail - 1 = omega (arith, long, e) in
           subst (λ x. Laid image t base (stop - 1) (tail - 1) (r + 1) (x + 1) inner) begins
-          (subst (λ x. Laid image t base x (tail - 1) (r + 1) (s + 1) inner) a
-          (subst (λ x. Laid image t base (r + (skipIn image t r - 1)) x (r + 1) (s + 1) inner) b
-          (inside-laid image t base stop r s (lone .item) (lone .stands) g)))
+          (last-inside image t base stop tail r s (lone .item) (lone .stands) (in-parentheses k) (skipped z) (lone .ends))
 
       pub parse-group : (q : UsbResult)
           → ((base : ℕ) (is : List Item) → base ≤ start + 1 → Laid image t base (stop - 1) (tail - 1) (r + 1) (start + 1) is
@@ -239,15 +227,5 @@ pub inner-runs : (image : List ℕ) (t : Tree) (stop tail r s : ℕ) (l : r < st
     (kind start skip : ℕ) → kind ≡ kindIn image t r → start ≡ startIn image t r → skip ≡ skipIn image t r → r + skip ≡ stop → kind ≡ 2
     → Runs image t (stop - 1) (tail - 1) (r + 1) (start + 1)
 inner-runs image t stop tail r s l w kind start skip ek es ep z k =
-    let f = w .fits in
-    let tf = w .text-fits in
-    let ts = w .text-small in
-    record {
-      base = w .base;
-      items = inner image t (w .base) stop tail r s (w .items) l (w .laid) kind start skip ek es ep z k;
-      laid = inner-laid image t (w .base) stop tail r s (w .items) l (w .laid) kind start skip ek es ep z k;
-      fits = omega (arith, f);
-      text-fits = omega (arith, tf);
-      small = w .small;
-      text-small = omega (arith, ts);
-    }
+    runs-within (w .base) (inner image t (w .base) stop tail r s (w .items) l (w .laid) kind start skip ek es ep z k) w (omega arith) (omega arith)
+    (inner-laid image t (w .base) stop tail r s (w .items) l (w .laid) kind start skip ek es ep z k)

@@ -24,11 +24,9 @@ use Rattle.stages.specs.declared.ranges.types.Usbr.{Usbr}
 use Rattle.stages.specs.declared.ranges.types.OptionUsb.{OptionUsb}
 use Rattle.stages.specs.declared.ranges.types.OptionUsb.the-variants as O
 use Rattle.stages.specs.declared.ranges.types.Simplified.the-variants as S
+use Rattle.stages.proofs.Cases.{untrue}
 use Rattle.stages.proofs.ranges.Bounds.{zeroOf}
 use Rattle.stages.proofs.ranges.usbr.Gates.{ends-pass}
-
-untrue : {G : Type 0} → false ≡ true → G
-untrue h = let z : _≡_ {A = ℕ} 0 1 = cc in absurd (omega arith)
 
 -- ---- above a width
 

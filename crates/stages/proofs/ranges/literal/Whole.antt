@@ -1,4 +1,5 @@
 -- The range of a literal: its start, then its end or none; and of a filler.
+use mathlib.Core.Bool.{or-true}
 use mathlib.Core.Path.{_≡_, refl, sym, ap, _∙_, subst}
 use mathlib.Core.Bool.{Bool, true, false, not, _||_}
 use Prim.Native.Nat.{_≤_, _<_}
@@ -26,11 +27,9 @@ use Rattle.stages.specs.declared.ranges.types.OptionUsb.{OptionUsb}
 use Rattle.stages.specs.declared.ranges.types.OptionUsb.the-variants as O
 use Rattle.stages.specs.declared.ranges.types.Simplified.{Simplified}
 use Rattle.stages.specs.declared.ranges.types.Simplified.the-variants as S
+use Rattle.stages.proofs.Cases.{untrue}
 use Rattle.stages.proofs.ranges.Bounds.{val-is, val-fits}
 use Rattle.stages.proofs.ranges.literal.Limits.{limit}
-
-untrue : {G : Type 0} → false ≡ true → G
-untrue h = let z : _≡_ {A = ℕ} 0 1 = cc in absurd (omega arith)
 
 -- ---- the end at the width
 
@@ -131,10 +130,6 @@ module _ (image : List ℕ) (t : Tree) (base : ℕ) (r : Usbr) (w : ℕ) (some-b
 
 abbrev sink : D.Usbr → Bool → Result D.Usbr
 sink v b = need b open-start >>= λ _. ok v
-
-or-true : (b : Bool) → (b || true) ≡ true
-or-true true = refl
-or-true false = refl
 
 module _ (image : List ℕ) (t : Tree) (base : ℕ) (r : Usbr) (x : OptionI128) (m : Measured image t base r x) where
   pub filler-ended : (e : Usb) → r .«end» ≡ O.Some e → SimplifiedReads image t base (S.Ok r x) (fillerRange (usbrOf image t base r))

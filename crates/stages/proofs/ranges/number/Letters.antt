@@ -1,18 +1,16 @@
 -- A text that begins above `9` is no number: no sign, no `0` before a radix, and no decimal digit. A text within the image is a part of it.
+use mathlib.Core.Bool.{and-false}
 use mathlib.Core.Path.{_≡_, refl, ap, _∙_}
 use Prim.Native.Nat.{_≤_, _<_}
 use native.Mathlib.Omega.{arith}
 use lib.ListN.{length-drop}
 use borrow.Author.Tests.{ne-eqb, le-ltb, lt-leb}
-use Rattle.definition.specs.Prelude.{ℕ, zero, suc, _+_, _*_, _-_, Bool, true, false, _&&_, Option, none, some, List, [], _∷_}
+use Rattle.definition.specs.Prelude.{ℕ, zero, suc, _+_, _*_, _-_, Bool, true, false, Option, none, some, List, [], _∷_}
 use Rattle.definition.specs.Prelude.{length, getD, take, drop, leb, ltb, eqb}
 use Rattle.definition.specs.Basics.{if_then_else_, within}
 use Rattle.definition.specs.Numbers.{digitWorth, digitIn, digitsFrom, inner, unsignedParse, tryParse}
 use Rattle.definition.specs.Image.{padded, bytesAt}
-
-and-false : (t : Bool) → (t && false) ≡ false
-and-false true = refl
-and-false false = refl
+use Rattle.stages.proofs.token_tree.Same.{first-on}
 
 -- the worth of a byte above `9`, and a decimal digit's
 worth-above : (b : ℕ) → 57 < b → digitWorth b ≡ (if within 97 102 b then some (10 + (b - 97)) else if within 65 70 b then some (10 + (b - 65)) else none)
@@ -41,13 +39,6 @@ not-number b rest h =
     let plus : eqb b 43 ≡ false = ne-eqb b 43 (λ q. let z : _≡_ {A = ℕ} b 43 = q in omega (arith, z)) in
     let nought : eqb b 48 ≡ false = ne-eqb b 48 (λ q. let z : _≡_ {A = ℕ} b 48 = q in omega (arith, z)) in
     rw (minus, nought, and-false (ltb 2 (suc (length rest))), plus, no-digits b rest h)
-
-first-on : (m k : ℕ) (s : List ℕ) → padded (suc m) (drop k s) ≡ getD s k 0 ∷ padded m (drop (suc k) s)
-unfolding padded
-first-on m zero [] = refl
-first-on m zero (b ∷ s) = refl
-first-on m (suc k) [] = refl
-first-on m (suc k) (b ∷ s) = first-on m k s
 
 whole : (n : ℕ) (s : List ℕ) → n ≤ length s → padded n s ≡ take n s
 unfolding padded

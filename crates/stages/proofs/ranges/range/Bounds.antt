@@ -21,7 +21,7 @@ use Rattle.stages.specs.declared.ranges.types.RangeResult.the-variants a
 use Rattle.stages.specs.declared.ranges.types.OptionUsb.the-variants as O
 use Rattle.stages.proofs.token_tree.Places.{laid-first, laid-none}
 use Rattle.stages.proofs.token_tree.Walks.{runs-order}
-use Rattle.stages.proofs.ranges.range.Texts.{zero-is, zero-fits}
+use Rattle.stages.proofs.ranges.Bounds.{zero-is, zero-fits}
 
 module _ (image : List ℕ) (t : Tree) (base : ℕ) where
   -- an answer by its variant

@@ -2,8 +2,9 @@
 use mathlib.Core.Path.{_≡_, refl, sym, ap, subst, _∙_}
 use Prim.Native.Nat.{_≤_, _<_}
 use native.Mathlib.Omega.{arith}
+use lib.ListN.{take-append-drop, length-drop}
 use lib.Seq.{length-take-le}
-use Rattle.definition.specs.Prelude.{ℕ, zero, suc, _+_, _-_, Bool, true, false, List, [], _∷_, _++_, take, drop, length}
+use Rattle.definition.specs.Prelude.{ℕ, _-_, Bool, true, false, List, [], _∷_, take, drop, length}
 use Rattle.definition.specs.Basics.{refused, _>>=_}
 use Rattle.definition.specs.Text.{Item}
 use Rattle.definition.specs.Ranges.{parseStart, parseRange}
@@ -19,26 +20,12 @@ use Rattle.stages.specs.declared.ranges.types.UsbResult.{UsbResult}
 use Rattle.stages.specs.declared.ranges.types.UsbResult.the-variants as U
 use Rattle.stages.specs.declared.ranges.types.RangeResult.{RangeResult}
 use Rattle.stages.specs.declared.ranges.types.RangeResult.the-variants as R
-use Rattle.stages.proofs.token_tree.Places.{laid-split, laid-order, laid-none}
+use Rattle.stages.proofs.token_tree.Places.{laid-split, laid-order, laid-none, laid-some}
+use Rattle.stages.proofs.token_tree.Walks.{runs-within}
 use Rattle.stages.proofs.ranges.range.Bounds.{reads-ok, reads-refused}
 use Rattle.stages.proofs.ranges.range.Dotted.{RangeBy, RangeCut, range-by}
 
-take-drop : (n : ℕ) (l : List Item) → take n l ++ drop n l ≡ l
-take-drop zero l = refl
-take-drop (suc n) [] = refl
-take-drop (suc n) (x ∷ l) = ap (λ (r : List Item). x ∷ r) (take-drop n l)
-
-drop-length : (n : ℕ) (l : List Item) → n ≤ length l → length (drop n l) ≡ length l - n
-drop-length zero l h = omega arith
-drop-length (suc n) [] h = absurd (omega (arith, h))
-drop-length (suc n) (x ∷ l) h = let k = drop-length n l (omega (arith, h)) in omega (arith, k)
-
 module _ (image : List ℕ) (t : Tree) (base stop tail : ℕ) where
-  laid-some : (r s : ℕ) (l : List Item) → 1 ≤ length l → Laid image t base stop tail r s l → (startIn image t r ≡ s) × (r + 1 ≤ stop)
-  unfolding Laid
-  laid-some r s [] n h = absurd (omega (arith, n))
-  laid-some r s (x ∷ l) n h = (h .0 .start, h .0 .room)
-
   laid-length : (r s : ℕ) (l : List Item) → (r ≡ stop → ⊥) → Laid image t base stop tail r s l → 1 ≤ length l
   unfolding Laid
   laid-length r s [] z h = absurd (z (h .0))
@@ -53,7 +40,7 @@ module _ (image : List ℕ) (t : Tree) (base stop tail : ℕ) where
 
     pub cut-at : (n place : ℕ) → place ≡ placeOf image t r n → n ≤ length is → CutAt n place
     cut-at n place e l =
-        let p = laid-split image t base stop tail r s (take n is) (drop n is) (subst (Laid image t base stop tail r s) (sym (take-drop n is)) h) in
+        let p = laid-split image t base stop tail r s (take n is) (drop n is) (subst (Laid image t base stop tail r s) (sym (take-append-drop n is)) h) in
         let q : placeOf image t r (length (take n is)) ≡ place = ap (placeOf image t r) (length-take-le n is l) ∙ sym e in
         record {
           from = p .from;
@@ -62,10 +49,10 @@ module _ (image : List ℕ) (t : Tree) (base stop tail : ℕ) where
         }
 
     -- the item there
-    pub cut-start : (n place : ℕ) → n < length is → (c : CutAt n place) → (startIn image t place ≡ c .from) × (place + 1 ≤ stop)
+    pub cut-start : (n place : ℕ) → n < length is → (c : CutAt n place) → (startIn image t place ≡ c .from) × (place < stop)
     cut-start n place l c =
-        let k = drop-length n is (omega (arith, l)) in
-        laid-some place (c .from) (drop n is) (omega (arith, k, l)) (c .after)
+        let k = length-drop n is in
+        laid-some image t base stop tail place (c .from) (drop n is) (omega (arith, k, l)) (c .after)
 
     cut-before : (n place : ℕ) → place ≡ placeOf image t r n → n < length is → Laid image t base place (startIn image t place) r s (take n is)
     cut-before n place e l =
@@ -136,23 +123,9 @@ module _ (image : List ℕ) (t : Tree) (run : Run) (d : Dots) (some : run .r .0 
       record {
         at-lo = record { room = omega (arith, f .1, h .fits); small = h .small };
         s-before = s;
-        before = record {
-          base = h .base;
-          items = take (c .places .0) (h .items);
-          laid = subst (λ v. Laid image t (h .base) (d .lo .0) v (run .r .0) s (take (c .places .0) (h .items))) (sym e) (x .before);
-          fits = omega (arith, f .1, h .fits);
-          text-fits = omega (arith, e, o .1, h .text-fits);
-          small = h .small;
-          text-small = omega (arith, e, o .1, h .text-small);
-        };
+        before =
+            runs-within (h .base) (take (c .places .0) (h .items)) h (omega (arith, f .1)) (omega (arith, e, o .1))
+            (subst (λ v. Laid image t (h .base) (d .lo .0) v (run .r .0) s (take (c .places .0) (h .items))) (sym e) (x .before));
         s-after = y .from;
-        after = record {
-          base = h .base;
-          items = drop (c .places .1) (h .items);
-          laid = y .after;
-          fits = h .fits;
-          text-fits = h .text-fits;
-          small = h .small;
-          text-small = h .text-small;
-        };
+        after = runs-within (h .base) (drop (c .places .1) (h .items)) h (omega arith) (omega arith) (y .after);
       }

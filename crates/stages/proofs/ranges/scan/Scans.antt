@@ -1,5 +1,5 @@
 -- The scan for dots: one step, its end, and what the loop keeps.
-use mathlib.Core.Path.{_≡_, refl, sym, ap, subst, _∙_}
+use mathlib.Core.Path.{_≡_, refl, sym, ap, _∙_}
 use mathlib.Core.List.{append-assoc, append-nil}
 use Prim.Native.Nat.{_≤_, _<_}
 use native.Mathlib.Numerals.{add-one}
@@ -16,7 +16,7 @@ use Rattle.stages.specs.token_tree.Table.{skipIn, singleOf, startOr}
 use Rattle.stages.specs.ranges.Dots.{refusedDots, foundBy, dottedBy, undottedBy, scannedBy, endedBy, dotsOf, dotsResult, dotsIn}
 use Rattle.stages.specs.declared.token_tree.types.Tree.{Tree}
 use Rattle.stages.specs.declared.ranges.scan.Dots.{Dots}
-use Rattle.stages.proofs.token_tree.Places.{place-first, place-suc, laid-first, laid-none, laid-start, token-by}
+use Rattle.stages.proofs.token_tree.Places.{place-first, place-suc, laid-none, laid-next, laid-from}
 
 abbrev stateOf : ℕ → Option (ℕ × ℕ) → Bool → Scan
 stateOf d o b = record { dots = d; found = o; inclusive = b }
@@ -114,14 +114,13 @@ module _ (image : List ℕ) (t : Tree) (base stop tail e : ℕ) where
   pub scanning-start : (s u : ℕ) (is : List Item) (d : Dots) → d ≡ refusedDots 0 → u ≡ startOr image t e stop tail → Laid image t base stop tail e s is
       → Scanning is d e u
   scanning-start s u is d p q h =
-      let k : s ≡ u = laid-start image t base stop tail e s is h ∙ sym q in
       record {
         passed = [];
         rest = is;
         st = stateOf 0 none false;
         parts = refl;
         here = sym (place-first image t e);
-        laid = subst (λ x. Laid image t base stop tail e x is) k h;
+        laid = laid-from image t base stop tail e s u is q h;
         state = p;
         few = omega arith;
         result = refl;
@@ -177,20 +176,14 @@ module _ (image : List ℕ) (t : Tree) (base stop tail e : ℕ) where
   pub scanning-next : (is : List Item) (d d′ : Dots) (at next s u b : ℕ) → Scanning is d at s → at < stop → next ≡ at + skipIn image t at
       → u ≡ startOr image t next stop tail → b ≡ singleOf image (t .text + s) (u - s) → d′ ≡ scannedBy d at next b → After is d′ next u
   scanning-next is d d′ at next s u b h l en et eb ed =
-      let f = laid-first image t base stop tail at s (h .rest) l (h .laid) in
+      let f = laid-next image t base stop tail at s next u (h .rest) l en et (h .laid) in
       let i : Item = f .item in
       let n : ℕ = length (h .passed) in
-      let v : ℕ = s + length (i .part .bytes) in
       let pl : at ≡ placeOf image t e n = h .here in
       let pn : next ≡ placeOf image t e (suc n) = en ∙ ap (λ (x : ℕ). x + skipIn image t x) pl ∙ sym (place-suc image t e n) in
-      let ld : Laid image t base stop tail next v (f .rest) = subst (λ x. Laid image t base stop tail x v (f .rest)) (sym en) (f .laid) in
-      let ts : u ≡ v = et ∙ sym (laid-start image t base stop tail next v (f .rest) ld) in
-      let token : (c : ℕ) → 0 < c → isToken c i ≡ eqb b c =
-      λ c pos. token-by image t base c at s stop u i pos (f .stands) ts ∙ ap (λ x. eqb x c) (sym eb) in
-      go-on is (h .passed) i (f .rest) next u d′ (scanStep n i (h .st)) (h .parts ∙ ap (λ r. h .passed ++ r) (f .parts)) pn
-      (subst (λ x. Laid image t base stop tail next x (f .rest)) (sym ts) ld)
+      go-on is (h .passed) i (f .rest) next u d′ (scanStep n i (h .st)) (h .parts ∙ ap (λ r. h .passed ++ r) (f .parts)) pn (f .laid)
       (h .result ∙ ap (λ r. scanFrom n r (h .st)) (f .parts) ∙ scan-cons n i (f .rest) (h .st))
       (ed ∙ ap (λ x. scannedBy x at next b) (h .state) ∙ ap (λ x. scannedBy (dotsOf image t e n (h .st)) x next b) pl
       ∙ ap (λ x. scannedBy (dotsOf image t e n (h .st)) (placeOf image t e n) x b) pn
-      ∙ step-is image t e n (h .st) i b (token 46 (omega arith)) (token 61 (omega arith)))
+      ∙ step-is image t e n (h .st) i b (f .token 46 b (omega arith) eb) (f .token 61 b (omega arith) eb))
       (step-numbered n i (h .st) (h .few))

@@ -21,11 +21,9 @@ use Rattle.stages.specs.declared.token_tree.types.Tree.{Tree}
 use Rattle.stages.specs.declared.ranges.types.Usb.{Usb}
 use Rattle.stages.specs.declared.ranges.types.UsbResult.{UsbResult}
 use Rattle.stages.specs.declared.ranges.types.UsbResult.the-variants as U
-use Rattle.stages.proofs.ranges.sides.Texts.{no-text-is, none-fits, part-fits}
-
-pub zero-is : valueOf zeroI ≡ pos 0
-unfolding valueOf
-zero-is = refl
+use Rattle.stages.proofs.token_tree.Written.{no-text-is, none-fits}
+use Rattle.stages.proofs.ranges.Bounds.{zero-value}
+use Rattle.stages.proofs.ranges.sides.Texts.{part-fits}
 
 -- the number of a side that was read
 number-is : (q : OptionI128) (v : I128) {m : Option ℤ} → optionOf q ≡ m → q ≡ I.Some v → m ≡ some (valueOf v)
@@ -78,7 +76,7 @@ module _ (image : List ℕ) (t : Tree) (base : ℕ) where
   pub made-new : (s : Part) (u : Usb) {m : Result Ranges.Usb} → u ≡ newBy s → PartFits image t base s
       → ok (Ranges.text (partOf image t base s) (pos 0)) ≡ m → UsbReads image t base (U.Ok u) m
   made-new s u {m} q f e =
-      rw q (made s zeroI f (omega arith) (omega arith) (ap (λ z. ok (Ranges.text (partOf image t base s) z)) zero-is ∙ e))
+      rw q (made s zeroI f (omega arith) (omega arith) (ap (λ z. ok (Ranges.text (partOf image t base s) z)) zero-value ∙ e))
 
   -- ---- with_x
 
@@ -111,7 +109,7 @@ module _ (image : List ℕ) (t : Tree) (base : ℕ) where
         let f : PartFits image t base part = rw g (part-fits image t base s p b) in
         subst (λ m. UsbReads image t base q m)
         (bound-is (partOf image t base part) (textIn image t base s p) (optionOf j) (summed negative (pos 0) (valueOf r)) (ap (partOf image t base) g)
-        (k ∙ ap (λ v. narrow (summed negative v (valueOf r))) (ap valueOf z ∙ zero-is))
+        (k ∙ ap (λ v. narrow (summed negative v (valueOf r))) (ap valueOf z ∙ zero-value))
         ∙ ap (λ u. movedBy u negative (valueOf r)) (sym (side-text (textIn image t base s p) (number-none l e h)))) (w f)
 
   -- ---- text_right

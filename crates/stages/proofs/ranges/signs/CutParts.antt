@@ -1,22 +1,16 @@
 -- A cut has the items before its sign, the sign, which is a token of one character, and the items behind it.
 use mathlib.Core.Path.{_≡_, refl, ap}
 use mathlib.Core.Logic.{_⊎_, inl, inr}
-use native.Mathlib.Omega.{arith}
-use Rattle.definition.specs.Prelude.{ℕ, Bool, true, false, _&&_, Option, none, some, List, [], _∷_, _++_}
+use Rattle.definition.specs.Prelude.{Bool, true, false, _&&_, Option, none, some, List, [], _∷_, _++_}
 use Rattle.definition.specs.Basics.{if_then_else_}
 use Rattle.definition.specs.Text.{Item, isToken}
 use Rattle.definition.specs.Ranges.{Cut, behind, beginsWith, cutLast, cutPair, cutBound, orElse}
 use Rattle.laws.specs.Tests.{and-iff}
+use Rattle.stages.proofs.Cases.{none-some, some-is}
 
 pub record Parts (p : Item → Bool) (is : List Item) (c : Cut) : Type 0 where
   pub parts : is ≡ c .before ++ (c .sign ∷ c .after)
   pub sign : p (c .sign) ≡ true
-
-no-cut : {G : Type 0} {c : Cut} → none ≡ some c → G
-no-cut {c = c} e = let z : _≡_ {A = ℕ} 0 1 = cc e in absurd (omega (arith, z))
-
-the-cut : {a c : Cut} → some a ≡ some c → a ≡ c
-the-cut e = cc e
 
 module _ (p : Item → Bool) (i : Item) (rest : List Item) where
   abbrev here : Cut
@@ -26,28 +20,28 @@ module _ (p : Item → Bool) (i : Item) (rest : List Item) where
   found c t e = rw (← e) record { parts = refl; sign = t }
 
   later : (d c : Cut) → Parts p rest d → behind i (some d) ≡ some c → Parts p (i ∷ rest) c
-  later d c h e = rw (← the-cut e) record { parts = ap (λ (l : List Item). i ∷ l) (h .parts); sign = h .sign }
+  later d c h e = rw (← some-is e) record { parts = ap (λ (l : List Item). i ∷ l) (h .parts); sign = h .sign }
 
   last-here : (c : Cut) (o : Option Cut) → ((d : Cut) → o ≡ some d → Parts p rest d) → (t : Bool) → p i ≡ t
       → elim o [ some d ↦ behind i (some d) | none ↦ if t then some here else none ] ≡ some c → Parts p (i ∷ rest) c
   last-here c (some d) f t q e = later d c (f d refl) e
-  last-here c none f true q e = found c q (the-cut e)
-  last-here c none f false q e = no-cut e
+  last-here c none f true q e = found c q (some-is e)
+  last-here c none f false q e = none-some e
 
   pair-here : (c : Cut) (o : Option Cut) → ((d : Cut) → o ≡ some d → Parts p rest d) → (t : Bool) → (t ≡ true → p i ≡ true)
       → (if t then some here else behind i o) ≡ some c → Parts p (i ∷ rest) c
-  pair-here c o f true q e = found c (q refl) (the-cut e)
+  pair-here c o f true q e = found c (q refl) (some-is e)
   pair-here c (some d) f false q e = later d c (f d refl) e
-  pair-here c none f false q e = no-cut e
+  pair-here c none f false q e = none-some e
 
 last-parts : (p : Item → Bool) (is : List Item) (c : Cut) → cutLast p is ≡ some c → Parts p is c
 unfolding cutLast
-last-parts p [] c e = no-cut e
+last-parts p [] c e = none-some e
 last-parts p (i ∷ rest) c e = last-here p i rest c (cutLast p rest) (λ d. last-parts p rest d) (p i) refl e
 
 pair-parts : (is : List Item) (c : Cut) → cutPair is ≡ some c → Parts (isToken 45) is c
 unfolding cutPair
-pair-parts [] c e = no-cut e
+pair-parts [] c e = none-some e
 pair-parts (i ∷ rest) c e =
     pair-here (isToken 45) i rest c (cutPair rest) (λ d. pair-parts rest d) (isToken 45 i && beginsWith (isToken 45) rest)
     (λ t. (and-iff (isToken 45 i) (beginsWith (isToken 45) rest)) .0 t .0) e

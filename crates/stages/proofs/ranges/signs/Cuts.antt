@@ -1,7 +1,8 @@
 -- The cuts of a list of items, found from the left: what was found in the items passed, and what the others still give.
+use mathlib.Core.Bool.{and-false}
 use mathlib.Core.Path.{_≡_, refl, sym, ap, _∙_}
 use mathlib.Core.List.{append-assoc, append-nil}
-use Rattle.definition.specs.Prelude.{Bool, true, false, _&&_, Option, none, some, List, [], _∷_, _++_}
+use Rattle.definition.specs.Prelude.{Bool, true, false, Option, none, some, List, [], _∷_, _++_}
 use Rattle.definition.specs.Basics.{if_then_else_}
 use Rattle.definition.specs.Characters.{char}
 use Rattle.definition.specs.Text.{Item, isToken}
@@ -72,10 +73,6 @@ both j i rest f g = rw (f, g)
 one-not : (i : Item) (rest : List Item) → minus i ≡ false → cutPair (i ∷ rest) ≡ behind i (cutPair rest)
 unfolding cutPair
 one-not i rest h = rw h
-
-and-false : (t : Bool) → (t && false) ≡ false
-and-false true = refl
-and-false false = refl
 
 apart : (j i : Item) (rest : List Item) → minus i ≡ false → cutPair (j ∷ i ∷ rest) ≡ behind j (cutPair (i ∷ rest))
 unfolding cutPair

@@ -17,8 +17,8 @@ use Rattle.stages.specs.token_tree.Table.{skipIn, singleOf, startOr}
 use Rattle.stages.specs.ranges.Signs.{pairedBy, signsBy, signedBy, cutOf, cutPlace, signsIn}
 use Rattle.stages.specs.declared.token_tree.types.Tree.{Tree}
 use Rattle.stages.specs.declared.ranges.signs.Signs.{Signs}
-use Rattle.stages.proofs.token_tree.Places.{place-above, place-first, place-suc, laid-order, laid-first, laid-none, laid-start, token-by}
-use Rattle.stages.proofs.ranges.signs.Cuts.{ahead, ahead-none, resume, Fresh, cutHere, last-step, pair-step, last-done, pair-done}
+use Rattle.stages.proofs.token_tree.Places.{place-above, place-first, place-suc, laid-order, laid-none, laid-next, laid-from}
+use Rattle.stages.proofs.ranges.signs.Cuts.{ahead, ahead-none, or-none, resume, Fresh, cutHere, last-step, pair-step, last-done, pair-done}
 
 module _ (image : List ℕ) (t : Tree) (e : ℕ) where
   -- the minus just passed, if it was one
@@ -50,10 +50,6 @@ module _ (image : List ℕ) (t : Tree) (base stop tail e : ℕ) where
     pub minus-is : g .minus .0 ≡ cutPlace image t e minus
     pub prev-is : PrevIs image t e g at prev
     pub low : g .minus .0 + 1 ≤ at
-
-or-none : (o : Option Cut) → orElse o none ≡ o
-or-none none = refl
-or-none (some c) = refl
 
 first-last : (c : ℕ) (is : List Item) → cutLast (isToken c) is ≡ orElse (ahead [] (cutLast (isToken c) is)) none
 first-last c is = sym (or-none (ahead [] (cutLast (isToken c) is)) ∙ ahead-none (cutLast (isToken c) is))
@@ -101,7 +97,6 @@ module _ (image : List ℕ) (t : Tree) (base stop tail e : ℕ) (above : 1 ≤ e
   pub signing-start : (s u : ℕ) (is : List Item) (g : Signs) → g ≡ signsBy 0 0 0 → u ≡ startOr image t e stop tail
       → Laid image t base stop tail e s is → Signing image t base stop tail e is g e u
   signing-start s u is g p q h =
-      let k : s ≡ u = laid-start image t base stop tail e s is h ∙ sym q in
       record {
         passed = [];
         rest = is;
@@ -111,7 +106,7 @@ module _ (image : List ℕ) (t : Tree) (base stop tail e : ℕ) (above : 1 ≤ e
         prev = none;
         parts = refl;
         here = sym (place-first image t e);
-        laid = subst (λ x. Laid image t base stop tail e x is) k h;
+        laid = laid-from image t base stop tail e s u is q h;
         plus-at = first-last 43 is;
         minus-at = first-last 45 is;
         pair-at = sym (ahead-none (cutPair is));
@@ -147,17 +142,11 @@ module _ (image : List ℕ) (t : Tree) (base stop tail e : ℕ) (above : 1 ≤ e
       (eb : b ≡ singleOf image (t .text + s) (u - s)) (eg : g′ ≡ signedBy g at b) where
     pub signing-next : Signing image t base stop tail e is g′ next u
     signing-next =
-        let f = laid-first image t base stop tail at s (h .rest) l (h .laid) in
+        let f = laid-next image t base stop tail at s next u (h .rest) l en et (h .laid) in
         let i : Item = f .item in
         let n : ℕ = length (h .passed) in
         let pn : next ≡ placeOf image t e (suc n) = en ∙ ap (λ (x : ℕ). x + skipIn image t x) (h .here) ∙ sym (place-suc image t e n) in
-        let ld : Laid image t base stop tail next (s + length (i .part .bytes)) (f .rest) =
-        subst (λ x. Laid image t base stop tail x (s + length (i .part .bytes)) (f .rest)) (sym en) (f .laid) in
-        let ts : u ≡ s + length (i .part .bytes) = et ∙ sym (laid-start image t base stop tail next (s + length (i .part .bytes)) (f .rest) ld) in
-        let lt : Laid image t base stop tail next u (f .rest) = subst (λ x. Laid image t base stop tail next x (f .rest)) (sym ts) ld in
-        let plus-token : isToken 43 i ≡ eqb b 43 = token-by image t base 43 at s stop u i (omega arith) (f .stands) ts ∙ ap (λ x. eqb x 43) (sym eb) in
-        let minus-token : isToken 45 i ≡ eqb b 45 = token-by image t base 45 at s stop u i (omega arith) (f .stands) ts ∙ ap (λ x. eqb x 45) (sym eb) in
-        go i (f .rest) (f .parts) (f .stands) pn lt plus-token minus-token
+        go i (f .rest) (f .parts) (f .stands) pn (f .laid) (f .token 43 b (omega arith) eb) (f .token 45 b (omega arith) eb)
       where
         go : (i : Item) (rest : List Item) → h .rest ≡ i ∷ rest → Stands image t base stop at s i → next ≡ placeOf image t e (suc (length (h .passed)))
             → Laid image t base stop tail next u rest → isToken 43 i ≡ eqb b 43 → isToken 45 i ≡ eqb b 45 → Signing image t base stop tail e is g′ next u

@@ -1,7 +1,7 @@
 use borrow.Author.Needs.{needs}
 use native.Mathlib.Omega.{arith}
-use mathlib.Core.Path.{sym, _∙_}
-use Rattle.stages.proofs.answer.merging.Stored.{row-at, row-fits, static-at, bits-at, is-static, not-static, static-kind}
+use Rattle.stages.proofs.component.Rows.{row-at, row-fits}
+use Rattle.stages.proofs.answer.merging.Stored.{static-at, bits-at, is-static, not-static, static-kind}
 use Rattle.stages.proofs.answer.merging.Steps.{to-close, other-step, static-step}
 use Rattle.stages.proofs.answer.merging.put.Statement.{statement}
 use Rattle.stages.proofs.answer.merging.put.Tie as tie
@@ -37,7 +37,7 @@ lengthen-requires : tie.Need-lengthen-requires
 lengthen-requires c κs =
     let a = c .before .before .before .before .before .before .before .before .args in
     let (d, cs, is, fixed, room) = c .before .before .before .before .before .before .before .before .pre in
-    let at = row-at (a .image .now) (a .words .now) (a .k) d is in
+    let at = row-at is in
     let t = is-static _ _ (static-at (a .image .now) (a .words .now) (a .k) d at) (c .before .before .before .if1 .taken) in
     let b = bits-at (a .image .now) (a .words .now) (a .k) d at (static-kind (d .value) t) in
     (b .room, b .order)
@@ -47,7 +47,7 @@ returns c =
     let a = c .before .before .before .before .before .before .before .before .before .before .before .args in
     let l = c .before .before .lengthen in
     λ d is fixed.
-    let at = row-at (a .image .now) (a .words .now) (a .k) d is in
+    let at = row-at is in
     let t = is-static _ _ (static-at (a .image .now) (a .words .now) (a .k) d at) (c .before .before .before .before .before .before .if1 .taken) in
     let b = bits-at (a .image .now) (a .words .now) (a .k) d at (static-kind (d .value) t) in
     static-step d (a .area .now) (a .s) (a .image .now) (a .words .now) (a .k) (l .result) _ t b (l .ensures)
@@ -56,7 +56,7 @@ put-other-requires : tie.Need-put-other-requires
 put-other-requires c κs =
     let a = c .before .before .before .before .before .before .args in
     let (d, cs, is, fixed, room) = c .before .before .before .before .before .before .pre in
-    let at = row-at (a .image .now) (a .words .now) (a .k) d is in
+    let at = row-at is in
     let t = not-static _ _ (static-at (a .image .now) (a .words .now) (a .k) d at) (c .before .if1 .left) in
     (d, _, is, fixed, to-close (a .area .now) (a .s) d cs t room, t)
 
@@ -64,7 +64,7 @@ returns-2 : tie.Need-returns-2
 returns-2 c =
     let a = c .before .before .before .before .before .before .before .before .before .args in
     λ d is fixed.
-    let at = row-at (a .image .now) (a .words .now) (a .k) d is in
+    let at = row-at is in
     let t = not-static _ _ (static-at (a .image .now) (a .words .now) (a .k) d at) (c .before .before .before .before .if1 .left) in
     other-step d (a .area .now) (a .s) (c .before .before .put-other .result) _ t (c .before .before .put-other .ensures d is fixed t)
 

@@ -1,7 +1,8 @@
 use borrow.Author.Needs.{needs}
 use native.Mathlib.Omega.{arith}
 use mathlib.Core.Path.{sym, _∙_}
-use Rattle.stages.proofs.answer.merging.Stored.{row-at, row-fits, kind-at, bits-at}
+use Rattle.stages.proofs.component.Rows.{row-at, row-fits}
+use Rattle.stages.proofs.answer.merging.Stored.{kind-at, bits-at}
 use Rattle.stages.proofs.answer.merging.Steps.{open-room, open-other}
 use Rattle.stages.proofs.answer.merging.put_open_literal.Statement.{statement}
 use Rattle.stages.proofs.answer.merging.put_open_literal.Tie as tie
@@ -31,7 +32,7 @@ lengthen-requires : tie.Need-lengthen-requires
 lengthen-requires c κs =
     let a = c .before .before .before .before .before .before .args in
     let (d, ms, is, fixed, room, other, rests, kind) = c .before .before .before .before .before .before .pre in
-    let at = row-at (a .image .now) (a .words .now) (a .k) d is in
+    let at = row-at is in
     let b = bits-at (a .image .now) (a .words .now) (a .k) d at (sym (kind-at (a .image .now) (a .words .now) (a .k) d at) ∙ kind) in
     (b .room, b .order)
 
@@ -40,19 +41,17 @@ put-open-requires c κs =
     let a = c .before .before .before .before .before .before .before .before .before .before .before .before .before .args in
     let (d, ms, is, fixed, room, other, rests, kind) = c .before .before .before .before .before .before .before .before .before .before .before .before .before .pre in
     let l = c .before .before .before .before .before .before .lengthen in
-    let at = row-at (a .image .now) (a .words .now) (a .k) d is in
-    let b = bits-at (a .image .now) (a .words .now) (a .k) d at (sym (kind-at (a .image .now) (a .words .now) (a .k) d at) ∙ kind) in (
-      at .fits,
-      open-room d (a .image .now) (a .words .now) (a .k) at b ms (a .s) (l .result) (a .area .now) _ rests (fixed .bits) room
-          (l .ensures) (l .kept .0),
-    )
+    let at = row-at is in
+    let b = bits-at (a .image .now) (a .words .now) (a .k) d at (sym (kind-at (a .image .now) (a .words .now) (a .k) d at) ∙ kind) in
+    (row-fits is, open-room d (a .image .now) (a .words .now) (a .k) at b ms (a .s) (l .result) (a .area .now) _ rests (fixed .bits) room
+    (l .ensures) (l .kept .0))
 
 returns : tie.Need-returns
 returns c =
     let a = c .before .before .before .before .before .before .before .before .before .before .before .before .before .before .before .before .before .args in
     let l = c .before .before .before .before .before .before .before .before .before .before .lengthen in
     λ rests d is fixed other kind.
-    let at = row-at (a .image .now) (a .words .now) (a .k) d is in
+    let at = row-at is in
     let one = sym (kind-at (a .image .now) (a .words .now) (a .k) d at) ∙ kind in
     let b = bits-at (a .image .now) (a .words .now) (a .k) d at one in
     open-other d (a .image .now) (a .words .now) (a .k) at b (a .s) (l .result) (c .behind .result) (a .area .now) _ _

@@ -1,7 +1,8 @@
 use borrow.Author.Needs.{needs}
 use native.Mathlib.Omega.{arith}
-use mathlib.Core.Path.{sym, _∙_}
-use Rattle.stages.proofs.answer.merging.Stored.{row-at, row-fits, kind-at}
+use mathlib.Core.Path.{_∙_}
+use Rattle.stages.proofs.component.Rows.{row-at, row-fits}
+use Rattle.stages.proofs.answer.merging.Stored.{kind-at}
 use Rattle.stages.proofs.answer.merging.Steps.{closed-rests, rest-room, other-one, plain-other}
 use Rattle.stages.proofs.answer.merging.put_other.Statement.{statement}
 use Rattle.stages.proofs.answer.merging.put_other.Tie as tie
@@ -48,7 +49,7 @@ returns-2 c =
     let long = k .kept .0 in
     let small = c .before .before .before .before .before .before .before .before .before .before .before .before .before .before .before .good .0 .0 in
     λ d is fixed other.
-    let at = row-at (a .image .now) (a .words .now) (a .k) d is in
+    let at = row-at is in
     other-one d (a .s) (k .result) (c .behind .result) (a .area .now) _ _ (k .ensures)
     (plain-other d (a .image .now) (a .words .now) (a .k) at (k .result) (c .behind .result) _ _ (omega arith) rests
     (λ e. c .before .before .before .before .before .before .if1 .left (kind-at (a .image .now) (a .words .now) (a .k) d at ∙ e)) (c .before .before .before .put-plain .ensures) (c .behind .ensures))

@@ -1,12 +1,9 @@
 use mathlib.Core.Path.{refl, sym, _∙_}
-use Rattle.stages.proofs.component.read.Verdicts.{second-stays, passed}
+use Rattle.stages.proofs.Cases.{passed}
+use Rattle.stages.proofs.component.read.Verdicts.{second-stays}
 use borrow.Author.Needs.{needs}
 use Rattle.stages.proofs.component.read.second_of.Statement.{statement}
 use Rattle.stages.proofs.component.read.second_of.Tie as tie
-use Rattle.stages.proofs.component.read.second_of.Reads as reads
-use Rattle.stages.proofs.component.read.second_of.Lts as lts
-use Rattle.stages.proofs.component.read.is_refused.Reads as is-refused-reads
-use Rattle.stages.proofs.component.read.refused.Reads as refused-reads
 
 -- src/component/read.rt:96:8
 is-refused-requires : tie.Need-is-refused-requires

@@ -1,14 +1,13 @@
 -- The loop keeps what Colons says.
-use mathlib.Core.Path.{_≡_, refl, sym, _∙_}
+use mathlib.Core.Path.{refl}
 use mathlib.Core.List.{List}
-use Prim.Native.Nat.{ℕ, _+_, _-_, _≤_, _<_}
+use Prim.Native.Nat.{ℕ, _-_}
 use native.Mathlib.Omega.{arith}
 use borrow.Author.Needs.{needs}
 use denote.Ref.{now}
 use Rattle.definition.specs.Text.{Item}
 use Rattle.stages.specs.token_tree.Laid.{Laid, Runs}
-use Rattle.stages.proofs.token_tree.Lasts.{record-fits}
-use Rattle.stages.proofs.token_tree.Walks.{runs-start, runs-order, runs-next}
+use Rattle.stages.proofs.token_tree.Walks.{runs-start, runs-order, runs-next, record-fits}
 use Rattle.stages.proofs.component.start.Colons.{Seeing, seeing-start, seeing-end, seeing-colon, seeing-other, seeing-found}
 use Rattle.stages.proofs.component.start.colon_in.Statement.{statement}
 use Rattle.stages.proofs.component.start.colon_in.Tie as tie

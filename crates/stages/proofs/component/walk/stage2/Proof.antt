@@ -1,21 +1,16 @@
 -- The loop stands where Whole says.
 use mathlib.Core.Path.{_≡_, refl, sym, ap, _∙_}
-use Prim.Native.Nat.{_+_, _-_, _*_, _≤_, _<_}
+use Prim.Native.Nat.{_-_}
 use native.Mathlib.Omega.{arith}
 use borrow.Author.Needs.{needs}
 use lib.ListN.{length}
 use Rattle.definition.specs.Image.{counts}
 use Rattle.stages.specs.declared.token_tree.types.Tables.{Tables}
 use Rattle.stages.proofs.token_tree.Trees.{counts-fit}
-use Rattle.stages.proofs.component.read.Verdicts.{passed}
+use Rattle.stages.proofs.Cases.{passed}
 use Rattle.stages.proofs.component.walk.Whole.{Stands, stands-start, stands-end, next-standing, all-refused, stands-next}
 use Rattle.stages.proofs.component.walk.stage2.Statement.{statement}
 use Rattle.stages.proofs.component.walk.stage2.Tie as tie
-use Rattle.stages.proofs.component.walk.stage2.Reads as reads
-use Rattle.stages.proofs.component.walk.stage2.Lts as lts
-use Rattle.stages.proofs.component.read.is_refused.Reads as is-refused-reads
-use Rattle.stages.proofs.component.walk.turns.Reads as turns-reads
-use Rattle.stages.proofs.token_tree.table.components_of.Reads as components-of-reads
 
 abbrev Inv-loop : tie.InvT-loop
 Inv-loop words₀ image t after w₀ i₀ words w i = (length words ≡ length words₀) × Stands image t (after .0) i w words

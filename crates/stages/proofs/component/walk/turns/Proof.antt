@@ -1,7 +1,7 @@
 -- The loop keeps what Going says.
 use mathlib.Core.Path.{_≡_, refl, sym, subst, _∙_}
 use mathlib.Core.List.{List, _++_}
-use Prim.Native.Nat.{ℕ, _+_, _-_, _*_, _≤_, _<_}
+use Prim.Native.Nat.{ℕ, _+_, _-_, _≤_}
 use native.Mathlib.Omega.{arith}
 use borrow.Author.Needs.{needs}
 use lib.ListN.{length}
@@ -11,14 +11,10 @@ use Rattle.definition.specs.Tree.{Node}
 use Rattle.errors.specs.Refused.{resultOf}
 use Rattle.stages.specs.token_tree.Rows.{Rows}
 use Rattle.stages.specs.component.Start.{AfterIn}
-use Rattle.stages.proofs.component.read.Verdicts.{passed}
+use Rattle.stages.proofs.Cases.{passed}
 use Rattle.stages.proofs.component.walk.Going.{Stands, next-standing, fits-here, stands-next, Going, going-start, going-end, going-refused, going-next}
 use Rattle.stages.proofs.component.walk.turns.Statement.{statement}
 use Rattle.stages.proofs.component.walk.turns.Tie as tie
-use Rattle.stages.proofs.component.walk.turns.Reads as reads
-use Rattle.stages.proofs.component.walk.turns.Lts as lts
-use Rattle.stages.proofs.component.read.is_refused.Reads as is-refused-reads
-use Rattle.stages.proofs.component.walk.turn.Reads as turn-reads
 
 abbrev Inv-loop : tie.InvT-loop
 Inv-loop words₀ image t after i n w₀ j₀ words w j =

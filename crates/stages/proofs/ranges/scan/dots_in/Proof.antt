@@ -7,8 +7,7 @@ use borrow.Author.Needs.{needs}
 use Rattle.definition.specs.Text.{Item}
 use Rattle.stages.specs.token_tree.Laid.{Laid, Runs}
 use Rattle.stages.proofs.ranges.scan.Scans.{Scanning, scanning-start, scanning-next, scanning-end, scanning-few}
-use Rattle.stages.proofs.token_tree.Walks.{runs-start, runs-order, runs-next}
-use Rattle.stages.proofs.ranges.scan.Steps.{run-record, run-behind}
+use Rattle.stages.proofs.token_tree.Walks.{runs-start, runs-order, runs-next, record-fits}
 use Rattle.stages.proofs.ranges.scan.dots_in.Statement.{statement}
 use Rattle.stages.proofs.ranges.scan.dots_in.Tie as tie
 
@@ -26,7 +25,7 @@ start-or-requires c κs =
     let a = c .before .before .args in
     let p = c .before .before .pre in
     let o = runs-order (a .image .now) (a .tree) (a .stop .0) (a .end .0) (a .r .0) (p .0) (p .1) in
-    (o .0, run-record (a .image .now) (a .tree) (a .stop .0) (a .end .0) (a .r .0) (p .0) (p .1))
+    (o .0, λ l. record-fits (a .image .now) (a .tree) (a .stop .0) (a .end .0) (a .r .0) (p .0) (p .1) l .0)
 
 loop-holds : tie.Need-loop-holds Inv-loop μ-loop
 loop-holds c =
@@ -41,7 +40,7 @@ behind-requires : tie.Need-behind-requires Inv-loop μ-loop
 behind-requires c κs =
     let a = c .before .before .before .before .before .before .before .args in
     let v = c .before .before .before .loop in
-    run-behind (a .image .now) (a .tree) (a .stop .0) (a .end .0) (v .at .0) (v .s .0) (v .inv .0) (c .if1 .taken)
+    record-fits (a .image .now) (a .tree) (a .stop .0) (a .end .0) (v .at .0) (v .s .0) (v .inv .0) (c .if1 .taken)
 
 start-or-requires-2 : tie.Need-start-or-requires-2 Inv-loop μ-loop
 start-or-requires-2 c κs =
@@ -49,7 +48,7 @@ start-or-requires-2 c κs =
     let v = c .before .before .before .before .loop in
     let n = runs-next (a .image .now) (a .tree) (a .stop .0) (a .end .0) (v .at .0) (v .s .0) (c .behind .result .0) _ (v .inv .0)
     (c .before .if1 .taken) (c .behind .ensures) refl in
-    (n .stop-order, run-record (a .image .now) (a .tree) (a .stop .0) (a .end .0) _ _ (n .runs))
+    (n .stop-order, λ l. record-fits (a .image .now) (a .tree) (a .stop .0) (a .end .0) (c .behind .result .0) _ (n .runs) l .0)
 
 single-requires : tie.Need-single-requires Inv-loop μ-loop
 single-requires c κs =

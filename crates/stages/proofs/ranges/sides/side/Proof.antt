@@ -5,14 +5,14 @@ use borrow.Author.Needs.{needs}
 use Rattle.definition.specs.Prelude.{some}
 use Rattle.numbers.specs.Value.{valueOf}
 use Rattle.stages.proofs.ranges.sides.Texts.{number-empty, number-text}
-use Rattle.stages.proofs.ranges.sides.Ways.{zero-is}
+use Rattle.stages.proofs.ranges.Bounds.{zero-value}
 use Rattle.stages.proofs.ranges.sides.side.Statement.{statement}
 use Rattle.stages.proofs.ranges.sides.side.Tie as tie
 
 returns : tie.Need-returns
 returns c base =
     let a = c .before .before .before .before .before .args in
-    ap some (ap valueOf (c .zero .ensures) ∙ zero-is) ∙ number-empty (now (a .image)) (a .tree) base (a .s .0) (a .t .0) (c .before .if1 .taken)
+    ap some (ap valueOf (c .zero .ensures) ∙ zero-value) ∙ number-empty (now (a .image)) (a .tree) base (a .s .0) (a .t .0) (c .before .if1 .taken)
 
 returns-2 : tie.Need-returns-2
 returns-2 c base =

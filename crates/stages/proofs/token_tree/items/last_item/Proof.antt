@@ -2,7 +2,8 @@
 use Prim.Native.Nat.{_-_}
 use native.Mathlib.Omega.{arith}
 use denote.Ref.{now}
-use Rattle.stages.proofs.token_tree.Lasts.{record-fits, Last, last-first, last-again, last-place}
+use Rattle.stages.proofs.token_tree.Walks.{record-fits}
+use Rattle.stages.proofs.token_tree.Lasts.{Last, last-first, last-again, last-place}
 use Rattle.stages.proofs.token_tree.items.last_item.Statement.{statement}
 use Rattle.stages.proofs.token_tree.items.last_item.Tie as tie
 

@@ -13,7 +13,7 @@ use Rattle.stages.specs.concatenation.running_check.Running.{runningOf, 
 use Rattle.stages.specs.component.Kept.{KeptFrom}
 use Rattle.stages.proofs.concatenation.check.Turns.{last-is, check-on, check-off, check-end}
 use Rattle.stages.proofs.concatenation.check.Concatenation.check.Statement.{statement}
-use Rattle.stages.proofs.concatenation.check.KeptRows.{stored}
+use Rattle.stages.proofs.component.Rows.{stored}
 use Rattle.stages.proofs.concatenation.check.Concatenation.check.Tie as tie
 
 abbrev Inv-loop : tie.InvT-loop

@@ -11,7 +11,7 @@ use Rattle.stages.specs.component.Kept.{KeptFrom}
 use Rattle.stages.specs.concatenation.Check.{asked}
 use Rattle.stages.proofs.concatenation.check.Concatenation.filler.Statement.{statement}
 use Rattle.stages.proofs.concatenation.check.Concatenation.filler.Tie as tie
-use Rattle.stages.proofs.concatenation.check.KeptRows.{stored}
+use Rattle.stages.proofs.component.Rows.{stored}
 use Rattle.stages.proofs.concatenation.check.Turns.{asked-here, asked-on, asked-end}
 
 abbrev Inv-loop : tie.InvT-loop

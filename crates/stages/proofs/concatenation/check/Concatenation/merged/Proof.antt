@@ -11,7 +11,7 @@ use Rattle.definition.specs.Image.{Placed}
 use Rattle.stages.specs.component.Kept.{KeptFrom}
 use Rattle.stages.proofs.concatenation.check.Counts.{oneMore, countFrom}
 use Rattle.stages.proofs.concatenation.check.Turns.{added, one-at-most, count-start, count-on, count-end}
-use Rattle.stages.proofs.concatenation.check.KeptRows.{stored}
+use Rattle.stages.proofs.component.Rows.{stored}
 use Rattle.stages.proofs.concatenation.check.Concatenation.merged.Statement.{statement}
 use Rattle.stages.proofs.concatenation.check.Concatenation.merged.Tie as tie
 

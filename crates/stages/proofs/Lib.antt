@@ -1,0 +1,2 @@
+-- Laws that the proofs of all parts cite.
+pub mod Cases

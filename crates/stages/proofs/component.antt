@@ -1,0 +1,2 @@
+-- Laws of kept components that the stages behind cite too.
+pub mod Rows
