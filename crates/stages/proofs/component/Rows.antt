@@ -136,7 +136,7 @@ row-fits {image} {words} {k} {p} h = let f = kept-within image words k (p ∷ []
 holds-alike : (l l′ m : List ℕ) (i : ℕ) → Holds l i m → i ≤ length l → i ≤ length l′ → take (i + length m) l′ ≡ take (i + length m) l → Holds l′ i m
 holds-alike l l′ m i h p p′ e =
     let f : take (length m) (drop i l′) ≡ m =
-      front l′ p′ ∙ ap (drop i) e ∙ sym (front l p) ∙ ap (take (length m)) (h .1) ∙ take-append-seam m (h .0) in
+    front l′ p′ ∙ ap (drop i) e ∙ sym (front l p) ∙ ap (take (length m)) (h .1) ∙ take-append-seam m (h .0) in
     (drop (length m) (drop i l′), sym (take-append-drop (length m) (drop i l′)) ∙ ap (λ (z : List ℕ). z ++ drop (length m) (drop i l′)) f)
   where
     front : (x : List ℕ) → i ≤ length x → take (length m) (drop i x) ≡ drop i (take (i + length m) x)
@@ -151,8 +151,8 @@ row-written image words words₁ words′ k p row is fits e long alike =
     let y : 11 * suc k ≡ 11 * k + 11 = omega arith in
     let at : length (take (11 * k) words) ≡ 11 * k = length-take-le (11 * k) words (omega (arith, fits)) in
     let h : Holds words₁ (11 * k) (fieldsOf row) =
-      rw (e, sets-eq (fieldsOf row) words (11 * k) fits, append-assoc (take (11 * k) words) (fieldsOf row) (drop (11 * k + 11) words))
-      (holds-seam (take (11 * k) words) (fieldsOf row) (drop (11 * k + 11) words) (11 * k) at) in
+    rw (e, sets-eq (fieldsOf row) words (11 * k) fits, append-assoc (take (11 * k) words) (fieldsOf row) (drop (11 * k + 11) words))
+    (holds-seam (take (11 * k) words) (fieldsOf row) (drop (11 * k + 11) words) (11 * k) at) in
     let m : length words₁ ≡ length words = ap {A = List ℕ} length e ∙ length-sets words (11 * k) (fieldsOf row) in
     record {
       row = row;

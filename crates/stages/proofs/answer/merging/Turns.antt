@@ -136,8 +136,7 @@ module _ (image words : List ℕ) where
       go : Goes base w ms [] area s → (after ≡ putAll base w ms) × (r .w ≡ writtenTo w ms)
       go goes =
           let same = at-end base w ms area s goes in
-          let cl = close (goes .area) (goes .run) [] (goes .holds) (same .room) in
-          (
+          let cl = close (goes .area) (goes .run) [] (goes .holds) (same .room) in (
             written-none (cl .area) after r (cl .holds) ∙ sym (nothing-put (cl .area) (r .w)) ∙ sym (cl .same .bytes) ∙ sym (same .bytes),
             sym (nothing-written (r .w)) ∙ sym (cl .same .place) ∙ sym (same .place),
           )

@@ -108,7 +108,6 @@ module _ (image : List ℕ) (t : Tree) (base : ℕ) (low : base < 2 ^ 32) (small
       (omega (arith, lo, hi, o), omega (arith, hi, f), omega (arith, l, fits), rw (lo, hi, l) refl)
   content-is literal fits r (T.Variable p) e l h = let (a, b, c) = text-is p h in (e ∙ a, b, c)
   content-is literal fits r T.Filler e l h = e
-
   -- ---- flags
 
 width-flag-is : (x : OptionI128) (y : Option ℤ) → optionOf x ≡ y → _≡_ {A = ℕ} (widthFlagBy x) (elim y [ none ↦ 0 | some w ↦ 8 ])

@@ -65,7 +65,7 @@ module _ (image : List ℕ) (t : Tree) (base stop tail r s colon : ℕ) (mid : L
       let c = colon-parts mid p e in
       let sp = laid-split image t base stop tail r s (p .before) (c .sign ∷ p .after) (subst (Laid image t base stop tail r s) (c .parts) h) in
       let a : Laid image t base stop tail colon (sp .from) (c .sign ∷ p .after) =
-          subst (λ x. Laid image t base stop tail x (sp .from) (c .sign ∷ p .after)) (sym q) (sp .after) in
+      subst (λ x. Laid image t base stop tail x (sp .from) (c .sign ∷ p .after)) (sym q) (sp .after) in
       let b : Laid image t base colon (sp .from) r s (p .before) = subst (λ x. Laid image t base x (sp .from) r s (p .before)) (sym q) (sp .before) in
       let o = laid-order image t base colon (sp .from) r s (p .before) b in
       let m = laid-order image t base stop tail colon (sp .from) (c .sign ∷ p .after) a in
@@ -165,10 +165,13 @@ module _ (image : List ℕ) (t : Tree) (base stop tail r s colon : ℕ) (mid : L
               rw (f, ux) (record {
                 is = some-value image t base k colon p (l .item) (l .rest) (partBy s (d .from)) (l .parts)
                     (sym (laid-part image t base colon (d .from) r s (p .before) (d .before)));
-                held = (d .place, record {
-                  part = laid-fits image t base colon (d .from) r s (p .before) (d .before) (omega (arith, fit, si));
-                  none = λ v. absurd (let v′ : _≡_ {A = ℕ} (colon + 1) 0 = v in omega (arith, v′));
-                });
+                held = (
+                  d .place,
+                  record {
+                    part = laid-fits image t base colon (d .from) r s (p .before) (d .before) (omega (arith, fit, si));
+                    none = λ v. absurd (let v′ : _≡_ {A = ℕ} (colon + 1) 0 = v in omega (arith, v′));
+                  },
+                );
               })
 
 -- ---- a run: its items before a range in brackets

@@ -42,9 +42,11 @@ put-open-requires c κs =
     let (d, ms, is, fixed, room, other, rests, kind) = c .before .before .before .before .before .before .before .before .before .before .before .before .before .pre in
     let l = c .before .before .before .before .before .before .lengthen in
     let at = row-at is in
-    let b = bits-at (a .image .now) (a .words .now) (a .k) d at (sym (kind-at (a .image .now) (a .words .now) (a .k) d at) ∙ kind) in
-    (row-fits is, open-room d (a .image .now) (a .words .now) (a .k) at b ms (a .s) (l .result) (a .area .now) _ rests (fixed .bits) room
-    (l .ensures) (l .kept .0))
+    let b = bits-at (a .image .now) (a .words .now) (a .k) d at (sym (kind-at (a .image .now) (a .words .now) (a .k) d at) ∙ kind) in (
+      row-fits is,
+      open-room d (a .image .now) (a .words .now) (a .k) at b ms (a .s) (l .result) (a .area .now) _ rests (fixed .bits) room
+          (l .ensures) (l .kept .0),
+    )
 
 returns : tie.Need-returns
 returns c =
