@@ -2,12 +2,11 @@
 use mathlib.Core.Path.{_≡_, refl, sym, ap, subst, _∙_}
 use Prim.Native.Nat.{_≤_, _<_}
 use native.Mathlib.Omega.{arith}
-use native.Mathlib.Numerals.{add-one}
 use mathlib.Core.List.{append-assoc}
 use native.Mathlib.Nat.{add-zero}
 use lib.ListN.{take-append-drop, length-append, length-drop}
 use lib.Seq.{sets, sets-eq, length-sets, take-append-seam, drop-at, take-add, length-take-le}
-use Rattle.definition.specs.Prelude.{ℕ, zero, suc, _+_, _*_, _-_, List, [], _∷_, _++_, map, length, getD, take, drop}
+use Rattle.definition.specs.Prelude.{ℕ, suc, _+_, _*_, _-_, List, [], _∷_, _++_, map, length, getD, take, drop}
 use Rattle.definition.specs.Basics.{joined}
 use Rattle.definition.specs.Image.{Placed}
 use Rattle.definition.specs.Component.{Component}
@@ -15,6 +14,7 @@ use Rattle.answer_facts.specs.read.Items.{holds-join}
 use Rattle.prepared.specs.Bytes.{Holds, holds-seam, holds-left, holds-right, holds-getD}
 use Rattle.stages.specs.component.Kept.{fieldsOf, flagsOf, RowIs, RowsAre, wordsOf, KeptFrom}
 use Rattle.stages.specs.declared.component.keep.Row.{Row}
+use Rattle.stages.proofs.Lists.{turn-at}
 
 -- the row of a component
 pub record RowAt (image words : List ℕ) (k : ℕ) (p : Placed Component) : Type 0 where
@@ -63,25 +63,6 @@ kept-first image words k p ps h = go (h .rows) (h .are) (h .holds)
 pub row-at : {image words : List ℕ} {k : ℕ} {p : Placed Component} {ps : List (Placed Component)} → KeptFrom image words k (p ∷ ps) → RowAt image words k p
 row-at {image} {words} {k} {p} {ps} h = kept-first image words k p ps h .0
 
--- component j of a run from component k on
-pub record Stored (image words : List ℕ) (k j : ℕ) (cs : List (Placed Component)) : Type 0 where
-  pub one : Placed Component
-  pub rest : drop j cs ≡ one ∷ drop (j + 1) cs
-  pub at : RowAt image words (k + j) one
-
-stored-in : (image words : List ℕ) (cs : List (Placed Component)) (k j : ℕ) → KeptFrom image words k cs → j < length cs → Stored image words k j cs
-stored-in image words [] k j h l = absurd (omega arith)
-stored-in image words (c ∷ cs) k zero h l =
-    record { one = c; rest = refl; at = subst (λ n. RowAt image words n c) (sym (add-zero k)) (kept-first image words k c cs h .0) }
-stored-in image words (c ∷ cs) k (suc j) h l =
-    let t = stored-in image words cs (suc k) j (kept-first image words k c cs h .1) (omega arith) in
-    let z : suc k + j ≡ k + suc j = omega arith in
-    let n : drop (j + 1) cs ≡ drop (suc j + 1) (c ∷ cs) = rw (add-one j, add-one (suc j)) in
-    record { one = t .one; rest = t .rest ∙ ap (λ l. t .one ∷ l) n; at = subst (λ n. RowAt image words n (t .one)) z (t .at) }
-
-pub stored : (image words : List ℕ) (cs : List (Placed Component)) (k j n : ℕ) → KeptFrom image words k cs → length cs ≡ n → j < n → Stored image words k j cs
-stored image words cs k j n h e l = stored-in image words cs k j h (rw e l)
-
 -- ---- those of one list, then those of another
 
 pub kept-both : (image words : List ℕ) (k : ℕ) (ps qs : List (Placed Component)) → KeptFrom image words k ps → KeptFrom image words (k + length ps) qs
@@ -100,6 +81,20 @@ kept-split image words k (p ∷ ps) qs h =
     let f = kept-first image words k p (ps ++ qs) h in
     let g = kept-split image words (suc k) ps qs (f .1) in
     (kept-cons image words k p ps (f .0) (g .0), subst (λ n. KeptFrom image words n qs) z (g .1))
+
+-- component j of a run from component k on
+pub record Stored (image words : List ℕ) (k j : ℕ) (cs : List (Placed Component)) : Type 0 where
+  pub one : Placed Component
+  pub rest : drop j cs ≡ one ∷ drop (j + 1) cs
+  pub at : RowAt image words (k + j) one
+
+pub stored : (image words : List ℕ) (cs : List (Placed Component)) (k j n : ℕ) → KeptFrom image words k cs → length cs ≡ n → j < n → Stored image words k j cs
+stored image words cs k j n h e l =
+    let (a, q) = turn-at cs j n e l in
+    let m : length (take j cs) ≡ j = length-take-le j cs (omega (arith, e, l)) in
+    let r = kept-split image words k (take j cs) (drop j cs) (rw (take-append-drop j cs) h) .1 in
+    let o : KeptFrom image words (k + j) (drop j cs) = subst (λ x. KeptFrom image words (k + x) (drop j cs)) m r in
+    record { one = a; rest = q; at = row-at (subst (λ x. KeptFrom image words (k + j) x) q o) }
 
 -- ---- the words that they take
 

@@ -3,7 +3,7 @@ use mathlib.Core.Path.{_≡_, refl, sym, ap, subst, _∙_}
 use Prim.Native.Nat.{_≤_, _<_}
 use native.Mathlib.Omega.{arith}
 use borrow.Author.Tests.{eq-eqb, ne-eqb}
-use Rattle.definition.specs.Prelude.{ℕ, suc, _+_, _-_, _^_, true, none, some, List, [], _∷_, _++_, length}
+use Rattle.definition.specs.Prelude.{ℕ, _+_, _-_, _^_, true, none, some, List, [], _∷_, _++_, length}
 use Rattle.definition.specs.Image.{opens}
 use Rattle.definition.specs.Text.{Item, items, isGroup}
 use Rattle.definition.specs.Ranges.{parseRange}
@@ -16,6 +16,7 @@ use Rattle.stages.specs.declared.token_tree.types.Tree.{Tree}
 use Rattle.stages.specs.declared.token_tree.types.Run.{Run}
 use Rattle.stages.specs.declared.ranges.types.RangeResult.{RangeResult}
 use Rattle.stages.specs.declared.ranges.types.RangeResult.the-variants as R
+use Rattle.stages.proofs.Lists.{ends}
 use Rattle.stages.proofs.token_tree.Places.{place-above, laid-order, laid-first, laid-split}
 use Rattle.stages.proofs.token_tree.Insides.{last-inside}
 use Rattle.stages.proofs.token_tree.Walks.{runs-within}
@@ -35,16 +36,6 @@ range-none (j ∷ []) i h = rw (ne-eqb (i .kind) 3 h) refl
 range-none (j ∷ k ∷ l) i h = ap (λ s. record { mid = j ∷ s .mid; range = s .range }) (range-none (k ∷ l) i h)
 
 -- ---- the last item of a run
-
-pub record Ends {A : Type 0} (i : A) (is : List A) : Type 0 where
-  pub mid : List A
-  pub item : A
-  pub parts : i ∷ is ≡ mid ++ (item ∷ [])
-  pub long : length is ≡ length mid
-
-pub ends : {A : Type 0} (i : A) (is : List A) → Ends i is
-ends i [] = record { mid = []; item = i; parts = refl; long = refl }
-ends i (j ∷ is) = let e = ends j is in record { mid = i ∷ e .mid; item = e .item; parts = ap (λ l. i ∷ l) (e .parts); long = ap suc (e .long) }
 
 module _ (image : List ℕ) (t : Tree) (stop tail r last : ℕ) where
   pub record LastAt (base s : ℕ) (is : List Item) : Type 0 where

@@ -19,7 +19,7 @@ use Rattle.stages.specs.token_tree.Grown.{Grown}
 use Rattle.stages.specs.component.Start.{recordsBefore, RecordsFit}
 use Rattle.stages.specs.declared.token_tree.types.Tables.{Tables}
 use Rattle.stages.specs.declared.token_tree.types.Run.{Run}
-use Rattle.stages.proofs.component.parse.Endings.{ends}
+use Rattle.stages.proofs.Lists.{ends}
 use Rattle.stages.proofs.token_tree.Places.{laid-first}
 use Rattle.stages.proofs.token_tree.Roots.{rows-cons, rows-order, rows-behind, root-laid, run-fits, runs-of, run-is}
 use Rattle.stages.proofs.token_tree.Trees.{tables-fit}

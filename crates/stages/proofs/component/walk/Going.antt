@@ -12,6 +12,7 @@ use Rattle.stages.specs.component.Start.{AfterIs, AfterIn}
 use Rattle.stages.specs.component.Read.{isRefusedBy, WalkFits, TurnIs, TurnsAre}
 use Rattle.stages.specs.declared.token_tree.types.Tables.{Tables}
 use Rattle.stages.specs.declared.component.walk.Walk.{Walk}
+use Rattle.stages.proofs.Lists.{none-in}
 use Rattle.stages.proofs.token_tree.Roots.{rows-cons, rows-moved}
 use Rattle.stages.proofs.component.walk.Standing.{fits-next}
 use Rattle.stages.proofs.component.walk.Rounds.{TurnsFrom, turns-are, turns-cons, turns-refused, turns-none}
@@ -94,12 +95,8 @@ module _ (image : List ℕ) (t : Tables) (after i : ℕ) where
         → TurnsAre image i s₀ ns w₀ w words₀ words
     going-end j w words g l e =
         let c = g .count in
-        g .goes w words (subst (λ x. TurnsFrom image i j (g .s) x w w words words) (sym (none (g .rest) (omega (arith, c, l))))
+        g .goes w words (subst (λ x. TurnsFrom image i j (g .s) x w w words words) (sym (none-in (g .rest) (omega (arith, c, l))))
         (turns-none image i j (g .s) w words e))
-      where
-        none : (x : List Node) → length x ≡ 0 → x ≡ []
-        none [] e = refl
-        none (y ∷ x) e = absurd (omega (arith, e))
 
     -- after a turn
     module _ (j : ℕ) (w m : Walk) (words words₁ : List ℕ) (g : Going j w words) (l : j < length ns)

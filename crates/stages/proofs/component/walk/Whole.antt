@@ -17,6 +17,7 @@ use Rattle.stages.specs.component.Start.{AfterIn, AfterTree}
 use Rattle.stages.specs.component.Read.{isRefusedBy, walkFrom, WalkFits, TurnsAre, StagesAre}
 use Rattle.stages.specs.declared.token_tree.types.Tables.{Tables}
 use Rattle.stages.specs.declared.component.walk.Walk.{Walk}
+use Rattle.stages.proofs.Lists.{none-in}
 use Rattle.stages.proofs.token_tree.Roots.{rows-behind, rows-moved}
 use Rattle.stages.proofs.token_tree.Trees.{tables-fit}
 use Rattle.stages.proofs.component.walk.Standing.{fits-behind}
@@ -58,12 +59,8 @@ module _ (image : List ℕ) (t : Tables) (after : ℕ) where
   pub stands-end : (i : ℕ) (w : Walk) (words : List ℕ) → Stands i w words → t .c ≤ i → StagesAre image (w .second) words
   stands-end i w words v l =
       let c = v .count in
-      v .goes (w .second) words (subst (λ x. StagesFrom image i (v .s) x w (w .second) words words) (sym (none (v .rest) (omega (arith, c, l))))
+      v .goes (w .second) words (subst (λ x. StagesFrom image i (v .s) x w (w .second) words words) (sym (none-in (v .rest) (omega (arith, c, l))))
       (stages-none image i (v .s) w words))
-    where
-      none : (x : List (List Node)) → length x ≡ 0 → x ≡ []
-      none [] e = refl
-      none (y ∷ x) e = absurd (omega (arith, e))
 
   -- the first of them
   pub record Next (i : ℕ) (w : Walk) (words : List ℕ) (s : ℕ) (rest : List (List Node)) : Type 0 where

@@ -23,7 +23,7 @@ use Rattle.stages.specs.concatenation.Check.{concatenationOf, shapeBy, a
 use Rattle.stages.specs.concatenation.running_check.Running.{runningOf, stepOf, finishOf, keptOf, verdictOf, settledOf, advancedAs}
 use Rattle.stages.specs.declared.concatenation.running_check.running.Running.{Running as Now}
 use Rattle.stages.specs.component.Read.{isRefusedBy}
-use Rattle.stages.proofs.concatenation.stage4.Loops.{end-at}
+use Rattle.stages.proofs.Lists.{end-at}
 use Rattle.stages.proofs.Cases.{passed}
 use Rattle.stages.proofs.concatenation.check.Flags.{literal-flag, asked-flags}
 use Rattle.stages.proofs.concatenation.check.Shapes.{shape-is, advanced-as}

@@ -2,9 +2,9 @@
 use mathlib.Core.Path.{_≡_, refl, ap, subst, sym, _∙_}
 use Prim.Native.Nat.{_≤_, _<_}
 use native.Mathlib.Omega.{arith}
-use native.Mathlib.Nat.{le-of-suc-le-suc, zero-add}
+use native.Mathlib.Nat.{zero-add}
 use native.Mathlib.Numerals.{add-one}
-use lib.ListN.{length-map, drop-of-length-le}
+use lib.ListN.{length-map}
 use Rattle.definition.specs.Image.{Placed, componentCount}
 use Rattle.definition.specs.Component.{Component}
 use Rattle.definition.specs.Prelude.{ℕ, zero, suc, _+_, _*_, Bool, true, false, Option, none, some, List, [], _∷_, map, length, drop}
@@ -16,25 +16,11 @@ use Rattle.stages.specs.declared.concatenation.overall.Summary.{Summary}
 use Rattle.stages.specs.component.Kept.{KeptFrom}
 use Rattle.stages.specs.concatenation.Heads.{CountsFit, Judged}
 use Rattle.stages.specs.concatenation.Overall.{HasSummary, StartsAs, turn, middleAt, unboundedIn, isOpposite, oppositeAt, oppositeAs}
+use Rattle.stages.proofs.Lists.{turn-at}
 use Rattle.stages.proofs.concatenation.heads.Parts.{part-at, part-kept, rest-kept, part-few, part-words}
 
 abbrev pub compsOf : List Concatenation → List (List (Placed Component))
 compsOf ds = map (λ (d : Concatenation). d .comps) ds
-
--- a list with an i-th, and without
-pub turn-at : {A : Type 0} (l : List A) (i n : ℕ) → length l ≡ n → i < n → (a : A) × (drop i l ≡ a ∷ drop (i + 1) l)
-turn-at {A} l i n e h = go l i (rw e h)
-  where
-    go : (l : List A) (i : ℕ) → i < length l → (a : A) × (drop i l ≡ a ∷ drop (i + 1) l)
-    go [] i h = absurd (omega arith)
-    go (a ∷ l) zero h = (a, refl)
-    go (a ∷ l) (suc i) h =
-        let t = go l i (le-of-suc-le-suc h) in
-        let n : drop (i + 1) l ≡ drop (suc i + 1) (a ∷ l) = rw (add-one i, add-one (suc i)) in
-        (t .0, t .1 ∙ ap (λ r. t .0 ∷ r) n)
-
-pub end-at : {A : Type 0} (l : List A) (i n : ℕ) → length l ≡ n → n ≤ i → drop i l ≡ []
-end-at l i n e h = drop-of-length-le l {i = i} (rw e h)
 
 -- ---- the components of the i-th
 

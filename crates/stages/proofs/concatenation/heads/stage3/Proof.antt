@@ -11,7 +11,7 @@ use Rattle.definition.specs.Image.{Placed}
 use Rattle.stages.specs.token_tree.Rows.{Sizes}
 use Rattle.stages.specs.component.Kept.{KeptFrom}
 use Rattle.stages.proofs.concatenation.heads.Parts.{part-at, part-few, part-kept, rest-kept, lies, left-on}
-use Rattle.stages.proofs.concatenation.stage4.Loops.{end-at}
+use Rattle.stages.proofs.Lists.{end-at}
 use Rattle.stages.proofs.concatenation.heads.Done.{Done, done-none, done-more, done-off, done-end}
 use Rattle.stages.proofs.concatenation.heads.stage3.Tie as tie
 use Rattle.stages.proofs.concatenation.heads.stage3.Statement.{statement}

@@ -12,7 +12,8 @@ use Rattle.stages.specs.concatenation.alignment.Align.{alignOf}
 use Rattle.stages.proofs.concatenation.stage4.find_opposite.Tie as tie
 use Rattle.stages.proofs.concatenation.Summaries.{opposite-is}
 use Rattle.stages.proofs.concatenation.stage4.find_opposite.Statement.{statement}
-use Rattle.stages.proofs.concatenation.stage4.Loops.{turn-at, end-at, place-on, place-here, place-end}
+use Rattle.stages.proofs.concatenation.stage4.Loops.{place-on, place-here, place-end}
+use Rattle.stages.proofs.Lists.{turn-at, end-at}
 
 abbrev Inv-loop : tie.InvT-loop
 Inv-loop align heads c from j₀ j =

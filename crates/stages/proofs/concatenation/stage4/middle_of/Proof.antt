@@ -16,7 +16,8 @@ use Rattle.stages.specs.component.Kept.{KeptFrom}
 use Rattle.stages.specs.concatenation.Heads.{Judged}
 use Rattle.stages.proofs.concatenation.stage4.middle_of.Tie as tie
 use Rattle.stages.proofs.concatenation.heads.Parts.{part-at, part-few, lies, left-on}
-use Rattle.stages.proofs.concatenation.stage4.Loops.{compsOf, turn-of, end-at, middle-on, middle-off, middle-end}
+use Rattle.stages.proofs.concatenation.stage4.Loops.{compsOf, turn-of, middle-on, middle-off, middle-end}
+use Rattle.stages.proofs.Lists.{end-at}
 use Rattle.stages.proofs.concatenation.stage4.middle_of.Statement.{statement}
 
 abbrev Inv-loop : tie.InvT-loop

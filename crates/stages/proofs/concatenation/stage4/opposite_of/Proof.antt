@@ -10,7 +10,8 @@ use Rattle.errors.specs.Refused.{resultOf}
 use Rattle.stages.specs.concatenation.Heads.{HeadsAre, AllChecked}
 use Rattle.stages.proofs.concatenation.stage4.opposite_of.Tie as tie
 use Rattle.stages.proofs.concatenation.stage4.opposite_of.Statement.{statement}
-use Rattle.stages.proofs.concatenation.stage4.Loops.{turn-at, end-at, opposite-on, opposite-off, opposite-end}
+use Rattle.stages.proofs.concatenation.stage4.Loops.{opposite-on, opposite-off, opposite-end}
+use Rattle.stages.proofs.Lists.{turn-at, end-at}
 
 abbrev Inv-loop : tie.InvT-loop
 Inv-loop heads c i₀ i =

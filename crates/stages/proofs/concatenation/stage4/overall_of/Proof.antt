@@ -9,7 +9,8 @@ use Rattle.definition.specs.Concatenation.{Concatenation}
 use Rattle.stages.specs.concatenation.Overall.{overallOf, answerOf}
 use Rattle.stages.specs.concatenation.Heads.{Judged}
 use Rattle.stages.proofs.concatenation.stage4.overall_of.Tie as tie
-use Rattle.stages.proofs.concatenation.stage4.Loops.{turn-at, end-at, first-is, first-fits, starts-by, over-on, over-off, over-end}
+use Rattle.stages.proofs.concatenation.stage4.Loops.{first-is, first-fits, starts-by, over-on, over-off, over-end}
+use Rattle.stages.proofs.Lists.{turn-at, end-at}
 use Rattle.stages.proofs.concatenation.stage4.overall_of.Statement.{statement}
 
 abbrev Inv-loop : tie.InvT-loop
