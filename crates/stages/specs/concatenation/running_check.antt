@@ -1,3 +1,2 @@
 -- What the values of this crate mean.
 pub mod Running
-pub mod ShapeLaw
