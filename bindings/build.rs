@@ -4,6 +4,9 @@
 use std::{env, path::PathBuf};
 
 fn main() {
+    if env::var_os("CARGO_FEATURE_LIBRARY").is_none() {
+        return;
+    }
     let beside = || PathBuf::from(env!("CARGO_MANIFEST_DIR")).join("../target/staticlib");
     let folder = env::var_os("LAYOUT_LIB_DIR").map_or_else(beside, PathBuf::from);
     println!("cargo::rerun-if-env-changed=LAYOUT_LIB_DIR");

@@ -9,8 +9,15 @@
 //! }
 //! ```
 
-use std::{error::Error, fmt};
+#![no_std]
 
+mod words;
+
+use core::{error::Error, fmt};
+
+pub use words::{words, WORDS};
+
+#[cfg(feature = "library")]
 extern "C" {
     fn layout_run(
         image: *const u8,
@@ -70,6 +77,7 @@ impl Error for Refusal {}
 ///
 /// Accepted: the length of the answer, which stands in the area from its first
 /// byte; the bytes after it are as lent. Refused: the area is as lent.
+#[cfg(feature = "library")]
 pub fn run(image: &[u8], mode: u32, area: &mut [u8]) -> Result<usize, Refusal> {
     // SAFETY: each pointer is that of a slice of the length beside it, and the
     // area, being lent as `&mut`, does not overlap the image. The function reads
@@ -89,6 +97,7 @@ pub fn run(image: &[u8], mode: u32, area: &mut [u8]) -> Result<usize, Refusal> {
 
 /// The text that the program `layout` prints for an input, one mode byte and an
 /// image: its length, or nothing where it is longer than the buffer.
+#[cfg(feature = "library")]
 pub fn listing(input: &[u8], out: &mut [u8]) -> Option<usize> {
     // SAFETY: as in `run`, with the input read and the buffer written.
     let length =
