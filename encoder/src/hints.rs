@@ -1,0 +1,158 @@
+//! Readings that are accepted and yet may not be what was meant.
+
+use crate::{
+    image::{Comp, Item, Kind},
+    line::Line,
+    listing::bound_texts,
+    show::printable,
+};
+
+/// Hints about an accepted text, a sentence each: the first of each sort, and
+/// how many more there are.
+pub fn hints(text: &str, line: &Line, mode: u8, listing: &str) -> Vec<String> {
+    let each = |hint: fn(&Comp) -> Option<String>| {
+        line.tree.components().filter_map(hint).collect::<Vec<_>>()
+    };
+    let sorts = [
+        names_of_digits(listing),
+        each(range_in_parentheses),
+        each(range_in_the_middle),
+        each(one_bit),
+        each(inclusive_without_end),
+        ellipsis(text),
+        nothing_copied(line, mode),
+    ];
+    sorts.into_iter().filter_map(first_of).collect()
+}
+
+fn first_of(mut hints: Vec<String>) -> Option<String> {
+    hints.dedup();
+    let more = hints.len().checked_sub(1)?;
+    let first = hints.swap_remove(0);
+    Some(if more > 0 { format!("{first} ({more} more like this)") } else { first })
+}
+
+/// A bound that looks like a number, but is a text.
+fn names_of_digits(listing: &str) -> Vec<String> {
+    let word = |c: char| c.is_ascii_alphanumeric() || c == '_' || c == '.';
+    let looks_like_one =
+        |text: &&str| text.starts_with(|c: char| c.is_ascii_digit()) && text.chars().all(word);
+    let said = |text: &str| {
+        format!("the bound `{}` is read as a name, not as a number: {}", short(text), why(text))
+    };
+    bound_texts(listing).into_iter().filter(looks_like_one).map(said).collect()
+}
+
+/// Why a text that begins with a digit is no number (document 01, "Numbers and
+/// bounds").
+fn why(text: &str) -> &'static str {
+    let digits = |s: &str| !s.is_empty() && s.bytes().all(|b| b.is_ascii_digit());
+    let radix = |s: &str| ["0x", "0o", "0b"].iter().any(|prefix| s.starts_with(prefix));
+    if text.contains('_') {
+        "numbers have no underscores"
+    } else if text.rsplit_once(['u', 'i']).is_some_and(|(_, width)| digits(width)) {
+        "bounds have no width"
+    } else if digits(text) && text.starts_with('0') {
+        "no number of three or more digits begins with 0"
+    } else if digits(text)
+        || (radix(text) && text[2..].bytes().all(|b| b.is_ascii_hexdigit()) && text.len() > 30)
+    {
+        "it does not fit 128 bits"
+    } else {
+        "no number is written so"
+    }
+}
+
+/// `a(..8)`: a group with dots directly after a word.
+fn range_in_parentheses(comp: &Comp) -> Option<String> {
+    let found = comp.items.windows(2).find(|pair| match pair {
+        [Item::Chars(word), Item::Group(Kind::Parenthesis | Kind::Brace, inside)] => {
+            word.first().is_some_and(|b| b.is_ascii_alphabetic() || *b == b'_' || *b > 127)
+                && has_dots(inside)
+        }
+        _ => false,
+    })?;
+    Some(format!("`{}` is a name: a range stands in square brackets", written(found)))
+}
+
+/// `a[..8] b`: a range that is not the component's last group.
+fn range_in_the_middle(comp: &Comp) -> Option<String> {
+    let (_, before_last) = comp.items.split_last()?;
+    let is_range =
+        |item: &&Item| matches!(item, Item::Group(Kind::Bracket, inside) if has_dots(inside));
+    let found = before_last.iter().find(is_range)?;
+    let group = written(std::slice::from_ref(found));
+    Some(format!("`{group}` is part of a name, for more follows it: is a `,` missing after it?"))
+}
+
+/// `a[8]`: bit 8 alone.
+fn one_bit(comp: &Comp) -> Option<String> {
+    let Some(Item::Group(Kind::Bracket, inside)) = comp.items.last() else { return None };
+    let [Item::Chars(number)] = &inside[..] else { return None };
+    let number: u32 = str::from_utf8(number).ok()?.parse().ok()?;
+    (number > 0)
+        .then(|| format!("`[{number}]` is one bit, bit {number}; {number} bits are `[..{number}]`"))
+}
+
+/// `a[5..=]`: from 5 with no end.
+fn inclusive_without_end(comp: &Comp) -> Option<String> {
+    let range = match comp.items.last()? {
+        Item::Group(Kind::Bracket, inside) => inside,
+        _ => &comp.items,
+    };
+    let is = |item: &Item, text: &[u8]| matches!(item, Item::Chars(chars) if chars == text);
+    match &range[..] {
+        [.., a, b, c] if is(a, b".") && is(b, b".") && is(c, b"=") => {
+            Some("`..=` with nothing after it is a range without an end".to_owned())
+        }
+        _ => None,
+    }
+}
+
+fn ellipsis(text: &str) -> Vec<String> {
+    let said = "`…` is one character and part of a name: a range has two dots, `..`";
+    if text.contains('…') { vec![said.to_owned()] } else { vec![] }
+}
+
+/// A comma where a semicolon was meant. With a return type one concatenation is
+/// the common case, and one component alone is hardly a slip.
+fn nothing_copied(line: &Line, mode: u8) -> Vec<String> {
+    let said = "one concatenation alone, so nothing is copied: `;` parts what is copied from where it is copied to";
+    match &line.tree.concatenations[..] {
+        [comps] if mode == 0 && comps.len() > 1 => vec![said.to_owned()],
+        _ => vec![],
+    }
+}
+
+/// Two neighbouring dots.
+fn has_dots(items: &[Item]) -> bool {
+    let dot = |item: &Item| matches!(item, Item::Chars(chars) if chars == b".");
+    items.windows(2).any(|pair| dot(&pair[0]) && dot(&pair[1]))
+}
+
+/// Items as a text, for people.
+fn written(items: &[Item]) -> String {
+    fn bytes(items: &[Item]) -> Vec<u8> {
+        let mut text = vec![];
+        for item in items {
+            match item {
+                Item::Chars(chars) => text.extend(chars),
+                Item::Group(kind, inside) => {
+                    let (open, close) = kind.delimiters();
+                    text.push(open);
+                    text.extend(bytes(inside));
+                    text.push(close);
+                }
+            }
+        }
+        text
+    }
+    short(&String::from_utf8_lossy(&bytes(items)))
+}
+
+/// At most forty characters of a text.
+fn short(text: &str) -> String {
+    let mut chars = text.chars().map(printable);
+    let start: String = chars.by_ref().take(40).collect();
+    if chars.next().is_some() { start + "..." } else { start }
+}
