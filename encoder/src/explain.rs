@@ -45,7 +45,7 @@ pub fn fault(text: &str, fault: &Fault) -> String {
     let places: Vec<_> = fault.places.iter().map(|place| describe(text, place)).collect();
     let places =
         if places.is_empty() { String::new() } else { format!(" ({})", places.join("; ")) };
-    format!("not a line: {}{places}\n{}", fault.words, show(text, &fault.places))
+    format!("cannot be read: {}{places}\n{}", fault.words, show(text, &fault.places))
 }
 
 /// What the places of a number name (document 01, "How each operation

@@ -13,54 +13,68 @@ pub fn hints(text: &str, line: &Line, mode: u8, listing: &str) -> Vec<String> {
     let each = |hint: fn(&Comp) -> Option<String>| {
         line.tree.components().filter_map(hint).collect::<Vec<_>>()
     };
-    let sorts = [
-        names_of_digits(listing),
+    let mut sorts = names_of_digits(listing);
+    sorts.extend([
         each(range_in_parentheses),
         each(range_in_the_middle),
         each(one_bit),
         each(inclusive_without_end),
         ellipsis(text),
         nothing_copied(line, mode),
-    ];
+    ]);
     sorts.into_iter().filter_map(first_of).collect()
 }
 
 fn first_of(mut hints: Vec<String>) -> Option<String> {
+    // in a bracket without dots both bounds have the one text
     hints.dedup();
     let more = hints.len().checked_sub(1)?;
     let first = hints.swap_remove(0);
     Some(if more > 0 { format!("{first} ({more} more like this)") } else { first })
 }
 
-/// A bound that looks like a number, but is a text.
-fn names_of_digits(listing: &str) -> Vec<String> {
+/// Bounds that look like numbers, but are texts, by the reason why.
+fn names_of_digits(listing: &str) -> Vec<Vec<String>> {
     let word = |c: char| c.is_ascii_alphanumeric() || c == '_' || c == '.';
     let looks_like_one =
         |text: &&str| text.starts_with(|c: char| c.is_ascii_digit()) && text.chars().all(word);
-    let said = |text: &str| {
-        format!("the bound `{}` is read as a name, not as a number: {}", short(text), why(text))
+    let texts: Vec<&str> = bound_texts(listing).into_iter().filter(looks_like_one).collect();
+    let of_reason = |reason: &&str| {
+        let texts = texts.iter().filter(|text| why(text) == *reason);
+        let said = |text: &&str| {
+            format!("the bound `{}` is read as a name, not as a number: {reason}", short(text))
+        };
+        texts.map(said).collect()
     };
-    bound_texts(listing).into_iter().filter(looks_like_one).map(said).collect()
+    REASONS.iter().map(of_reason).collect()
 }
 
 /// Why a text that begins with a digit is no number (document 01, "Numbers and
 /// bounds").
+const REASONS: [&str; 5] = [
+    "numbers have no underscores",
+    "numbers of a bound have no width",
+    "no number of three or more digits begins with 0",
+    "it does not fit 128 bits",
+    "no number is written so",
+];
+
 fn why(text: &str) -> &'static str {
-    let digits = |s: &str| !s.is_empty() && s.bytes().all(|b| b.is_ascii_digit());
-    let radix = |s: &str| ["0x", "0o", "0b"].iter().any(|prefix| s.starts_with(prefix));
-    if text.contains('_') {
-        "numbers have no underscores"
-    } else if text.rsplit_once(['u', 'i']).is_some_and(|(_, width)| digits(width)) {
-        "bounds have no width"
-    } else if digits(text) && text.starts_with('0') {
-        "no number of three or more digits begins with 0"
-    } else if digits(text)
-        || (radix(text) && text[2..].bytes().all(|b| b.is_ascii_hexdigit()) && text.len() > 30)
-    {
-        "it does not fit 128 bits"
-    } else {
-        "no number is written so"
-    }
+    let all = |digits: &str, radix| !digits.is_empty() && digits.chars().all(|c| c.is_digit(radix));
+    let right_digits = match text.get(..2) {
+        Some("0x") => all(&text[2..], 16),
+        Some("0o") => all(&text[2..], 8),
+        Some("0b") => all(&text[2..], 2),
+        _ => all(text, 10) && !text.starts_with('0'),
+    };
+    let has_width = text.rsplit_once(['u', 'i']).is_some_and(|(_, width)| all(width, 10));
+    REASONS[match () {
+        () if text.contains('_') => 0,
+        () if has_width => 1,
+        () if all(text, 10) && text.starts_with('0') => 2,
+        () if right_digits => 3,
+        () => 4,
+    }]
 }
 
 /// `a(..8)`: a group with dots directly after a word.

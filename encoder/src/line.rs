@@ -36,7 +36,7 @@ pub fn tree_of(text: &str) -> Result<Tree, Fault> {
 pub fn read_line(text: &str) -> Result<Line, Fault> {
     let tokens = tokens(text)?;
     if tokens.is_empty() {
-        return Err(Fault { words: "there is no line".to_owned(), places: vec![] });
+        return Err(Fault { words: NO_LINE.to_owned(), places: vec![] });
     }
     check_groups(&tokens)?;
     check_components(&tokens)?;
@@ -55,6 +55,8 @@ pub fn read_line(text: &str) -> Result<Line, Fault> {
     }
     Ok(line)
 }
+
+const NO_LINE: &str = "there is no line, or nothing but white space";
 
 /// From the first token to the last; there is one.
 fn place_of(tokens: &[Placed]) -> Range<usize> {
@@ -142,7 +144,7 @@ fn empty_component(before: Option<&Placed>, after: Option<&Placed>) -> Fault {
         }
         (None, Some(after)) => (format!("nothing stands before {}", mark(after)), vec![after]),
         (Some(before), None) => (format!("nothing stands after {}", mark(before)), vec![before]),
-        (None, None) => ("there is no line".to_owned(), vec![]),
+        (None, None) => (NO_LINE.to_owned(), vec![]),
     };
     Fault { words, places: marked.into_iter().map(|placed| placed.place.clone()).collect() }
 }
