@@ -10,19 +10,21 @@ use crate::{
 /// Hints about an accepted text, a sentence each: the first of each sort, and
 /// how many more there are.
 pub fn hints(text: &str, line: &Line, mode: u8, listing: &str) -> Vec<String> {
-    let each = |hint: fn(&Comp) -> Option<String>| {
-        line.tree.components().filter_map(hint).collect::<Vec<_>>()
+    let mut hints: Vec<_> = names_of_digits(listing).into_iter().filter_map(first_of).collect();
+    hints.extend(hints_of_text(text, line));
+    hints.extend(nothing_copied(line, mode));
+    hints
+}
+
+/// Those for which no listing is needed. They also tell why widths are not as
+/// meant.
+pub fn hints_of_text(text: &str, line: &Line) -> Vec<String> {
+    let sorts: [fn(&Comp) -> Option<String>; 4] =
+        [range_in_parentheses, range_in_the_middle, one_bit, inclusive_without_end];
+    let of_sort = |hint: &fn(&Comp) -> Option<String>| {
+        first_of(line.tree.components().filter_map(hint).collect())
     };
-    let mut sorts = names_of_digits(listing);
-    sorts.extend([
-        each(range_in_parentheses),
-        each(range_in_the_middle),
-        each(one_bit),
-        each(inclusive_without_end),
-        ellipsis(text),
-        nothing_copied(line, mode),
-    ]);
-    sorts.into_iter().filter_map(first_of).collect()
+    sorts.iter().filter_map(of_sort).chain(ellipsis(text)).collect()
 }
 
 fn first_of(mut hints: Vec<String>) -> Option<String> {
@@ -123,19 +125,18 @@ fn inclusive_without_end(comp: &Comp) -> Option<String> {
     }
 }
 
-fn ellipsis(text: &str) -> Vec<String> {
+fn ellipsis(text: &str) -> Option<String> {
     let said = "`…` is one character and part of a name: a range has two dots, `..`";
-    if text.contains('…') { vec![said.to_owned()] } else { vec![] }
+    text.contains('…').then(|| said.to_owned())
 }
 
 /// A comma where a semicolon was meant. With a return type one concatenation is
 /// the common case, and one component alone is hardly a slip.
-fn nothing_copied(line: &Line, mode: u8) -> Vec<String> {
-    let said = "one concatenation alone, so nothing is copied: `;` parts what is copied from where it is copied to";
-    match &line.tree.concatenations[..] {
-        [comps] if mode == 0 && comps.len() > 1 => vec![said.to_owned()],
-        _ => vec![],
-    }
+fn nothing_copied(line: &Line, mode: u8) -> Option<String> {
+    let said =
+        "there is one concatenation, so nothing is copied: a `;` begins where it is copied to";
+    let alone = line.tree.concatenations.len() == 1 && line.tree.components().count() > 1;
+    (alone && mode == 0).then(|| said.to_owned())
 }
 
 /// Two neighbouring dots.

@@ -10,7 +10,7 @@ use std::{
 
 use layout_line::{
     Fault, explain,
-    hints::hints,
+    hints::{hints, hints_of_text},
     image::image_of,
     listing::{Outcome, outcome},
     read_line,
@@ -62,16 +62,24 @@ fn run(program: &str, mode: &str) -> Result<u8, String> {
     let listing = String::from_utf8_lossy(&output);
     match outcome(&listing) {
         Outcome::Accepted => {
-            for hint in hints(&text, &line, mode, &listing) {
-                eprintln!("hint: {hint}");
-            }
+            say_hints(&hints(&text, &line, mode, &listing));
             Ok(ACCEPTED)
         }
         Outcome::Refused { number, first, second } => {
             eprint!("{}", explain::refusal(&text, &line, number, first, second));
+            // stage 4 is about widths
+            if number >= 41 {
+                say_hints(&hints_of_text(&text, &line));
+            }
             Ok(REFUSED)
         }
         Outcome::Unknown => Err(format!("layout-line: {program}: printed no listing")),
+    }
+}
+
+fn say_hints(hints: &[String]) {
+    for hint in hints {
+        eprintln!("hint: {hint}");
     }
 }
 
