@@ -2,9 +2,10 @@
 
 use crate::{
     image::{Comp, Item, Kind},
+    lexer::BYTE_ORDER_MARK,
     line::Line,
     listing::bound_texts,
-    show::printable,
+    show::{is_invisible, printable},
 };
 
 /// Hints about an accepted text, a sentence each: the first of each sort, and
@@ -24,7 +25,7 @@ pub fn hints_of_text(text: &str, line: &Line) -> Vec<String> {
     let of_sort = |hint: &fn(&Comp) -> Option<String>| {
         first_of(line.tree.components().filter_map(hint).collect())
     };
-    sorts.iter().filter_map(of_sort).chain(ellipsis(text)).collect()
+    sorts.iter().filter_map(of_sort).chain(ellipsis(text)).chain(invisible(text)).collect()
 }
 
 fn first_of(mut hints: Vec<String>) -> Option<String> {
@@ -128,6 +129,16 @@ fn inclusive_without_end(comp: &Comp) -> Option<String> {
 fn ellipsis(text: &str) -> Option<String> {
     let said = "`…` is one character and part of a name: a range has two dots, `..`";
     text.contains('…').then(|| said.to_owned())
+}
+
+/// A character that nobody sees and that is no white space.
+fn invisible(text: &str) -> Option<String> {
+    let text = text.strip_prefix(BYTE_ORDER_MARK).unwrap_or(text);
+    let found = text.chars().find(|c| is_invisible(*c) && !c.is_whitespace())?;
+    Some(format!(
+        "the line has an invisible character, U+{:04X}, which is part of a name",
+        found as u32
+    ))
 }
 
 /// A comma where a semicolon was meant. With a return type one concatenation is

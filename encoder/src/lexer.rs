@@ -25,11 +25,14 @@ pub struct Placed {
     pub place: Range<usize>,
 }
 
+/// What some editors put first in a file; the Rust passes over it too.
+pub const BYTE_ORDER_MARK: char = '\u{feff}';
+
 /// Cuts a text into tokens. White space parts tokens and is dropped; a comment
 /// and a quote that cannot be read are refused.
 pub fn tokens(text: &str) -> Result<Vec<Placed>, Fault> {
     let mut tokens = vec![];
-    let mut rest = text.trim_start();
+    let mut rest = text.strip_prefix(BYTE_ORDER_MARK).unwrap_or(text).trim_start();
     while let Some(first) = rest.chars().next() {
         let start = text.len() - rest.len();
         let (token, length) =

@@ -26,11 +26,19 @@ pub fn show(text: &str, places: &[Range<usize>]) -> String {
     shown
 }
 
-/// A character that moves no cursor and changes no terminal, but for a tab.
+/// A character as it is shown: one that is not seen, or that would move the
+/// cursor or turn the text round, as a replacement. A tab stays.
 pub fn printable(c: char) -> char {
-    let directs_text =
-        matches!(c, '\u{200e}' | '\u{200f}' | '\u{202a}'..='\u{202e}' | '\u{2066}'..='\u{2069}');
-    if c != '\t' && (c.is_control() || directs_text) { '\u{fffd}' } else { c }
+    if c != '\t' && is_invisible(c) { char::REPLACEMENT_CHARACTER } else { c }
+}
+
+/// Control characters, and those of no width that pasted text brings along.
+pub fn is_invisible(c: char) -> bool {
+    let no_width = ['\u{ad}', '\u{feff}'].contains(&c)
+        || ('\u{200b}'..='\u{200f}').contains(&c)
+        || ('\u{2028}'..='\u{202e}').contains(&c)
+        || ('\u{2060}'..='\u{206f}').contains(&c);
+    c.is_control() || no_width
 }
 
 /// The characters of a line, which begins at byte `start` of the text, that a
