@@ -29,7 +29,6 @@ pub mod answer;
 pub mod ast;
 pub mod check;
 pub mod generate;
-pub mod image;
 pub mod leaves;
 pub mod listing;
 pub mod refusal;
@@ -37,3 +36,6 @@ pub mod replay;
 pub mod run;
 pub mod stats;
 pub mod text;
+
+/// The tree of an image and its writer, which the encoder of lines shares.
+pub use layout_line::image;

@@ -2,7 +2,7 @@
 
 use std::{
     env,
-    io::{self, BufRead, Read, Write},
+    io::{self, Read, Write},
     path::Path,
     process::ExitCode,
 };
@@ -43,8 +43,7 @@ fn command(words: &[&str]) -> io::Result<()> {
             Ok(())
         }
         ["encode", mode] => {
-            let mut line = String::new();
-            io::stdin().lock().read_line(&mut line)?;
+            let line = String::from_utf8(input()?).map_err(io::Error::other)?;
             let mode = mode.parse().map_err(io::Error::other)?;
             print(&text::encode(mode, &line).map_err(io::Error::other)?)
         }

@@ -1,7 +1,8 @@
 //! From an image back to a line of text, from which `encode` makes the image
 //! again.
 
-use super::{encode::literal_of, tree_of};
+use layout_line::{literal_of, tree_of};
+
 use crate::{
     check::check,
     image::{Comp, Item, Kind, Tree},
