@@ -1,0 +1,60 @@
+//! The run and the reader of answers, over what the unchanged Rust answered: the
+//! listing that is printed from the reader alone is the Rust's, byte for byte.
+
+mod common;
+
+use std::io::Write;
+
+use common::{cases, listing, Case};
+use layout_reader::{answer, run, Answer};
+
+/// What a case comes to, printed; its answer is read with and without the check.
+fn told(case: &Case) -> String {
+    let mut area = vec![0xa5; case.area];
+    let length = match run(case.image, case.mode, &mut area) {
+        Err(refusal) => return format!("{refusal}\n"),
+        Ok(length) => length,
+    };
+    let checked = Answer::read(&area[..length], case.image).expect("an answer of the run's");
+    let mut other = vec![0x5a; case.area];
+    let left = answer(case.image, case.mode, &mut other).expect("accepted before");
+    assert_eq!(checked, left);
+    listing(&checked)
+}
+
+#[test]
+fn all_answers_read_back_as_the_rust_printed_them() {
+    let cases = cases();
+    let accepted = cases.iter().filter(|case| case.accepted()).count();
+    let different: Vec<&Case> = cases.iter().filter(|case| told(case) != case.listing).collect();
+    let equal = cases.len() - different.len();
+    // written past the test's capture, for tests/link to show
+    let mut out = std::io::stdout();
+    writeln!(out, "Rust: {accepted} answers read: {equal} equal, {} different", different.len())
+        .expect("written");
+    if let Some(case) = different.first() {
+        panic!("first difference: wanted\n{}got\n{}", case.listing, told(case));
+    }
+    assert!(accepted >= 1_766 && cases.len() >= 3_426, "{accepted} of {}", cases.len());
+}
+
+/// The two lines of each pair have equal answers, with texts as bytes; lines
+/// whose listings differ have not.
+#[test]
+fn equal_answers() {
+    let all = cases();
+    let accepted: Vec<&Case> = all.iter().filter(|case| case.accepted()).collect();
+    let mut areas = [vec![0; layout_reader::ANY_AREA], vec![0; layout_reader::ANY_AREA]];
+    let (mut same, mut other) = (0, 0);
+    for pair in accepted.windows(2) {
+        let [one, two] = &mut areas;
+        let one = answer(pair[0].image, pair[0].mode, one).expect("accepted");
+        let two = answer(pair[1].image, pair[1].mode, two).expect("accepted");
+        // a listing leaves out the widths of literals and, if not static, nothing else
+        let widths = |a: &Answer| a.components().map(|c| format!("{:?}", c.kind())).collect::<Vec<_>>();
+        let alike = pair[0].listing == pair[1].listing && widths(&one) == widths(&two);
+        assert_eq!(one == two, alike);
+        *(if alike { &mut same } else { &mut other }) += 1;
+    }
+    assert!(same >= 400 && other >= 400, "{same} same, {other} other");
+}
