@@ -4,7 +4,8 @@
 use core::{error::Error, fmt};
 
 use crate::{
-    answer::{image_text, number, Alignment, FILLER, LITERAL, VALUE_GIVEN, VARIABLE},
+    answer::image_text,
+    fields::{number, Alignment, DETERMINISTIC, FILLER, LITERAL, NONZERO, VALUE_GIVEN, VARIABLE},
     COMPONENT_SIZE, CONCATENATION_SIZE, HEAD_SIZE,
 };
 
@@ -12,7 +13,7 @@ use crate::{
 const IMAGE_HEADER: usize = 40;
 
 /// The flags that head and concatenations have.
-const DETERMINISTIC_NONZERO: u32 = 3;
+const BOTH: u32 = DETERMINISTIC | NONZERO;
 
 /// Why bytes are no answer to an image: what is wrong, and at which byte of the
 /// answer it was met.
@@ -71,7 +72,7 @@ impl Check<'_> {
     }
 
     fn head(&self) -> Result<(), Fault> {
-        self.flags(16, DETERMINISTIC_NONZERO | VALUE_GIVEN)?;
+        self.flags(16, BOTH | VALUE_GIVEN)?;
         self.alignment(20)?;
         let given = self.number(16) & VALUE_GIVEN != 0;
         need(given || self.empty(24), 24, "an absent starting value with a text")?;
@@ -87,7 +88,7 @@ impl Check<'_> {
             need(self.number(at) <= left, at, "more components than counted")?;
             left -= self.number(at);
             self.alignment(at + 4)?;
-            self.flags(at + 8, DETERMINISTIC_NONZERO)?;
+            self.flags(at + 8, BOTH)?;
         }
         need(left == 0, 4, "fewer components than counted")
     }
@@ -119,7 +120,7 @@ impl Check<'_> {
         need(left.len() >= bytes, place, "a literal cut off")?;
         let (literal, left) = left.split_at(bytes);
         let highest = literal.last().copied().unwrap_or(0);
-        let spare = width % 8 != 0 && highest >> (width % 8) != 0;
+        let spare = !width.is_multiple_of(8) && highest >> (width % 8) != 0;
         need(!spare, place + bytes - 1, "a spare bit that is set").map(|()| left)
     }
 

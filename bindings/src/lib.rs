@@ -1,19 +1,22 @@
 #![cfg_attr(feature = "library", doc = include_str!("../README.md"))]
-#![cfg_attr(not(feature = "library"), doc = "The layout reader's answers and words, without the run itself.")]
+#![cfg_attr(
+    not(feature = "library"),
+    doc = "The layout reader's answers and words, without the run itself."
+)]
 #![no_std]
 
 mod answer;
 mod check;
+mod fields;
 #[cfg(feature = "library")]
 mod library;
 mod words;
 
 use core::{error::Error, fmt};
 
-pub use answer::{
-    Alignment, Answer, Bound, Component, Components, Concatenation, Concatenations, Kind,
-};
+pub use answer::{Answer, Components, Concatenation, Concatenations};
 pub use check::Fault;
+pub use fields::{Alignment, Bound, Component, Kind};
 #[cfg(feature = "library")]
 pub use library::{answer, listing, run};
 pub use words::{words, WORDS};
@@ -32,10 +35,7 @@ pub const ANY_LISTING: usize = 140_577;
 /// The length of area that an image with these counts asks for; a shorter one
 /// is refused with number 8.
 pub const fn area_needed(concatenations: usize, components: usize, literal_bytes: usize) -> usize {
-    HEAD_SIZE
-        + CONCATENATION_SIZE * concatenations
-        + COMPONENT_SIZE * components
-        + literal_bytes
+    HEAD_SIZE + CONCATENATION_SIZE * concatenations + COMPONENT_SIZE * components + literal_bytes
 }
 
 /// Why an image was refused: a number, and the concatenation and component

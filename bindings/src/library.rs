@@ -12,12 +12,7 @@ extern "C" {
         area_length: u64,
     ) -> u64;
 
-    fn layout_listing(
-        input: *const u8,
-        input_length: u64,
-        out: *mut u8,
-        out_length: u64,
-    ) -> u64;
+    fn layout_listing(input: *const u8, input_length: u64, out: *mut u8, out_length: u64) -> u64;
 }
 
 /// Runs a prepared image in mode 0, 1 or 2 (any other is refused).
@@ -66,11 +61,7 @@ pub fn run(image: &[u8], mode: u32, area: &mut [u8]) -> Result<usize, Refusal> {
 /// assert_eq!(refusal.words(), "the image is shorter than its header");
 /// # Ok::<(), layout_reader::Refusal>(())
 /// ```
-pub fn answer<'a>(
-    image: &'a [u8],
-    mode: u32,
-    area: &'a mut [u8],
-) -> Result<Answer<'a>, Refusal> {
+pub fn answer<'a>(image: &'a [u8], mode: u32, area: &'a mut [u8]) -> Result<Answer<'a>, Refusal> {
     let length = run(image, mode, area)?;
     Ok(Answer::unchecked(area.get(..length).unwrap_or_default(), image))
 }

@@ -134,7 +134,8 @@ fn no_bytes_make_it_panic() {
     let (mut read, mut faults) = (0, 0);
     for round in 0..60_000 {
         let mut answer = worked_answer();
-        let mut image = if round % 3 == 0 { images[below(images.len())].to_vec() } else { worked_image() };
+        let mut image =
+            if round % 3 == 0 { images[below(images.len())].to_vec() } else { worked_image() };
         for _ in 0..below(4) {
             let at = below(answer.len());
             answer[at] = if below(2) == 0 { answer[at] ^ 1 << below(8) } else { below(256) as u8 };
