@@ -6,7 +6,7 @@ mod common;
 use std::io::Write;
 
 use common::{cases, listing, Case};
-use layout_reader::{answer, run, Answer, Kind, ANY_AREA};
+use layout_reader::{answer, run, Answer, Bound, Component, Kind, ANY_AREA};
 
 /// What a case comes to, printed; its answer is read with and without the check.
 fn told(case: &Case) -> String {
@@ -19,7 +19,21 @@ fn told(case: &Case) -> String {
     let mut other = vec![0x5a; case.area];
     let left = answer(case.image, case.mode, &mut other).expect("accepted before");
     assert_eq!(checked, left);
+    for component in checked.components() {
+        widths_right(component);
+    }
     listing(&checked)
+}
+
+/// A listing leaves out a literal's width: a literal of fixed bounds runs from 0
+/// to it.
+fn widths_right(component: Component) {
+    let (start, end) = (component.start(), component.end());
+    if let (Kind::Literal { width, .. }, b"", Some(Bound { text: b"", x })) =
+        (component.kind(), start.text, end)
+    {
+        assert_eq!((start.x, x), (0, i128::from(width)));
+    }
 }
 
 #[test]
