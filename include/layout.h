@@ -155,13 +155,14 @@ static inline const char *layout_words(unsigned number) {
 
 enum layout_kind { LAYOUT_LITERAL = 1, LAYOUT_VARIABLE = 2, LAYOUT_FILLER = 3 };
 
+/* Where a concatenation's filler without an end stands, or what the concatenations say of it together. */
 enum layout_alignment {
-    LAYOUT_ALIGN_NONE = 0,
-    LAYOUT_ALIGN_SINGLE = 1,
-    LAYOUT_ALIGN_LSB = 2,
-    LAYOUT_ALIGN_MSB = 3,
-    LAYOUT_ALIGN_MID = 4,
-    LAYOUT_ALIGN_MULTIPLE = 5
+    LAYOUT_ALIGN_NONE = 0,    /* there is none */
+    LAYOUT_ALIGN_SINGLE = 1,  /* it is the only component */
+    LAYOUT_ALIGN_LSB = 2,     /* it is the lowest component */
+    LAYOUT_ALIGN_MSB = 3,     /* it is the highest component */
+    LAYOUT_ALIGN_MID = 4,     /* it stands between others */
+    LAYOUT_ALIGN_MULTIPLE = 5 /* the concatenations differ: no accepted answer has it */
 };
 
 /* Readers of an answer. They take for granted that the bytes are an answer which layout_run accepted and left, and that the image is

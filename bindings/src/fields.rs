@@ -13,14 +13,22 @@ pub(crate) const DETERMINISTIC: u32 = 1;
 pub(crate) const NONZERO: u32 = 2;
 pub(crate) const VALUE_GIVEN: u32 = 4;
 
-/// Where the one filler without a width stands in a concatenation.
+/// Where the unbounded filler of a concatenation stands (a filler without an
+/// end), or what the concatenations say of it together.
 #[derive(Debug, Clone, Copy, PartialEq, Eq, Hash)]
 pub enum Alignment {
+    /// There is none; of a whole answer, some concatenation has none.
     None,
+    /// It is the only component.
     Single,
+    /// It is the lowest component.
     Lsb,
+    /// It is the highest component.
     Msb,
+    /// It stands between others.
     Mid,
+    /// Of a whole answer alone: the concatenations differ. None that is accepted
+    /// has it.
     Multiple,
 }
 
