@@ -114,6 +114,29 @@ fn faults_say_what_is_wrong() {
     assert_eq!(fault(first, 2), "a variable without text or a filler with one, at byte 76");
 }
 
+#[test]
+fn faults_of_lengths_counts_and_images() {
+    let said = |answer: &[u8], image: &[u8]| {
+        Answer::read(answer, image).expect_err("something wrong").to_string()
+    };
+    let (answer, image) = (worked_answer(), worked_image());
+    assert_eq!(said(&answer[..31], &image), "shorter than its head, at byte 31");
+    assert_eq!(said(&answer[..215], &image), "shorter than its tables, at byte 215");
+    assert_eq!(
+        said(&answer, &image[..39]),
+        "no image, which is shorter than its header, at byte 0"
+    );
+    for (at, number) in [(12, 16), (12, u32::MAX), (32, 41), (32, u32::MAX)] {
+        let mut wrong = image.clone();
+        wrong[at..at + 4].copy_from_slice(&number.to_le_bytes());
+        assert_eq!(said(&answer, &wrong), "no image, whose text lies outside it, at byte 0");
+    }
+    // both components stay, but only the first concatenation
+    let one = |bytes: &[u8]| [&1u32.to_le_bytes(), &bytes[4..]].concat();
+    let fewer = [&one(&answer)[..52], &answer[72..]].concat();
+    assert_eq!(said(&fewer, &one(&image)), "fewer components than counted, at byte 4");
+}
+
 /// Walks all that an answer hands out.
 fn walk(answer: &Answer) -> usize {
     listing(answer).len() + format!("{answer:?}").len() + answer.components().rev().count()
