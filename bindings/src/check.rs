@@ -120,7 +120,7 @@ impl Check<'_> {
         need(left.len() >= bytes, place, "a literal cut off")?;
         let (literal, left) = left.split_at(bytes);
         let highest = literal.last().copied().unwrap_or(0);
-        let spare = !width.is_multiple_of(8) && highest >> (width % 8) != 0;
+        let spare = width % 8 != 0 && highest >> (width % 8) != 0;
         need(!spare, place + bytes - 1, "a spare bit that is set").map(|()| left)
     }
 
