@@ -1,14 +1,18 @@
 /* The layout reader: three functions of the static library target/staticlib/liblayout_c.a, which `rt staticlib layout_c` proves and
  * writes (for x86-64 Linux). They take any bytes, allocate nothing, keep nothing between calls, and write nothing but what is lent to
- * be written.
+ * be written. For C99, C11 and C++17. docs/FORMAT.md has the bytes of an image and of an answer.
  *
  *     uint8_t area[LAYOUT_ANY_AREA];
  *     uint64_t outcome = layout_run(image, image_length, 0, area, sizeof area);
  *     if (layout_accepted(outcome)) {
- *         size_t length = layout_length(outcome);    // area[0] to area[length - 1] are the answer
- *         printf("%zu bytes, %u components\n", length, area[4] + 256u * area[5]);
+ *         for (uint32_t i = 0; i < layout_answer_components(area); i++)
+ *             if (layout_component_kind(area, i) == LAYOUT_VARIABLE) {
+ *                 struct layout_bytes name = layout_component_text(area, image, i);
+ *                 printf("%.*s\n", (int)name.length, (const char *)name.bytes);
+ *             }
  *     } else {
- *         printf("refused %u %u %u\n", layout_number(outcome), layout_concatenation(outcome), layout_component(outcome));
+ *         printf("refused %u %u %u: %s\n", layout_number(outcome), layout_concatenation(outcome), layout_component(outcome),
+ *                layout_words(layout_number(outcome)));
  *     }
  */
 #ifndef LAYOUT_H
@@ -21,13 +25,36 @@
 extern "C" {
 #endif
 
+/* The version of this header, of the library beside it and of the Rust crate in bindings/. */
+#define LAYOUT_VERSION_MAJOR 0
+#define LAYOUT_VERSION_MINOR 1
+#define LAYOUT_VERSION_PATCH 0
+#define LAYOUT_VERSION "0.1.0"
+
+/* The three functions. Lengths are uint64_t and not size_t: the compiled library takes 64-bit lengths on every target, on a 32-bit one
+ * too. On x86-64 it is the same call. */
+
 /* Runs a prepared image: modes 0 no return type, 1 return type, 2 return type and static width (any other is refused).
  *
  * Accepted: the answer's length, which is below 2^32; the answer stands in the area from its first byte, the bytes after it are as
  * lent. Refused: number * 2^32 + concatenation * 2^16 + component, and the whole area is as lent.
  *
  * image and area are image_length and area_length bytes that do not overlap; where a length is 0 the pointer may be null. */
-uint64_t layout_run(const uint8_t *image, size_t image_length, uint32_t mode, uint8_t *area, size_t area_length);
+uint64_t layout_run(const uint8_t *image, uint64_t image_length, uint32_t mode, uint8_t *area, uint64_t area_length);
+
+/* The text that the program `layout` prints, for an input of one mode byte and an image: its length. Where the text is longer than
+ * out, the answer is 0, and out has its first part; LAYOUT_ANY_LISTING bytes are enough for any. The bytes after the text are as lent.
+ * It keeps an area of LAYOUT_ANY_AREA bytes on the stack. */
+uint64_t layout_listing(const uint8_t *input, uint64_t input_length, uint8_t *out, uint64_t out_length);
+
+/* The image check alone: 0 for an image that passes it, else the number that refuses it, 2 to 7. */
+uint32_t layout_check(const uint8_t *image, uint64_t image_length);
+
+/* The stack that a call takes below its caller's frame, in bytes: measured, x86-64, and rounded up. The most that 25,000 generated cases
+ * took, among them the largest image and groups of depth 32: 28,640 for layout_run, 55,696 for layout_listing, 6,016 for layout_check. */
+#define LAYOUT_RUN_STACK 32768
+#define LAYOUT_LISTING_STACK 65536
+#define LAYOUT_CHECK_STACK 8192
 
 /* The answer area in bytes: its head, each concatenation, each component. */
 #define LAYOUT_HEAD_SIZE 32
@@ -40,16 +67,7 @@ uint64_t layout_run(const uint8_t *image, size_t image_length, uint32_t mode, ui
     ((size_t)LAYOUT_HEAD_SIZE + (size_t)LAYOUT_CONCATENATION_SIZE * (concatenations)              \
      + (size_t)LAYOUT_COMPONENT_SIZE * (components) + (size_t)(literal_bytes))
 #define LAYOUT_ANY_AREA LAYOUT_AREA(16, 256, 8192)
-
-/* The text that the program `layout` prints, for an input of one mode byte and an image: its length. Where the text is longer than
- * out, the answer is 0, and out has its first part; LAYOUT_ANY_LISTING bytes are enough for any. The bytes after the text are as lent.
- * It keeps an area of LAYOUT_ANY_AREA bytes on the stack. */
-size_t layout_listing(const uint8_t *input, size_t input_length, uint8_t *out, size_t out_length);
-
 #define LAYOUT_ANY_LISTING 140577
-
-/* The image check alone: 0 for an image that passes it, else the number that refuses it, 2 to 7. */
-uint32_t layout_check(const uint8_t *image, size_t image_length);
 
 /* What an outcome of layout_run says. */
 static inline int layout_accepted(uint64_t outcome) { return outcome >> 32 == 0; }
@@ -61,6 +79,232 @@ static inline size_t layout_length(uint64_t outcome) { return (size_t)outcome; }
 static inline unsigned layout_number(uint64_t outcome) { return (unsigned)(outcome >> 32); }
 static inline unsigned layout_concatenation(uint64_t outcome) { return (unsigned)(outcome >> 16) & 0xffff; }
 static inline unsigned layout_component(uint64_t outcome) { return (unsigned)outcome & 0xffff; }
+
+/* What a refusal's number says, in plain words. */
+static inline const char *layout_words(unsigned number) {
+    switch (number) {
+    case 1: return "the mode is above 2";
+    case 2: return "the image is shorter than its header";
+    case 3: return "a count in the header is out of its range";
+    case 4: return "a table's place or the image's length is wrong";
+    case 5: return "a concatenation's or component's entry, a sum of them, or a literal's spare bits are wrong";
+    case 6: return "a record or its text is wrong";
+    case 7: return "groups nest deeper than 32";
+    case 8: return "the lent area is too short for this image";
+    case 10: return "a starting value's colon with nothing after it";
+    case 11: return "a range with nothing before it";
+    case 12: return "an empty range";
+    case 13: return "a second `..` in a range";
+    case 14: return "`...` in a range";
+    case 15: return "a bound that is not one token or one group in parentheses";
+    case 16: return "a bound's number does not fit 128 bits";
+    case 17: return "it begins like a literal, but is none";
+    case 20: return "a bound's number, with its text read as a number, does not fit 128 bits";
+    case 21: return "a bound below 0";
+    case 22: return "a range that ends before it starts";
+    case 23: return "a range of width 0";
+    case 24: return "a literal's range starts at or above its width";
+    case 25: return "a literal's range ends above its width";
+    case 26: return "a literal's range is wider than the literal";
+    case 27: return "a literal's range from a text to 0";
+    case 28: return "a filler that does not start at 0 and has no end";
+    case 30: return "a literal where something is copied to";
+    case 31: return "nothing but an unbounded filler where something is copied to";
+    case 32: return "a second unbounded filler";
+    case 33: return "a total width of 0";
+    case 34: return "the widths add up to more than 2^64-1";
+    case 40: return "a filler in the source, with a return type and no starting value";
+    case 41: return "two concatenations of different known widths";
+    case 42: return "static width wanted, and none is known";
+    case 43: return "one concatenation alone, of no fixed width";
+    case 44: return "a filler in the middle, and no width is fixed";
+    case 45: return "fillers at opposite ends, and no width is fixed";
+    default: return "an unknown number";
+    }
+}
+
+/* The answer's bytes: where each number stands in the head, in a concatenation's entry, in a component's and in a bound's. A number has
+ * 4 bytes, a width and half an x have 8; all are little-endian. A text is two numbers, its start in the image's text and its length. */
+#define LAYOUT_HEAD_CONCATENATIONS 0
+#define LAYOUT_HEAD_COMPONENTS 4 /* after merging */
+#define LAYOUT_HEAD_WIDTH 8      /* common width, 0 for none */
+#define LAYOUT_HEAD_FLAGS 16
+#define LAYOUT_HEAD_ALIGNMENT 20
+#define LAYOUT_HEAD_VALUE 24     /* the starting value's text */
+
+#define LAYOUT_CONCATENATION_COMPONENTS 0
+#define LAYOUT_CONCATENATION_ALIGNMENT 4
+#define LAYOUT_CONCATENATION_FLAGS 8
+#define LAYOUT_CONCATENATION_WIDTH 12 /* static width, 0 for none */
+
+#define LAYOUT_COMPONENT_KIND 0
+#define LAYOUT_COMPONENT_TEXT 4           /* 0, 0 but for a variable */
+#define LAYOUT_COMPONENT_LITERAL_WIDTH 12 /* in bits; 0 but for a literal, as is the next */
+#define LAYOUT_COMPONENT_LITERAL_OFFSET 16
+#define LAYOUT_COMPONENT_HAS_END 20
+#define LAYOUT_COMPONENT_START 24
+#define LAYOUT_COMPONENT_END 48           /* zeros where there is none */
+
+#define LAYOUT_BOUND_TEXT 0
+#define LAYOUT_BOUND_LOW 8 /* x in two's complement */
+#define LAYOUT_BOUND_HIGH 16
+
+#define LAYOUT_DETERMINISTIC 1u
+#define LAYOUT_NONZERO 2u
+#define LAYOUT_VALUE_GIVEN 4u /* in the head alone */
+
+enum layout_kind { LAYOUT_LITERAL = 1, LAYOUT_VARIABLE = 2, LAYOUT_FILLER = 3 };
+
+/* Where a concatenation's filler without an end stands, or what the concatenations say of it together. */
+enum layout_alignment {
+    LAYOUT_ALIGN_NONE = 0,    /* there is none */
+    LAYOUT_ALIGN_SINGLE = 1,  /* it is the only component */
+    LAYOUT_ALIGN_LSB = 2,     /* it is the lowest component */
+    LAYOUT_ALIGN_MSB = 3,     /* it is the highest component */
+    LAYOUT_ALIGN_MID = 4,     /* it stands between others */
+    LAYOUT_ALIGN_MULTIPLE = 5 /* the concatenations differ: no accepted answer has it */
+};
+
+/* Readers of an answer. They take for granted that the bytes are an answer which layout_run accepted and left, and that the image is
+ * the one it was run on: nothing is checked again. They read byte by byte, whatever the alignment and the machine, and allocate
+ * nothing; what they point to are bytes of the image and of the answer. */
+struct layout_bytes {
+    const uint8_t *bytes; /* null where there is nothing at all, as a starting value that is not given */
+    size_t length;
+};
+
+struct layout_bound {
+    struct layout_bytes text;
+    uint64_t low, high; /* x, in two's complement */
+};
+
+static inline uint32_t layout_u32(const uint8_t *at) {
+    return (uint32_t)at[0] | (uint32_t)at[1] << 8 | (uint32_t)at[2] << 16 | (uint32_t)at[3] << 24;
+}
+
+static inline uint64_t layout_u64(const uint8_t *at) { return layout_u32(at) | (uint64_t)layout_u32(at + 4) << 32; }
+
+/* The bytes that a text's two numbers name; the offset of the image's text is its header's ninth number. */
+static inline struct layout_bytes layout_text(const uint8_t *at, const uint8_t *image) {
+    struct layout_bytes text;
+    text.bytes = image + layout_u32(image + 32) + layout_u32(at);
+    text.length = layout_u32(at + 4);
+    return text;
+}
+
+/* The whole answer: its concatenations, its components after merging, the common width (0 for none), flags, alignment, and the
+ * starting value's text (null bytes where none is given). */
+static inline uint32_t layout_answer_concatenations(const uint8_t *answer) { return layout_u32(answer + LAYOUT_HEAD_CONCATENATIONS); }
+static inline uint32_t layout_answer_components(const uint8_t *answer) { return layout_u32(answer + LAYOUT_HEAD_COMPONENTS); }
+static inline uint64_t layout_answer_width(const uint8_t *answer) { return layout_u64(answer + LAYOUT_HEAD_WIDTH); }
+static inline uint32_t layout_answer_flags(const uint8_t *answer) { return layout_u32(answer + LAYOUT_HEAD_FLAGS); }
+
+static inline enum layout_alignment layout_answer_alignment(const uint8_t *answer) {
+    return (enum layout_alignment)layout_u32(answer + LAYOUT_HEAD_ALIGNMENT);
+}
+
+static inline struct layout_bytes layout_answer_value(const uint8_t *answer, const uint8_t *image) {
+    struct layout_bytes none = {NULL, 0};
+    return layout_answer_flags(answer) & LAYOUT_VALUE_GIVEN ? layout_text(answer + LAYOUT_HEAD_VALUE, image) : none;
+}
+
+/* An alignment's word in a listing. */
+static inline const char *layout_alignment_word(enum layout_alignment alignment) {
+    switch (alignment) {
+    case LAYOUT_ALIGN_NONE: return "none";
+    case LAYOUT_ALIGN_SINGLE: return "single";
+    case LAYOUT_ALIGN_LSB: return "lsb";
+    case LAYOUT_ALIGN_MSB: return "msb";
+    case LAYOUT_ALIGN_MID: return "mid";
+    case LAYOUT_ALIGN_MULTIPLE: return "multiple";
+    }
+    return "unknown";
+}
+
+/* Concatenation c, from 0: its entry, number of components, static width (0 for none), flags (deterministic, nonzero), alignment. */
+static inline const uint8_t *layout_concatenation_entry(const uint8_t *answer, uint32_t c) {
+    return answer + LAYOUT_AREA(c, 0, 0);
+}
+
+static inline uint32_t layout_concatenation_components(const uint8_t *answer, uint32_t c) {
+    return layout_u32(layout_concatenation_entry(answer, c) + LAYOUT_CONCATENATION_COMPONENTS);
+}
+
+static inline uint64_t layout_concatenation_width(const uint8_t *answer, uint32_t c) {
+    return layout_u64(layout_concatenation_entry(answer, c) + LAYOUT_CONCATENATION_WIDTH);
+}
+
+static inline uint32_t layout_concatenation_flags(const uint8_t *answer, uint32_t c) {
+    return layout_u32(layout_concatenation_entry(answer, c) + LAYOUT_CONCATENATION_FLAGS);
+}
+
+static inline enum layout_alignment layout_concatenation_alignment(const uint8_t *answer, uint32_t c) {
+    return (enum layout_alignment)layout_u32(layout_concatenation_entry(answer, c) + LAYOUT_CONCATENATION_ALIGNMENT);
+}
+
+/* The first component of concatenation c: its components are this one and those after it, as many as it has. */
+static inline uint32_t layout_concatenation_first(const uint8_t *answer, uint32_t c) {
+    uint32_t before = 0, i;
+    for (i = 0; i < c; i++)
+        before += layout_concatenation_components(answer, i);
+    return before;
+}
+
+/* Component i, counted from 0 over all concatenations, the lowest of each first: its entry, its kind, a variable's text. */
+static inline const uint8_t *layout_component_entry(const uint8_t *answer, uint32_t i) {
+    return answer + LAYOUT_AREA(layout_answer_concatenations(answer), i, 0);
+}
+
+static inline enum layout_kind layout_component_kind(const uint8_t *answer, uint32_t i) {
+    return (enum layout_kind)layout_u32(layout_component_entry(answer, i) + LAYOUT_COMPONENT_KIND);
+}
+
+static inline struct layout_bytes layout_component_text(const uint8_t *answer, const uint8_t *image, uint32_t i) {
+    return layout_text(layout_component_entry(answer, i) + LAYOUT_COMPONENT_TEXT, image);
+}
+
+/* A literal's width in bits, and its bytes, the lowest first, the spare high bits of the last being 0. */
+static inline uint32_t layout_literal_width(const uint8_t *answer, uint32_t i) {
+    return layout_u32(layout_component_entry(answer, i) + LAYOUT_COMPONENT_LITERAL_WIDTH);
+}
+
+static inline struct layout_bytes layout_literal_bytes(const uint8_t *answer, uint32_t i) {
+    struct layout_bytes literal;
+    const uint8_t *block = layout_component_entry(answer, layout_answer_components(answer));
+    literal.bytes = block + layout_u32(layout_component_entry(answer, i) + LAYOUT_COMPONENT_LITERAL_OFFSET);
+    literal.length = ((size_t)layout_literal_width(answer, i) + 7) / 8;
+    return literal;
+}
+
+/* Start, whether there is an end, and the end (nothing and 0 where there is none): a text plus a number x. */
+static inline struct layout_bound layout_bound_at(const uint8_t *at, const uint8_t *image) {
+    struct layout_bound bound;
+    bound.text = layout_text(at + LAYOUT_BOUND_TEXT, image);
+    bound.low = layout_u64(at + LAYOUT_BOUND_LOW);
+    bound.high = layout_u64(at + LAYOUT_BOUND_HIGH);
+    return bound;
+}
+
+static inline struct layout_bound layout_component_start(const uint8_t *answer, const uint8_t *image, uint32_t i) {
+    return layout_bound_at(layout_component_entry(answer, i) + LAYOUT_COMPONENT_START, image);
+}
+
+static inline int layout_component_has_end(const uint8_t *answer, uint32_t i) {
+    return layout_u32(layout_component_entry(answer, i) + LAYOUT_COMPONENT_HAS_END) != 0;
+}
+
+static inline struct layout_bound layout_component_end(const uint8_t *answer, const uint8_t *image, uint32_t i) {
+    return layout_bound_at(layout_component_entry(answer, i) + LAYOUT_COMPONENT_END, image);
+}
+
+/* A bound's x: 1, and the number in *x, where it fits 64 bits; else 0, and *x is as it was. */
+static inline int layout_bound_x(struct layout_bound bound, int64_t *x) {
+    const int negative = bound.low >> 63 != 0;
+    if (bound.high != (negative ? UINT64_MAX : 0))
+        return 0;
+    *x = negative ? -(int64_t)~bound.low - 1 : (int64_t)bound.low;
+    return 1;
+}
 
 #ifdef __cplusplus
 }

@@ -2,7 +2,7 @@
 //! answer that it does not look at.
 
 use layout_rust::{
-    answer::{area_needed, listing, read},
+    answer::{Answer, area_needed, listing},
     text::encode,
 };
 
@@ -36,22 +36,22 @@ fn worked() -> (Vec<u8>, Vec<u8>) {
 fn worked_listing() {
     let (image, answer) = worked();
     assert_eq!(answer.len(), area_needed(2, 2, 1));
-    assert_eq!(listing(&read(&image, &answer).expect("an answer")), LISTING);
+    assert_eq!(listing(&Answer::read(&answer, &image).expect("an answer")), LISTING);
 }
 
 #[test]
 fn every_byte_is_looked_at() {
     let (image, answer) = worked();
-    let right = read(&image, &answer).expect("an answer");
+    let right = Answer::read(&answer, &image).expect("an answer");
     for at in 0..answer.len() {
         for bit in 0..8 {
             let mut wrong = answer.clone();
             wrong[at] ^= 1 << bit;
-            assert!(read(&image, &wrong).as_ref() != Ok(&right), "byte {at}, bit {bit}");
+            assert!(Answer::read(&wrong, &image) != Ok(right), "byte {at}, bit {bit}");
         }
     }
     for length in 0..answer.len() {
-        assert!(read(&image, &answer[..length]).is_err(), "cut to {length}");
+        assert!(Answer::read(&answer[..length], &image).is_err(), "cut to {length}");
     }
-    assert!(read(&image, &[answer, vec![0]].concat()).is_err(), "one byte more");
+    assert!(Answer::read(&[&answer[..], &[0]].concat(), &image).is_err(), "one byte more");
 }

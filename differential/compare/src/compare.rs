@@ -27,10 +27,18 @@ pub struct Call {
     pub area: usize,
 }
 
-/// What ours said: its listing, and the answer where it accepted.
+/// What ours said: its listing, and the image and answer where it accepted.
 pub struct Said {
     pub listing: String,
-    pub answer: Option<Answer>,
+    pub accepted: Option<(Vec<u8>, Vec<u8>)>,
+}
+
+impl Said {
+    /// The answer, read again from what was kept of it.
+    fn answer(&self) -> Option<Answer<'_>> {
+        let (image, answer) = self.accepted.as_ref()?;
+        Answer::read(answer, image).ok()
+    }
 }
 
 /// The mode and the image of an input; an empty one has mode 0.
@@ -84,7 +92,7 @@ pub fn expected(input: &[u8], call: Call) -> Option<String> {
 /// Runs ours; what was changed and may not be, or an answer that cannot be
 /// read, is what it said.
 pub fn said(lender: &mut Lender, image: &[u8], call: Call) -> Said {
-    let fault = |fault: &str| Said { listing: format!("fault: {fault}\n"), answer: None };
+    let fault = |fault: &str| Said { listing: format!("fault: {fault}\n"), accepted: None };
     let done = match lender.run(image, call.mode, call.area) {
         Ok(done) => done,
         Err(changed) => return fault(changed),
@@ -93,12 +101,15 @@ pub fn said(lender: &mut Lender, image: &[u8], call: Call) -> Said {
         Err(refusal) => {
             let (concatenation, component) = refusal.places;
             let listing = format!("refused {} {concatenation} {component}\n", refusal.number);
-            Said { listing, answer: None }
+            Said { listing, accepted: None }
         }
         Ok(_) if check(image).is_err() => fault("an answer to a wrong image"),
-        Ok(_) => match answer::read(image, done.answer) {
-            Ok(answer) => Said { listing: answer::listing(&answer), answer: Some(answer) },
-            Err(wrong) => fault(wrong),
+        Ok(_) => match Answer::read(done.answer, image) {
+            Ok(answer) => {
+                let accepted = Some((image.to_vec(), done.answer.to_vec()));
+                Said { listing: answer::listing(&answer), accepted }
+            }
+            Err(wrong) => fault(&wrong.to_string()),
         },
     }
 }
@@ -148,8 +159,8 @@ impl Comparison<'_> {
         if let Some(cut) = &pair.cut {
             let (pieces, _) = self.input("cut pair, in pieces", cut);
             let equal = whole.listing == pieces.listing
-                && whole.answer == pieces.answer
-                && whole.answer.is_some();
+                && whole.answer() == pieces.answer()
+                && whole.answer().is_some();
             self.tally.pair(equal, &pair.case.input, cut);
         }
         compared

@@ -1,0 +1,77 @@
+//! The calls of the static library, safe.
+
+use crate::{Answer, Refusal};
+
+// Lengths are 64-bit on every target, as the compiled library takes them.
+extern "C" {
+    fn layout_run(
+        image: *const u8,
+        image_length: u64,
+        mode: u32,
+        area: *mut u8,
+        area_length: u64,
+    ) -> u64;
+
+    fn layout_listing(input: *const u8, input_length: u64, out: *mut u8, out_length: u64) -> u64;
+}
+
+/// Runs a prepared image in mode 0, 1 or 2 (any other is refused).
+///
+/// Accepted: the length of the answer, which stands in the area from its first
+/// byte; the bytes after it are as lent. Refused: the area is as lent.
+pub fn run(image: &[u8], mode: u32, area: &mut [u8]) -> Result<usize, Refusal> {
+    let (image_length, area_length) = (image.len() as u64, area.len() as u64);
+    // SAFETY: each pointer is that of a slice of the length beside it, and the
+    // area, being lent as `&mut`, does not overlap the image. The function reads
+    // the image and writes the area, both within their lengths, and keeps
+    // neither: that is proved of it.
+    let outcome =
+        unsafe { layout_run(image.as_ptr(), image_length, mode, area.as_mut_ptr(), area_length) };
+    match (outcome >> 32) as u32 {
+        0 => Ok(outcome as usize),
+        number => Err(Refusal {
+            number,
+            concatenation: (outcome >> 16) as u32 & 0xffff,
+            component: outcome as u32 & 0xffff,
+        }),
+    }
+}
+
+/// Runs as `run` does, and hands out the answer that the area now holds. That
+/// its bytes are laid out as an answer is the run's promise; they are not
+/// checked again.
+///
+/// ```
+/// use layout_reader::{answer, Kind, ANY_AREA};
+///
+/// // 0x1234u16[8..], 0x1234u16[..8], amount[..24]; card[..40]
+/// let input = include_bytes!(concat!(env!("CARGO_MANIFEST_DIR"), "/../examples/cut.in"));
+/// let mut area = [0; ANY_AREA];
+/// let answer = answer(&input[1..], 0, &mut area)?;
+/// assert_eq!(answer.width(), Some(40));
+/// let source = answer.concatenations().next().unwrap();
+/// let mut components = source.components();
+/// assert_eq!(components.next().unwrap().kind(), Kind::Variable(b"amount"));
+/// let merged = Kind::Literal { width: 16, bytes: &[0x34, 0x12] };
+/// assert_eq!(components.next().unwrap().kind(), merged);
+/// assert_eq!(components.next(), None);
+///
+/// let refusal = layout_reader::answer(&[], 0, &mut []).unwrap_err();
+/// assert_eq!(refusal.to_string(), "refused 2 0 0");
+/// assert_eq!(refusal.words(), "the image is shorter than its header");
+/// # Ok::<(), layout_reader::Refusal>(())
+/// ```
+pub fn answer<'a>(image: &'a [u8], mode: u32, area: &'a mut [u8]) -> Result<Answer<'a>, Refusal> {
+    let length = run(image, mode, area)?;
+    Ok(Answer::unchecked(area.get(..length).unwrap_or_default(), image))
+}
+
+/// The text that the program `layout` prints for an input, one mode byte and an
+/// image: its length, or nothing where it is longer than the buffer.
+pub fn listing(input: &[u8], out: &mut [u8]) -> Option<usize> {
+    let (input_length, out_length) = (input.len() as u64, out.len() as u64);
+    // SAFETY: as in `run`, with the input read and the buffer written.
+    let length =
+        unsafe { layout_listing(input.as_ptr(), input_length, out.as_mut_ptr(), out_length) };
+    (length > 0).then_some(length as usize)
+}
