@@ -103,10 +103,14 @@ fn answer_file(name: &[u8]) {
 
 // Says in two lines what is read.
 fn help() {
-    io::write_all(STDERR_FILENO, b"layout [FILE]: prints the listing of one mode byte (0, 1, 2) and a prepared image, ");
-    io::write_all(STDERR_FILENO, b"from FILE or standard input.\n");
-    io::write_all(STDERR_FILENO, b"A line of text is read by ./line; docs/FORMAT.md has the image's bytes, ");
-    io::write_all(STDERR_FILENO, b"README.md the listing and the numbers.\n");
+    io::write_all(
+        STDERR_FILENO,
+        b"layout [FILE]: prints the listing of one mode byte (0, 1, 2) and a prepared image, from FILE or standard input.\n",
+    );
+    io::write_all(
+        STDERR_FILENO,
+        b"A line of text is read by ./line; docs/FORMAT.md has the image's bytes, README.md the listing and the numbers.\n",
+    );
 }
 
 // Whether an argument is the word.
