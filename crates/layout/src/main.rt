@@ -87,10 +87,6 @@ fn answer_open(fd: i32, name: &[u8]) {
     }
 }
 
-fn answer_standard_input() {
-    answer_open(STDIN_FILENO, b"standard input");
-}
-
 fn answer_file(name: &[u8]) {
     let fd = os::open_read(name);
     if fd < 0 {
@@ -128,17 +124,18 @@ fn is(name: &[u8], word: &[u8]) -> bool {
     true
 }
 
+// Answers an argument: a file's name, or `-` for standard input.
 fn answer_named(name: &[u8]) {
     if is(name, b"-h") || is(name, b"--help") {
         help();
     } else if is(name, b"-") {
-        answer_standard_input();
+        answer_open(STDIN_FILENO, b"standard input");
     } else {
         answer_file(name);
     }
 }
 
-// Answers the one argument. One that is longer than any path is not cut short: it would name another file.
+// Answers the program's one argument. One that is longer than any path is not cut short: it would name another file.
 fn answer_argument() {
     let mut name = io::buffer();
     let n = os::arg(1, &mut name);
@@ -158,6 +155,6 @@ fn main() {
     } else if libc::isatty(STDIN_FILENO) != 0 {
         help();
     } else {
-        answer_standard_input();
+        answer_named(b"-");
     }
 }
