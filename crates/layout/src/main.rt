@@ -109,29 +109,15 @@ fn help() {
     );
 }
 
-// Whether an argument is the word.
-fn is(name: &[u8], word: &[u8]) -> bool {
-    if name.len() != word.len() {
-        return false;
-    }
-    let mut i = 0;
-    while i < word.len() {
-        if name[i] != word[i] {
-            return false;
-        }
-        i += 1;
-    }
-    true
-}
-
-// Answers an argument: a file's name, or `-` for standard input.
+// Answers an argument: a file's name, or `-` for standard input. What else begins with `-` asks for help, as `--help` (a file of such a
+// name is given as `./-name`).
 fn answer_named(name: &[u8]) {
-    if is(name, b"-h") || is(name, b"--help") {
-        help();
-    } else if is(name, b"-") {
+    if name.len() == 0 || name[0] != b'-' {
+        answer_file(name);
+    } else if name.len() == 1 {
         answer_open(STDIN_FILENO, b"standard input");
     } else {
-        answer_file(name);
+        help();
     }
 }
 
