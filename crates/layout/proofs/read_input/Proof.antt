@@ -7,10 +7,10 @@ use Rattle.layout.proofs.read_input.Statement.{statement}
 use Rattle.layout.proofs.read_input.Tie as tie
 
 abbrev Inv-loop : tie.InvT-loop
-Inv-loop buf₀ done₀ buf done = (length buf ≡ length buf₀) × (done ≤ length buf)
+Inv-loop fd buf₀ done₀ buf done = (length buf ≡ length buf₀) × (done ≤ length buf)
 
 abbrev μ-loop : tie.MeasureT-loop
-μ-loop buf₀ done₀ buf done = length buf₀ - done
+μ-loop fd buf₀ done₀ buf done = length buf₀ - done
 
 loop-holds : tie.Need-loop-holds Inv-loop μ-loop
 loop-holds c = search needs
