@@ -68,7 +68,8 @@ function differenceIn(where, fields, x, y) {
 function concatenationDifference(a, b, i) {
   const count = Math.min(a.components.length, b.components.length);
   for (let k = 0; k < count; k++) {
-    const where = `${shownConcatenation(i)}, component ${k} counted from the right, from 0`;
+    // by its place from the right, for literals are merged and the line's own components can be more
+    const where = `${shownConcatenation(i)}, field ${k + 1} from the right`;
     const difference = differenceIn(where, COMPONENT_FIELDS, a.components[k], b.components[k]);
     if (difference) return difference;
   }

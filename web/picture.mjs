@@ -18,13 +18,19 @@ function cells(text) {
   return sum;
 }
 
+/** Two dots alone would not be seen in a dotted box. */
+function labelOf({ kind, label }) {
+  if (kind !== 'filler') return label;
+  return label === '..' ? 'filler' : `filler ${label}`;
+}
+
 /** A field's box: what is written in it and under its edges, and the least width in which that can be read. */
 function boxOf(field) {
   const known = field.width !== null;
   const bits = known && field.width > 0n && field.from !== null;
   const box = {
     field,
-    label: shortened(field.label, LONGEST_LABEL),
+    label: shortened(labelOf(field), LONGEST_LABEL),
     size: `${field.kind[0].toUpperCase()} ${known ? field.width : '?'}`,
     low: bits || (field.from !== null && !known) ? String(field.from) : '',
     high: bits && field.to !== field.from ? String(field.to) : '',

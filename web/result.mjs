@@ -47,5 +47,5 @@ export function verdictOf(one, two) {
   if (difference === null) return { kind: 'same', words: 'The same card: yes.' };
   const { where, what, one: first, two: second } = difference;
   const values = `${shortened(first, 60)} in the first line, ${shortened(second, 60)} in the second`;
-  return { kind: 'other', words: `The same card: no. First difference, in ${where}: ${what} is ${values}.` };
+  return { kind: 'other', words: `The same card: no. First difference, in ${where}: ${what}, ${values}.` };
 }

@@ -79,8 +79,8 @@ function drawnBox(box, y) {
   group.append(svg('rect', { ...place, class: 'ground' }), svg('rect', { ...place, class: 'pattern' }), svg('rect', { ...place, class: 'edge' }));
   // an inner drawing cuts off what does not fit its box
   const inner = svg('svg', { ...place, height: BOX + NUMBERS });
-  inner.append(svg('text', { x: 5, y: 15, class: 'small' }, box.size));
-  inner.append(svg('text', { x: wide / 2, y: 35, class: 'label' }, box.label));
+  inner.append(svg('text', { x: 5, y: 15, class: 'small inside' }, box.size));
+  inner.append(svg('text', { x: wide / 2, y: 35, class: 'label inside' }, box.label));
   if (box.high) inner.append(svg('text', { x: 2, y: BOX + 13, class: 'small' }, box.high));
   if (box.low) inner.append(svg('text', { x: wide - 2, y: BOX + 13, class: 'small low' }, box.low));
   group.append(inner);
@@ -88,11 +88,11 @@ function drawnBox(box, y) {
 }
 
 function table(ruler, i) {
-  const heads = ['kind', 'field', 'from bit', 'to bit', 'width'].map((name) => html('th', { scope: 'col' }, name));
+  const heads = ['kind', 'field', 'from', 'to', 'width'].map((name, k) => html('th', { scope: 'col', class: k > 1 ? 'number' : '' }, name));
   const rows = rulerRows(ruler).map(([kind, label, ...numbers]) => {
-    const cells = numbers.map((number) => html('td', { class: 'number' }, number));
+    const cells = numbers.map((number) => html('td', { class: /[0-9]{9}/.test(number) ? 'number long' : 'number' }, number));
     return html('tr', {}, html('td', {}, kind), html('th', { scope: 'row' }, html('bdi', {}, label)), ...cells);
   });
-  const caption = html('caption', {}, `Fields of ${shownConcatenation(i)}, the highest first`);
+  const caption = html('caption', {}, `Bits of ${shownConcatenation(i)}, the highest field first`);
   return html('table', {}, caption, html('thead', {}, html('tr', {}, ...heads)), html('tbody', {}, ...rows));
 }

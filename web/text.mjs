@@ -28,13 +28,19 @@ export function shownBound({ text, x }) {
 /** A range as it could be written; nothing for the whole of a variable. */
 function shownRange({ start, end }) {
   if (end === null && start.text.length === 0 && start.x === 0n) return '';
-  return `[${shownBound(start)}..${end ? shownBound(end) : ''}]`;
+  return `[${shownSpan(start, end)}]`;
+}
+
+/** A range without its bracket; a start of 0 and an end that is none are left out. */
+function shownSpan(start, end) {
+  const first = start.text.length === 0 && start.x === 0n ? '' : shownBound(start);
+  return `${first}..${end ? shownBound(end) : ''}`;
 }
 
 /** A component by what it is: a literal's bits and its range where that is not all of it, a variable's text and range, a filler's. */
 export function shownComponent(component) {
   const { kind, start, end, literal, literalWidth, text } = component;
-  if (kind === 'filler') return end ? `${shownBound(start)}..${shownBound(end)}` : '..';
+  if (kind === 'filler') return shownSpan(start, end);
   if (kind === 'variable') return shownBytes(text) + shownRange(component);
   const whole = start.text.length === 0 && start.x === 0n && end?.text.length === 0 && end.x === BigInt(literalWidth);
   return '0x' + hexOf(literal).slice(-Math.ceil(literalWidth / 4)) + (whole ? '' : shownRange(component));
