@@ -4,7 +4,10 @@ import { instance } from './reader.mjs';
 import { resultOf, verdictOf } from './result.mjs';
 import { concatenationPart, refusalPart, summaryPart } from './show.mjs';
 import { html } from './elements.mjs';
-import { shown } from './text.mjs';
+import { shownLine } from './text.mjs';
+
+/** The width of pictures on paper. */
+const PAPER = 680;
 
 const byId = (id) => document.getElementById(id);
 const mode = byId('mode');
@@ -25,16 +28,16 @@ function showLine(line) {
   line.result = resultOf(library, Number(mode.value), text, GIVEN.words);
   const accepted = line.result.state === 'accepted';
   line.field.setAttribute('aria-invalid', String(!accepted));
-  line.print.textContent = shown(text);
+  line.print.textContent = shownLine(text);
   line.message.replaceChildren(accepted ? summaryPart(line.result) : refusalPart(text, line.result));
   line.listing.textContent = line.result.listing ?? '';
   line.listing.parentElement.hidden = line.result.state === 'unread';
   drawLine(line);
 }
 
-/** The pictures, as wide as the column is. */
-function drawLine(line) {
-  line.width = Math.max(240, Math.floor(line.picture.clientWidth) - 2);
+/** The pictures, as wide as asked for or as the column is. */
+function drawLine(line, width = Math.floor(line.picture.clientWidth) - 2) {
+  line.width = Math.max(240, width);
   const rulers = line.result.state === 'accepted' ? line.result.rulers : [];
   line.picture.replaceChildren(...rulers.map((ruler, i) => concatenationPart(ruler, i, line.width)));
 }
@@ -62,6 +65,8 @@ lines.forEach((line, i) => {
 mode.addEventListener('change', showAll);
 showAll();
 byId('working').hidden = true;
+window.addEventListener('beforeprint', () => lines.forEach((line) => drawLine(line, PAPER)));
+window.addEventListener('afterprint', () => lines.forEach((line) => drawLine(line)));
 new ResizeObserver(() => {
   for (const line of lines) if (Math.abs(line.picture.clientWidth - 2 - line.width) > 1) drawLine(line);
 }).observe(byId('lines'));

@@ -3,7 +3,7 @@ import { ALIGNMENTS } from './answer.mjs';
 import { html, svg } from './elements.mjs';
 import { pictureOf } from './picture.mjs';
 import { rulerRows, spanWords } from './ruler.mjs';
-import { counted, shortened, shown, shownBytes, shownConcatenation } from './text.mjs';
+import { counted, shortened, shownBytes, shownConcatenation, shownLine } from './text.mjs';
 
 /** Heights of the drawing: a box, the numbers under it, and what stands free below them. */
 const BOX = 46;
@@ -17,10 +17,10 @@ export function markedLine(line, places) {
   const made = html('pre', { class: 'line' });
   let at = 0;
   for (const place of places.toSorted((a, b) => a.at - b.at)) {
-    made.append(shown(line.slice(at, place.at)), html('mark', {}, shown(line.slice(place.at, place.to))));
+    made.append(shownLine(line.slice(at, place.at)), html('mark', {}, shownLine(line.slice(place.at, place.to))));
     at = place.to;
   }
-  made.append(shown(line.slice(at)));
+  made.append(shownLine(line.slice(at)));
   return made;
 }
 

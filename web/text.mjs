@@ -9,6 +9,11 @@ export function shown(text) {
   return text.replace(UNSEEN, (c) => `\\u{${c.codePointAt(0).toString(16)}}`);
 }
 
+/** The same of a line, which keeps its own line ends and tabs. */
+export function shownLine(line) {
+  return line.split(/([\n\t])/).map((part) => (part === '\n' || part === '\t' ? part : shown(part))).join('');
+}
+
 /** Bytes of a text so shown; bytes that are no UTF-8 as the listing has them, `\` and two hex digits. */
 export function shownBytes(bytes) {
   try {

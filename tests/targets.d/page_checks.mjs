@@ -55,6 +55,7 @@ export const CHECKS = {
   async 'a line that cannot be read'(page, expect) {
     await page.type('two', 'a[..8], b[..8] // the rest\n; c[..16]');
     expect('marked', await page.marks('two'), ['// the rest']);
+    expect('the line', await page.value("document.querySelector('#two-message .line').textContent"), 'a[..8], b[..8] // the rest\n; c[..16]');
     expect('verdict', await page.verdict(), 'The same card: no answer. The second line cannot be read: a comment: a line has none.');
     expect('no listing', await page.value("document.getElementById('two-listing').parentElement.hidden"), true);
     await page.type('two', 'a[(1..8], b');
