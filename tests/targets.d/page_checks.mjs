@@ -41,6 +41,11 @@ export const CHECKS = {
   },
 
   async 'other refusals'(page, expect) {
+    await page.type('two', 'a[..8], b[5..3], c[..2], d[..1]; e[..9]');
+    expect('22', [await page.listing('two'), await page.marks('two')], ['refused 22 0 2\n', ['b[5..3]']]);
+    await page.type('two', 'a[..8]; b[..4], 5u4');
+    expect('30', [await page.listing('two'), await page.marks('two')], ['refused 30 1 0\n', ['5u4']]);
+    expect('30 in words', (await page.text('two-message')).includes('component 2 of 2 as written, in concatenation 1 (copied to)'), true);
     await page.type('two', 'x[..3], a[..8]; b[..9]');
     expect('41', [await page.listing('two'), await page.marks('two')], ['refused 41 0 1\n', ['x[..3], a[..8]', 'b[..9]']]);
     await page.type('two', 'a, ..');
