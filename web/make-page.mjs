@@ -36,7 +36,8 @@ function recordedAnswers() {
 /** The modules as one, without their imports and exports; no two may have a name of the top level in common. */
 function script() {
   const modules = MODULES.map((name) => read(name).replace(/^import .*$\n/gm, '').replace(/^export /gm, ''));
-  const names = modules.flatMap((text) => [...text.matchAll(/^(?:const|let|class|function|async function) (\w+)/gm)].map((found) => found[1]));
+  const declared = /^(?:const|let|class|function|async function) (\w+)/gm;
+  const names = modules.flatMap((text) => [...text.matchAll(declared)].map((found) => found[1]));
   const twice = names.find((name, i) => names.indexOf(name) !== i);
   if (twice) throw new Error(`two modules of web/ have the name ${twice}`);
   const example = (name) => fs.readFileSync(new URL(`examples/${name}.txt`, root), 'utf8').trimEnd();

@@ -26,8 +26,8 @@ function componentPlace(concatenations, i, k) {
   const { components } = concatenations[i];
   const { at, to } = components[k];
   const written = components.length - k;
-  const words = `component ${written} of ${components.length} as written, in ${shownConcatenation(i)}; counted from the right, from 0: ${k}`;
-  return { at, to, words };
+  const words = `component ${written} of ${components.length} as written, in ${shownConcatenation(i)}`;
+  return { at, to, words: `${words}; counted from the right, from 0: ${k}` };
 }
 
 /** The first component with a group too deep. */

@@ -76,7 +76,7 @@ function drawnBox(box, y) {
   const place = { x, y, width: wide, height: BOX };
   const group = svg('g', { class: `${field.kind}${box.dashed ? ' dashed' : ''}` });
   group.append(svg('title', {}, `${field.kind} ${field.label}: ${spanWords(field)}`));
-  group.append(svg('rect', { ...place, class: 'ground' }), svg('rect', { ...place, class: 'pattern' }), svg('rect', { ...place, class: 'edge' }));
+  group.append(...['ground', 'pattern', 'edge'].map((part) => svg('rect', { ...place, class: part })));
   // an inner drawing cuts off what does not fit its box
   const inner = svg('svg', { ...place, height: BOX + NUMBERS });
   inner.append(svg('text', { x: 5, y: 15, class: 'small inside' }, box.size));

@@ -19,7 +19,9 @@ export function shownBytes(bytes) {
   try {
     return shown(new TextDecoder('utf-8', { fatal: true, ignoreBOM: true }).decode(bytes));
   } catch {
-    return Array.from(bytes, (b) => (b > 32 && b < 127 && b !== 92 ? String.fromCharCode(b) : `\\${b.toString(16).padStart(2, '0')}`)).join('');
+    const plain = (byte) => byte > 32 && byte < 127 && byte !== 92;
+    const hex = (byte) => `\\${byte.toString(16).padStart(2, '0')}`;
+    return Array.from(bytes, (byte) => (plain(byte) ? String.fromCharCode(byte) : hex(byte))).join('');
   }
 }
 

@@ -57,7 +57,7 @@ export class Browser {
     this.messages = [];
     this.listeners.push((method, params) => {
       if (method === 'Network.requestWillBeSent') this.requests.push(params.request.url);
-      if (method === 'Runtime.exceptionThrown') this.messages.push(params.exceptionDetails.exception?.description ?? params.exceptionDetails.text);
+      if (method === 'Runtime.exceptionThrown') this.messages.push(JSON.stringify(params.exceptionDetails));
       if (method === 'Log.entryAdded') this.messages.push(params.entry.text);
       if (method === 'Page.javascriptDialogOpening') this.messages.push(`a dialog: ${params.message}`);
     });
@@ -91,7 +91,7 @@ export class Browser {
   }
 
   async key(key) {
-    const code = { Delete: 46, Tab: 9, ArrowDown: 40 }[key];
+    const code = { Delete: 46, Tab: 9, ArrowUp: 38, ArrowDown: 40 }[key];
     for (const type of ['rawKeyDown', 'keyUp']) {
       await this.send('Input.dispatchKeyEvent', { type, key, code: key, windowsVirtualKeyCode: code });
     }

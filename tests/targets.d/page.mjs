@@ -30,8 +30,10 @@ const page = {
   verdict: () => page.text('verdict'),
   listing: (line) => page.text(`${line}-listing`),
   marks: (line) => browser.value(`[...document.querySelectorAll('#${line}-message mark')].map((mark) => mark.textContent)`),
-  table: (line, i) =>
-    browser.value(`[...document.querySelectorAll('#${line}-picture table')[${i}].tBodies[0].rows].map((row) => [...row.cells].map((cell) => cell.textContent))`),
+  table: (line, i) => {
+    const rows = `[...document.querySelectorAll('#${line}-picture table')[${i}].tBodies[0].rows]`;
+    return browser.value(`${rows}.map((row) => [...row.cells].map((cell) => cell.textContent))`);
+  },
   classes: (line) => browser.value(`[...document.querySelectorAll('#${line}-picture g')].map((box) => box.getAttribute('class'))`),
   heads: (line) => browser.value(`[...document.querySelectorAll('#${line}-picture h3')].map((head) => head.textContent)`),
   media: (media) => browser.send('Emulation.setEmulatedMedia', { media }),

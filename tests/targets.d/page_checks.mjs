@@ -2,7 +2,13 @@
 // 42, 43 and 3 are those of "How each operation refuses").
 
 const WHOLE = '0x1234u16, amount[..24]; card[..40]';
-const LISTING = 'layout 2 3 40 none D Z -\nc 0 2 40 none D Z\nvariable +0 +24 amount\nliteral +0 +16 1234\nc 1 1 40 none D Z\nvariable +0 +40 card\n';
+const LISTING = `layout 2 3 40 none D Z -
+c 0 2 40 none D Z
+variable +0 +24 amount
+literal +0 +16 1234
+c 1 1 40 none D Z
+variable +0 +40 card
+`;
 
 export const CHECKS = {
   async 'the first lines'(page, expect) {
@@ -60,7 +66,8 @@ export const CHECKS = {
   async 'a line that cannot be read'(page, expect) {
     await page.type('two', 'a[..8], b[..8] // the rest\n; c[..16]');
     expect('marked', await page.marks('two'), ['// the rest']);
-    expect('the line', await page.value("document.querySelector('#two-message .line').textContent"), 'a[..8], b[..8] // the rest\n; c[..16]');
+    const line = await page.value("document.querySelector('#two-message .line').textContent");
+    expect('the line', line, 'a[..8], b[..8] // the rest\n; c[..16]');
     expect('verdict', await page.verdict(), 'The same card: no answer. The second line cannot be read: a comment: a line has none.');
     expect('no listing', await page.value("document.getElementById('two-listing').parentElement.hidden"), true);
     await page.type('two', 'a[(1..8], b');
@@ -92,7 +99,10 @@ export const CHECKS = {
       'Concatenation 1 (copied to), width not fixed; not to scale',
       'Concatenation 2 (copied to), 64 bits',
     ]);
-    expect('table', await page.table('one', 0), [['variable', 'a[..8]', 'not known', 'not known', '8'], ['variable', 'b', '0', 'not known', 'not known']]);
+    expect('table', await page.table('one', 0), [
+      ['variable', 'a[..8]', 'not known', 'not known', '8'],
+      ['variable', 'b', '0', 'not known', 'not known'],
+    ]);
     await page.type('one', 'a[..8], .., b[n..n+8]; d[..64]');
     expect('15 for a bound of three tokens', await page.listing('one'), 'refused 15 0 0\n');
     await page.type('one', 'a[..8], .., b[n..(n+8)]; d[..64]');
@@ -132,15 +142,17 @@ export const CHECKS = {
     expect('42 marks nothing', await page.marks('one'), []);
     await page.key('Tab');
     expect('Tab goes on', await page.value('document.activeElement.id'), 'one');
-    await page.value("(() => { const mode = document.getElementById('mode'); mode.value = '0'; mode.dispatchEvent(new Event('change')); })()");
+    await page.value("document.getElementById('mode').focus()");
+    await page.key('ArrowUp');
+    await page.key('ArrowUp');
+    expect('mode 0 again', await page.value("document.getElementById('mode').value"), '0');
   },
 
   async 'for who cannot see it'(page, expect) {
     await page.type('one', WHOLE);
     expect('live', await page.value("document.getElementById('verdict').getAttribute('aria-live')"), 'polite');
-    expect('labels', await page.value("[...document.querySelectorAll('textarea, select')].map((field) => field.labels[0].textContent)"), [
-      'Mode', 'First line', 'Second line',
-    ]);
+    const labels = "[...document.querySelectorAll('textarea, select')].map((field) => field.labels[0].textContent)";
+    expect('labels', await page.value(labels), ['Mode', 'First line', 'Second line']);
     const alternative = await page.value("document.querySelector('#one-picture svg[role=img]').getAttribute('aria-label')");
     const fields = 'literal 0x1234, bits 24 to 39, 16 wide; variable amount[..24], bits 0 to 23, 24 wide';
     expect('alternative', alternative, `Picture of concatenation 0 (the source), highest field first: ${fields}.`);

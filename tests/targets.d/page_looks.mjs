@@ -8,7 +8,10 @@ export const LOOKS = {
   unknown: ['a[..8], b; c[x..y], ..; d[..64]', '0x1234u16, .., amount[..24]; card[..64]'],
   narrow: ['1u1, 0u2, flag[..1], a[..4092]; rec[..4096]', 'an_uncommonly_long_name_of_a_field[..1], x[..1]; 値段の名前[..1], y[..1]'],
   many: [`${many}`, `0x${'a5'.repeat(512)}u4096, x[..1]; y[..4097]`],
-  large: ['a[..0x7fffffffffffffff], b[..0x7fffffffffffffff]; c[..0xfffffffffffffffe]', '<img src=x onerror=alert(1)>\u200f\u05d0\u05d1[..8], .., b; c[..64]'],
+  large: [
+    'a[..0x7fffffffffffffff], b[..0x7fffffffffffffff]; c[..0xfffffffffffffffe]',
+    '<img src=x onerror=alert(1)>\u200f\u05d0\u05d1[..8], .., b; c[..64]',
+  ],
 };
 
 /** Runs in the page: what goes beyond its box or the page, or lies over its neighbour. */

@@ -20,8 +20,9 @@ function differences({ input, listing, areaTooShort }, { outcome: bits, answer, 
   const told = listing.toString('latin1');
   const outcome = outcomeOf(bits);
   const words = [];
-  const { number, concatenation, component } = outcome;
-  const got = outcome.accepted ? listingOf(readAnswer(Uint8Array.from(answer), Uint8Array.from(image))) : `refused ${number} ${concatenation} ${component}\n`;
+  const { accepted, number, concatenation, component } = outcome;
+  const accept = () => listingOf(readAnswer(Uint8Array.from(answer), Uint8Array.from(image)));
+  const got = accepted ? accept() : `refused ${number} ${concatenation} ${component}\n`;
   if (got !== told) words.push(`layout_run: ${JSON.stringify(got)}`);
   if (!kept) words.push('layout_run wrote where it must not');
   const checked = number >= 2 && number <= 7 ? number : 0;
