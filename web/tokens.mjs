@@ -58,7 +58,8 @@ function wordEnd(line, at) {
 /** The tokens of a line. */
 export function tokens(line) {
   const list = [];
-  let at = 0;
+  // what some editors put first in a file; the Rust passes over it too
+  let at = line.startsWith('\ufeff') ? 1 : 0;
   for (;;) {
     at += found(SPACE, line, at)?.[0].length ?? 0;
     if (at === line.length) return list;

@@ -2,7 +2,7 @@
 
 /** What is easily read in two ways: numbers and dots, quotes, marks, white space, colons, literals at the edge of their width. */
 export const CHOSEN = [
-  'a', 'a b c', 'a as usize[..8]', 'a\tb\nc', 'a,\nb;\nc', 'a\u00a0b', 'a\u0085b', 'a\u2028b', 'a\ufeffb', '\ufeff5u8',
+  'a', 'a b c', 'a as usize[..8]', 'a\tb\nc', 'a,\nb;\nc', 'a\u00a0b', 'a\u0085b', 'a\u2028b', 'a\ufeffb', '\ufeff5u8', ' \ufeff5u8', '\ufeff\ufeff5u8', '\ufeff',
   '\u200fa', 'a\u0301', 'ſ[..3]',
   'Straße[..8], наименование[..8]; 値段[..16]', '\u05d0[..8], \u05d1', '\u{1d4b3}y', '\u0663', 'x\u0663', '²', '½u8', '_', '__', '_1', 'r#match', 'r#', 'r#1',
   'r#"a"#', 'br"x"', 'cr#"x"y"#',
