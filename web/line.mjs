@@ -36,6 +36,7 @@ class Reading {
     this.open = []; // openers not closed yet: { group, record, at, to }
     this.given = null; // what ⟦ ⟧ says
     this.afterWord = false;
+    this.names = []; // the names of the last record, and the spaces between them
     this.at = null;
     this.to = null;
   }
@@ -51,8 +52,16 @@ class Reading {
     if (this.given) throw new LineError(BITS_ELSEWHERE, this.given);
     this.at ??= token.at;
     this.to = token.to;
+    if (token.type !== 'word') this.endNames();
     this.addToken(token);
+    if (token.type === 'word' && !this.afterWord) this.names = [token.bytes];
     this.afterWord = token.type === 'word';
+  }
+
+  /** Names side by side become the bytes of their record. */
+  endNames() {
+    if (this.names.length > 1) this.records.at(-1).bytes = joined(this.names);
+    this.names = [];
   }
 
   addToken(token) {
@@ -63,9 +72,8 @@ class Reading {
       this.given = token;
       return;
     }
-    const last = this.records.at(-1);
     // two names side by side are one record, a space between them
-    if (token.type === 'word' && this.afterWord) last.bytes = joined([last.bytes, [0x20], token.bytes]);
+    if (token.type === 'word' && this.afterWord) this.names.push([0x20], token.bytes);
     else this.records.push({ kind: CHARACTERS, bytes: token.bytes, skip: 1 });
   }
 
@@ -90,6 +98,7 @@ class Reading {
   endComponent(mark) {
     const opener = this.open.at(-1);
     if (opener) throw new LineError(`\`${opener.group.open}\` is not closed`, opener);
+    this.endNames();
     if (this.records.length === 0) throw this.emptyComponent(mark);
     const first = this.concatenations.length === 0 && this.written.length === 0;
     const literal = this.given ? { width: this.given.width, bytes: this.given.bytes } : literalOf(this.records, first);

@@ -22,10 +22,19 @@ const lines = ['one', 'two'].map((name) => ({
 
 const library = await instance(Uint8Array.from(atob(GIVEN.library), (c) => c.charCodeAt(0)));
 
+/** A fault of the page itself is said, so that nothing of an earlier line stays in view as if it were this one's. */
+function resultOrFailure(text) {
+  try {
+    return resultOf(library, Number(mode.value), text, GIVEN.words);
+  } catch (error) {
+    return { state: 'unread', words: `this page failed (${error})`, places: [] };
+  }
+}
+
 /** What a line comes to, in its own column. */
 function showLine(line) {
   const text = line.field.value;
-  line.result = resultOf(library, Number(mode.value), text, GIVEN.words);
+  line.result = resultOrFailure(text);
   const accepted = line.result.state === 'accepted';
   line.field.setAttribute('aria-invalid', String(!accepted));
   line.print.textContent = shownLine(text);

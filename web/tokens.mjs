@@ -149,12 +149,13 @@ function marked(line, at, open, close) {
 /** `«..»`: one record of just these bytes. */
 function recordMark(line, at) {
   const { inside, to } = marked(line, at, '«', '»');
-  const [first, ...parts] = inside.split('\\');
-  let bytes = encoder.encode(first);
-  for (const part of parts) {
+  const [first, ...rest] = inside.split('\\');
+  const parts = [encoder.encode(first)];
+  for (const part of rest) {
     if (!/^[0-9a-fA-F]{2}/.test(part)) throw new LineError('two hex digits stand after \\', { at, to });
-    bytes = joined([bytes, [parseInt(part.slice(0, 2), 16)], encoder.encode(part.slice(2))]);
+    parts.push([parseInt(part.slice(0, 2), 16)], encoder.encode(part.slice(2)));
   }
+  const bytes = joined(parts);
   if (bytes.length === 0) throw new LineError('an image holds no empty record', { at, to });
   return { type: 'record', bytes, to };
 }
