@@ -154,6 +154,7 @@ fn unescaped(text: &str) -> Result<Vec<u8>, String> {
     for part in parts {
         let digits = "two hex digits stand after \\";
         let (hex, rest) = part.split_at_checked(2).ok_or(digits)?;
+        let hex = Some(hex).filter(|hex| !hex.starts_with('+')).ok_or(digits)?;
         bytes.push(u8::from_str_radix(hex, 16).map_err(|_| digits)?);
         bytes.extend(rest.as_bytes());
     }
@@ -165,6 +166,7 @@ fn unescaped(text: &str) -> Result<Vec<u8>, String> {
 
 fn bits(text: &str) -> Result<Token, String> {
     let (width, hex) = text.split_once(':').ok_or("no colon between ⟦ and ⟧")?;
+    let width = Some(width).filter(|width| !width.starts_with('+')).ok_or("no width after ⟦")?;
     let width: u32 = width.parse().map_err(|_| "no width after ⟦")?;
     let digit = |c: char| c.to_digit(16).map(|d| d as u8).ok_or("no hex between ⟦ and ⟧");
     let digits = hex.chars().rev().map(digit).collect::<Result<Vec<u8>, _>>()?;
