@@ -10,6 +10,7 @@ mod check;
 mod fields;
 #[cfg(feature = "library")]
 mod library;
+mod listing;
 mod words;
 
 use core::{error::Error, fmt};

@@ -3,7 +3,7 @@
 
 mod common;
 
-use common::{cases, listing};
+use common::cases;
 use layout_reader::{area_needed, Alignment, Answer, Bound, Kind};
 
 const LISTING: &str = "layout 2 2 8 none D Z -
@@ -45,7 +45,7 @@ fn worked_listing() {
     let (answer, image) = (worked_answer(), worked_image());
     assert_eq!(answer.len(), area_needed(2, 2, 1));
     let answer = Answer::read(&answer, &image).expect("an answer");
-    assert_eq!(listing(&answer), LISTING);
+    assert_eq!(answer.to_string(), LISTING);
     assert_eq!((answer.width(), answer.alignment()), (Some(8), Alignment::None));
     assert_eq!(answer.starting_value(), None);
     let kinds: Vec<Kind> = answer.components().rev().map(|c| c.kind()).collect();
@@ -139,7 +139,7 @@ fn faults_of_lengths_counts_and_images() {
 
 /// Walks all that an answer hands out.
 fn walk(answer: &Answer) -> usize {
-    listing(answer).len() + format!("{answer:?}").len() + answer.components().rev().count()
+    answer.to_string().len() + format!("{answer:?}").len() + answer.components().rev().count()
 }
 
 /// Images that the Rust accepted, with answers made up from the worked one, both

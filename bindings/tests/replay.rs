@@ -5,7 +5,7 @@ mod common;
 
 use std::io::Write;
 
-use common::{cases, listing, Case};
+use common::{cases, Case};
 use layout_reader::{answer, run, Answer, Bound, Component, Kind, ANY_AREA};
 
 /// What a case comes to, printed; its answer is read with and without the check.
@@ -22,7 +22,7 @@ fn told(case: &Case) -> String {
     for component in checked.components() {
         widths_right(component);
     }
-    listing(&checked)
+    checked.to_string()
 }
 
 /// A listing leaves out a literal's width: a literal of fixed bounds runs from 0
@@ -94,7 +94,10 @@ fn flipped_answers() {
             match Answer::read(&wrong[..length], case.image) {
                 Err(_) => faults += 1,
                 Ok(other) => {
-                    assert!(other != right && listing(&other).starts_with("layout "), "byte {at}");
+                    assert!(
+                        other != right && other.to_string().starts_with("layout "),
+                        "byte {at}"
+                    );
                     others += 1;
                 }
             }

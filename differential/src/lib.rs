@@ -25,7 +25,6 @@ unchanged! {
     token_tree "/token_tree.rs"
 }
 
-pub mod answer;
 pub mod ast;
 pub mod check;
 pub mod generate;
@@ -39,3 +38,5 @@ pub mod text;
 
 /// The tree of an image and its writer, which the encoder of lines shares.
 pub use layout_line::image;
+/// An answer of our run, which looks at every byte of it, displayed as its listing.
+pub use layout_reader::{Answer, area_needed};

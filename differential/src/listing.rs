@@ -77,7 +77,7 @@ fn text(ast: &Ast, p: PText) -> String {
 }
 
 /// Bytes outside 33 to 126 and the backslash become `\` and two hex digits.
-pub fn escaped(text: &[u8]) -> String {
+fn escaped(text: &[u8]) -> String {
     let escape = |byte: &u8| match byte {
         b'\\' => "\\5c".to_owned(),
         33..=126 => char::from(*byte).to_string(),

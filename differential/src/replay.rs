@@ -9,7 +9,7 @@ use std::{
 };
 
 use crate::{
-    answer::area_needed,
+    area_needed,
     generate::{CutPair, Rng, cases, cut_pair},
     image::{
         MAX_COMPONENTS, MAX_CONCATENATIONS, MAX_LITERAL_BYTES, MAX_RECORDS, MAX_TEXT, MAX_WIDTH,

@@ -1,8 +1,5 @@
-//! What the tests share: the cases that the unchanged Rust answered, and the
-//! listing of an answer, printed from its reader alone.
+//! What the tests share: the cases that the unchanged Rust answered.
 #![allow(dead_code)]
-
-use layout_reader::{Alignment, Answer, Bound, Component, Kind};
 
 /// differential/README.md, "The files of `replay`".
 const RUNS: &[u8] = include_bytes!("../../../crates/run_replay/data/runs");
@@ -57,49 +54,4 @@ pub fn cases() -> Vec<Case> {
         all.extend(inputs.map(|input| Case::new(input, layout_reader::ANY_AREA, listing)));
     }
     all
-}
-
-/// The listing of an answer (docs/FORMAT.md).
-pub fn listing(answer: &Answer) -> String {
-    let value = answer.starting_value().map_or("-".to_owned(), |t| format!("={}", escaped(t)));
-    let (deterministic, nonzero) = (answer.deterministic(), answer.nonzero());
-    let judged_head = judged(answer.width(), answer.alignment(), deterministic, nonzero);
-    let (concatenations, components) = (answer.concatenations().len(), answer.components().len());
-    let mut lines = format!("layout {concatenations} {components} {judged_head} {value}\n");
-    for (i, c) in answer.concatenations().enumerate() {
-        let judged = judged(c.width(), c.alignment(), c.deterministic(), c.nonzero());
-        lines += &format!("c {i} {} {judged}\n", c.components().len());
-        lines.extend(c.components().map(component_line));
-    }
-    lines
-}
-
-fn judged(width: Option<u64>, alignment: Alignment, deterministic: bool, nonzero: bool) -> String {
-    let width = width.map_or("-".to_owned(), |width| width.to_string());
-    let flag = |set: bool, name: &'static str| if set { name } else { "-" };
-    format!("{width} {alignment} {} {}", flag(deterministic, "D"), flag(nonzero, "Z"))
-}
-
-fn component_line(component: Component) -> String {
-    let bound = |bound: Bound| format!("{}{:+}", escaped(bound.text), bound.x);
-    let start = bound(component.start());
-    let end = component.end().map_or("-".to_owned(), bound);
-    match component.kind() {
-        Kind::Literal { bytes, .. } => {
-            let hex: String = bytes.iter().rev().map(|byte| format!("{byte:02x}")).collect();
-            format!("literal {start} {end} {hex}\n")
-        }
-        Kind::Variable(text) => format!("variable {start} {end} {}\n", escaped(text)),
-        Kind::Filler => format!("filler {start} {end}\n"),
-    }
-}
-
-/// Bytes outside 33 to 126 and the backslash as `\` and two hex digits.
-fn escaped(text: &[u8]) -> String {
-    let escape = |byte: &u8| match byte {
-        b'\\' => "\\5c".to_owned(),
-        33..=126 => char::from(*byte).to_string(),
-        _ => format!("\\{byte:02x}"),
-    };
-    text.iter().map(escape).collect()
 }

@@ -11,7 +11,7 @@ use layout_compare::{
     ours::decoded,
 };
 use layout_rust::{
-    answer::{self, Answer},
+    Answer,
     check::check,
     generate::{Class, Pair, Rng, class_cases},
     listing::listing,
@@ -107,7 +107,7 @@ pub fn said(lender: &mut Lender, image: &[u8], call: Call) -> Said {
         Ok(_) => match Answer::read(done.answer, image) {
             Ok(answer) => {
                 let accepted = Some((image.to_vec(), done.answer.to_vec()));
-                Said { listing: answer::listing(&answer), accepted }
+                Said { listing: answer.to_string(), accepted }
             }
             Err(wrong) => fault(&wrong.to_string()),
         },

@@ -2,7 +2,7 @@
 //! found in them afterwards.
 
 use layout_rust::{
-    answer::area_needed,
+    area_needed,
     image::{MAX_COMPONENTS, MAX_CONCATENATIONS, MAX_LITERAL_BYTES},
 };
 
