@@ -28,7 +28,8 @@ function differences({ input, listing, areaTooShort }, { outcome: bits, answer, 
   const words = [];
   const { accepted, number, concatenation, component } = outcome;
   const accept = () => listingOf(readAnswer(Uint8Array.from(answer), Uint8Array.from(image)));
-  const got = accepted ? accept() : `refused ${number} ${concatenation} ${component}\n`;
+  const refused = `refused ${number} ${concatenation} ${component}\n`;
+  const got = !accepted ? refused : kept ? accept() : 'an answer that is not read';
   if (got !== told) words.push(`layout_run: ${JSON.stringify(got)}`);
   if (!kept) words.push('layout_run wrote where it must not');
   const checked = number >= 2 && number <= 7 ? number : 0;
