@@ -1,6 +1,6 @@
 /* What the library and the host call of the compiler's run-time library on ARM (Run-time ABI for the Arm Architecture, 4.3.4 and
  * 4.3.2): filling and moving bytes, and division of 64-bit numbers. Short rather than fast. */
-#include "arm_types.h"
+#include <stdint.h>
 
 void *memmove(void *to, const void *from, uint32_t length)
 {

@@ -1,5 +1,6 @@
 // node replay.mjs SIDE LIBRARY DATA: replays the recorded answers of DATA through the library built for another machine and compares.
-// SIDE is wasm (LIBRARY a .wasm file) or arm (LIBRARY a program for qemu-arm, arm_host.c with the library).
+// SIDE is wasm (LIBRARY a .wasm file), arm (LIBRARY a program for qemu-arm, arm_host.c with the library) or board (for qemu-system-arm,
+// board_host.c with the library).
 //
 // For each run: the outcome, its listing as printed from the answer's bytes, the bytes around and after the answer, the image check's
 // number, and the text of layout_listing. For each pair of a line and its cut: both texts.
@@ -9,10 +10,15 @@ import { recorded } from './data.mjs';
 import { listingOf } from './listing.mjs';
 import { wasmSide } from './side_wasm.mjs';
 import { armSide } from './side_arm.mjs';
+import { boardSide } from './side_board.mjs';
 
 const ANY_AREA = 26976;
 const TOO_SHORT = 'refused 8 0 0\n';
-const SIDES = { wasm: { name: 'wasm32', start: wasmSide }, arm: { name: 'Cortex-M3', start: armSide } };
+const SIDES = {
+  wasm: { name: 'wasm32', start: wasmSide },
+  arm: { name: 'Cortex-M3', start: armSide },
+  board: { name: 'Cortex-M3 board', start: boardSide },
+};
 
 /** What a case came to, against what is told: words for each difference. */
 function differences({ input, listing, areaTooShort }, { outcome: bits, answer, check, kept, text }) {
@@ -22,7 +28,8 @@ function differences({ input, listing, areaTooShort }, { outcome: bits, answer, 
   const words = [];
   const { accepted, number, concatenation, component } = outcome;
   const accept = () => listingOf(readAnswer(Uint8Array.from(answer), Uint8Array.from(image)));
-  const got = accepted ? accept() : `refused ${number} ${concatenation} ${component}\n`;
+  const refused = `refused ${number} ${concatenation} ${component}\n`;
+  const got = !accepted ? refused : kept ? accept() : 'an answer that is not read';
   if (got !== told) words.push(`layout_run: ${JSON.stringify(got)}`);
   if (!kept) words.push('layout_run wrote where it must not');
   const checked = number >= 2 && number <= 7 ? number : 0;

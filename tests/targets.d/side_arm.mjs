@@ -1,11 +1,6 @@
 // The library for a Cortex-M3, in a program under qemu-arm (arm_host.c), which reads all cases and writes all answers.
 import { spawnSync } from 'node:child_process';
-
-const number = (n) => {
-  const bytes = Buffer.alloc(4);
-  bytes.writeUInt32LE(n);
-  return bytes;
-};
+import { answersIn, bytesOf } from './arm_cases.mjs';
 
 /**
  * The processor to name. A qemu-arm that cannot start a Cortex-M3 (Debian 12's stops at an assertion of its own) is given a Cortex-A7,
@@ -24,18 +19,8 @@ function processorFor(program) {
 export async function armSide(program, cases) {
   const processor = processorFor(program);
   console.log(`Cortex-M3: run by qemu-arm -cpu ${processor}`);
-  const input = Buffer.concat(cases.flatMap((each) => [number(each.input.length), number(each.areaLength), each.input]));
-  const ran = spawnSync('qemu-arm', ['-cpu', processor, program], { input, maxBuffer: 1 << 28 });
+  const ran = spawnSync('qemu-arm', ['-cpu', processor, program], { input: bytesOf(cases), maxBuffer: 1 << 28 });
   if (ran.error) throw ran.error;
   if (ran.status !== 0) throw new Error(`qemu-arm ended with ${ran.status ?? ran.signal}: ${ran.stderr}`);
-  const output = ran.stdout;
-  let at = 0;
-  const take = (length) => output.subarray(at, (at += length));
-  const answers = cases.map(() => {
-    const outcome = take(8).readBigUInt64LE();
-    const [check, kept, answerLength, textLength] = [0, 0, 0, 0].map(() => take(4).readUInt32LE());
-    return { outcome, check, kept: kept === 1, answer: take(answerLength), text: take(textLength) };
-  });
-  if (at !== output.length) throw new Error('the program wrote more than its answers');
-  return answers;
+  return answersIn(ran.stdout, cases);
 }

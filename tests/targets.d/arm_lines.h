@@ -1,0 +1,19 @@
+/* What a host of the library has for arm_answers.c: its lines in and out, and what it does around a call of the library. */
+#ifndef ARM_LINES_H
+#define ARM_LINES_H
+#include <stdint.h>
+
+enum called { RUN, LISTING, CHECK, FUNCTIONS };
+
+/* How many of the bytes were read or written: 0 at the end of the input, below 0 for an error. */
+int host_read(void *to, uint32_t length);
+int host_write(const void *from, uint32_t length);
+/* Ends the program: 0, or what went wrong (2 the input ends within a case, 3 not written, 4 a case too long, 5 its bytes are missing). */
+void host_stop(int status) __attribute__((noreturn));
+/* Before and after a call of the library, all three from one frame, whose end is at `stack`. */
+void host_before(void);
+void host_after(enum called which, uintptr_t stack);
+
+/* Answers all cases of the input (arm_answers.c). */
+void answer_all(void);
+#endif
