@@ -50,10 +50,9 @@ uint64_t layout_listing(const uint8_t *input, uint64_t input_length, uint8_t *ou
 /* The image check alone: 0 for an image that passes it, else the number that refuses it, 2 to 7. */
 uint32_t layout_check(const uint8_t *image, uint64_t image_length);
 
-/* The stack that a call takes below its caller's frame, in bytes: measured, x86-64, and rounded up. The most that 25,000 generated cases
- * took, among them the largest image and groups of depth 32: 28,640 for layout_run, 55,696 for layout_listing, 6,016 for layout_check.
- * They cover the Cortex-M3 too: there, built with -Os, the most over all recorded inputs is 26,820, 53,892 and 4,140
- * (docs/PERFORMANCE.md). */
+/* The stack that a call takes below its caller's frame, in bytes: measured, not proved, and rounded up. On x86-64 the most that 25,000
+ * generated cases took is 28,640 for layout_run, 55,696 for layout_listing, 6,016 for layout_check; on a Cortex-M3, built with -Os, the
+ * most over all recorded inputs is 26,820, 53,892 and 4,140 (docs/PERFORMANCE.md). */
 #define LAYOUT_RUN_STACK 32768
 #define LAYOUT_LISTING_STACK 65536
 #define LAYOUT_CHECK_STACK 8192
