@@ -76,7 +76,7 @@ middlePart scanned f = if scanned then elim (atColon (unranged f)) [ none ↦ un
 abbrev pub fixedBound : Usb → Option ℕ
 fixedBound u =
     elim (simplifyUsb u) [
-      | refused n i k ↦ none
+      | refused q ↦ none
       | ok u′ ↦ elim (staticVal u′) [ none ↦ none | some z ↦ elim z [ pos n ↦ some n | negsuc n ↦ none ] ]
     ]
 
@@ -92,7 +92,7 @@ unparsed n = record { recs = recsOf n; bits = n .bits }
 abbrev pub fixedLiteral : Bool → Node → Option (ℕ × ℕ)
 fixedLiteral scanned n =
     elim (stage1Component scanned (unparsed n)) [
-      | refused m i k ↦ none
+      | refused q ↦ none
       | ok c ↦ elim (c .c-type) [ literal bits ↦ fixedRange (length bits) (c .range) | variable p ↦ none | filler ↦ none ]
     ]
 
@@ -101,7 +101,7 @@ abbrev pub readsAs : ℕ → Forest → Option (ℕ × ℕ)
 readsAs w f =
     let is = items 0 (flat f) in
     elim (parseRange is) [
-      | refused m i k ↦ none
+      | refused q ↦ none
       | ok r ↦ fixedRange w (elim r [ none ↦ singleBit is | some r′ ↦ r′ ])
     ]
 
@@ -131,7 +131,7 @@ pieces scanned n (f ∷ g ∷ fs) = piece scanned n end f ∷ pieces scanned n (
 
 -- the components of an image after stage 2
 abbrev pub componentsOf : List ℕ → List (List (Placed Component))
-componentsOf image = elim (stage1 (treeOf image) >>= stage2) [ refused n i k ↦ [] | ok p ↦ p .cc ]
+componentsOf image = elim (stage1 (treeOf image) >>= stage2) [ refused q ↦ [] | ok p ↦ p .cc ]
 
 -- the literals with static ranges that end a list, and what stands below them
 pub record Below : Type 0 where

@@ -16,7 +16,7 @@ use Rattle.cutting.specs.Statement.{Given, Premises, BitPlace, _⊕_, un
 
 -- the answer of a run that accepts
 abbrev pub answerOf : List ℕ → ℕ → ℕ → List ℕ
-answerOf im mode area = elim (run im mode area) [ ok s ↦ s | refused n i k ↦ [] ]
+answerOf im mode area = elim (run im mode area) [ ok s ↦ s | refused q ↦ [] ]
 
 abbrev pub newAnswer : Given → List ℕ
 newAnswer g = answerOf (newImage g) (g .mode) (length (g .new-area))

@@ -83,7 +83,7 @@ module _ (in-turn : InTurn) (cut-early : CutEarly) (cut-later : CutLater) where
       ∙ sym (erase-place (found .0 .cc) j k above) ∙ same
     where
       ccOf : Result Parsed → List (List (Placed Component))
-      ccOf r = elim r [ refused n i k ↦ [] | ok p ↦ p .cc ]
+      ccOf r = elim r [ refused q ↦ [] | ok p ↦ p .cc ]
 
   module _ (g : Given) (pr : Premises g) where
     abbrev old : Tree

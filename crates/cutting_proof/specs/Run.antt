@@ -70,7 +70,7 @@ accepted-tree im b mode n before after e = go (run im mode (length before)) refl
     go : (r : Result (List ℕ)) → run im mode (length before) ≡ r → ok n ≡ (r >>= λ bytes. ok (length bytes))
         → (t : Tree) × (fits t ≡ true) × (im ≡ imageOf t)
     go (ok bytes) q h = every-accepted im b mode (length before) bytes q
-    go (refused m i k) q h = let z : _≡_ {A = ℕ} 0 1 = cc in absurd (omega arith)
+    go (refused e) q h = let z : _≡_ {A = ℕ} 0 1 = cc in absurd (omega arith)
 
 -- ── Witnesses: calls that meet the premises ──
 

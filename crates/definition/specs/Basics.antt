@@ -11,19 +11,27 @@ abbrev pub within : ℕ → ℕ → ℕ → Bool
 within lo hi n = leb lo n && leb n hi
 
 -- Document 01, "How each operation refuses": a refusal is a number and two places (concatenation, component; 0 where none).
+pub record Refusal : Type 0 where
+  pub number : ℕ
+  pub concatenation : ℕ
+  pub component : ℕ
+
+abbrev pub refusal : ℕ → ℕ → ℕ → Refusal
+refusal n i k = record { number = n; concatenation = i; component = k }
+
 pub data Result (A : Type 0) : Type 0 where
   ok : A → Result A
-  refused : (number concatenation component : ℕ) → Result A
+  refused : Refusal → Result A
 
 infixl 20 _>>=_
 abbrev pub _>>=_ : {A B : Type 0} → Result A → (A → Result B) → Result B
 ok a >>= f = f a
-refused n i k >>= f = refused n i k
+refused q >>= f = refused q
 
 -- a refusal met below is given its places
 abbrev pub withPlaces : {A : Type 0} → ℕ → ℕ → Result A → Result A
 withPlaces i k (ok a) = ok a
-withPlaces i k (refused n i₀ k₀) = refused n i k
+withPlaces i k (refused q) = refused (refusal (q .number) i k)
 
 abbrev pub isEmpty : {A : Type 0} → List A → Bool
 isEmpty [] = true

@@ -40,11 +40,11 @@ through t = do
   ok (cc, o)
 
 abbrev pub mergedBits : Result (List Concatenation × Overall) → List (List (List ℕ))
-mergedBits (refused n i k) = []
+mergedBits (refused q) = []
 mergedBits (ok r) = map (λ (c : Concatenation). map (λ (p : Placed Component). bitsOf (p .value)) (merge (c .comps))) (r .0)
 
 abbrev pub overallAlign : Result (List Concatenation × Overall) → Option FillerAlign
-overallAlign (refused n i k) = none
+overallAlign (refused q) = none
 overallAlign (ok r) = some (r .1 .align)
 
 -- `1u4, 3u4[..n], 5u4, 2u3, 6u4`: the three lowest literals are one, and the one with a text end stays apart

@@ -92,7 +92,7 @@ answerLines r =
 -- the listing of an outcome; "A refusal prints `refused`, number, two places."
 unfoldable pub listing : List ℕ → Result (List ℕ) → List ℕ
 listing image (ok bytes) = answerLines (readAnswer image bytes)
-listing image (refused n i k) = line (ascii "refused" ∷ decimal n ∷ decimal i ∷ decimal k ∷ [])
+listing image (refused q) = line (ascii "refused" ∷ decimal (q .number) ∷ decimal (q .concatenation) ∷ decimal (q .component) ∷ [])
 
 -- "A program reads standard input, one mode byte then an image, and prints the answer. Empty input is number 2"; its area is long
 -- enough for any image

@@ -32,7 +32,7 @@ run image mode area = do
 -- the lent area afterwards: "the full answer from its first byte with the bytes beyond untouched, or, after a refusal, exactly as lent"
 abbrev pub areaAfter : List ℕ → Result (List ℕ) → List ℕ
 areaAfter area (ok bytes) = bytes ++ drop (length bytes) area
-areaAfter area (refused n i k) = area
+areaAfter area (refused q) = area
 
 -- what a run on a lent area comes to, the answer's length or a refusal, and the area afterwards
 abbrev pub ranOn : List ℕ → ℕ → List ℕ → Result ℕ × List ℕ

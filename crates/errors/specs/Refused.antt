@@ -1,6 +1,6 @@
 -- The answer of a check in code, as the definition's: passed, or refused with document 01's number and two places.
 use Rattle.definition.specs.Prelude.{ℕ}
-use Rattle.definition.specs.Basics.{Result, ok, refused}
+use Rattle.definition.specs.Basics.{Result, ok, refused, refusal}
 use Rattle.errors.specs.declared.Refusal.{Refusal}
 use Rattle.errors.specs.declared.Checked.{Checked}
 use Rattle.errors.specs.declared.Checked.the-variants.{Passed, Refused}
@@ -8,7 +8,7 @@ use Rattle.errors.specs.declared.Outcome.{Outcome}
 use Rattle.errors.specs.declared.Outcome.the-variants as O
 
 abbrev pub refusedAs : {A : Type 0} → Refusal → Result A
-refusedAs r = refused (r .number) (r .concatenation) (r .component)
+refusedAs r = refused (refusal (r .number) (r .concatenation) (r .component))
 
 abbrev pub resultOf : Checked → Result Unit
 resultOf Passed = ok tt
@@ -22,4 +22,4 @@ outcomeOf (O.Refused q) = refusedAs q
 -- an answer as one number: 0 where nothing is refused, else document 01's number of the refusal
 abbrev pub numberIn : {A : Type 0} → Result A → ℕ
 numberIn (ok a) = 0
-numberIn (refused number concatenation component) = number
+numberIn (refused q) = q .number

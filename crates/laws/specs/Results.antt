@@ -7,7 +7,7 @@ use Rattle.definition.specs.Refusals.{Reason, need}
 
 pub bind-ok : {A B : Type 0} (m : Result A) (f : A → Result B) {b : B} → (m >>= f) ≡ ok b → (a : A) × (m ≡ ok a) × (f a ≡ ok b)
 bind-ok (ok a) f h = (a, refl, h)
-bind-ok (refused n i k) f {b} h = let z : _≡_ {A = ℕ} 0 1 = cc in absurd (omega arith)
+bind-ok (refused q) f {b} h = let z : _≡_ {A = ℕ} 0 1 = cc in absurd (omega arith)
 
 pub need-ok : (t : Bool) (r : Reason) {u : Unit} → need t r ≡ ok u → t ≡ true
 need-ok true r h = refl
@@ -20,11 +20,11 @@ need-then false r m h = let z : _≡_ {A = ℕ} 0 1 = cc in absurd (omega arith)
 
 pub placed-ok : {A : Type 0} (i k : ℕ) (m : Result A) {a : A} → withPlaces i k m ≡ ok a → m ≡ ok a
 placed-ok i k (ok b) h = h
-placed-ok i k (refused n i₀ k₀) h = let z : _≡_ {A = ℕ} 0 1 = cc in absurd (omega arith)
+placed-ok i k (refused q) h = let z : _≡_ {A = ℕ} 0 1 = cc in absurd (omega arith)
 
 pub bind-assoc : {A B C : Type 0} (m : Result A) (f : A → Result B) (g : B → Result C) → (m >>= λ a. f a >>= g) ≡ (m >>= f >>= g)
 bind-assoc (ok a) f g = refl
-bind-assoc (refused n i k) f g = refl
+bind-assoc (refused q) f g = refl
 
 pub ok-same : {A : Type 0} {m : Result A} {a b : A} → m ≡ ok a → m ≡ ok b → a ≡ b
 ok-same p q = cc

@@ -4,7 +4,7 @@ use mathlib.Core.Path.{_≡_, refl, ap}
 use Prim.Native.Nat.{_≤_, _<_}
 use native.Mathlib.Omega.{arith}
 use Rattle.definition.specs.Prelude.{ℕ, _+_, _*_, _/_, _%_, _^_, List, [], _∷_, length}
-use Rattle.definition.specs.Basics.{Result, ok, refused, _>>=_}
+use Rattle.definition.specs.Basics.{Refusal, Result, ok, refused, _>>=_}
 use Rattle.definition.specs.Image.{treeOf}
 use Rattle.definition.specs.Check.{checkImage}
 use Rattle.definition.specs.Tree.{imageOf}
@@ -62,13 +62,14 @@ split : (n i k : ℕ) → i < 2 ^ 16 → k < 2 ^ 16 → (code : ℕ) → code �
     → (numberIn code ≡ n) × (concatenationIn code ≡ i) × (componentIn code ≡ k)
 split n i k p q code e = (omega arith, omega arith, omega arith)
 
-pub refused-split : (image : List ℕ) (mode area n i k : ℕ) → run image mode area ≡ refused n i k
-    → (2 ^ 32 ≤ codeOn image mode area) × (numberIn (codeOn image mode area) ≡ n)
-    × (concatenationIn (codeOn image mode area) ≡ i) × (componentIn (codeOn image mode area) ≡ k)
-refused-split image mode area n i k e =
-    let (most, least, concatenation, component) = refusal-places image mode area n i k e in
-    let code : codeOn image mode area ≡ n * 2 ^ 32 + i * 2 ^ 16 + k = ap (λ (r : Result (List ℕ)). codeOf (r >>= λ b. ok (length b))) e in
-    let (a, b, c) = split n i k (omega arith) (omega arith) (codeOn image mode area) code in (omega (arith, code, least), a, b, c)
+pub refused-split : (image : List ℕ) (mode area : ℕ) (q : Refusal) → run image mode area ≡ refused q
+    → (2 ^ 32 ≤ codeOn image mode area) × (numberIn (codeOn image mode area) ≡ q .number)
+    × (concatenationIn (codeOn image mode area) ≡ q .concatenation) × (componentIn (codeOn image mode area) ≡ q .component)
+refused-split image mode area q e =
+    let (most, least, concatenation, component) = refusal-places image mode area q e in
+    let code : codeOn image mode area ≡ codeOf (refused q) = ap (λ (r : Result (List ℕ)). codeOf (r >>= λ b. ok (length b))) e in
+    let (a, b, c) = split (q .number) (q .concatenation) (q .component) (omega arith) (omega arith) (codeOn image mode area) code in
+    (omega (arith, code, least), a, b, c)
 
 -- the number fits 64 bits
 pub code-small : (image : List ℕ) (mode area : ℕ) → codeOn image mode area < 2 ^ 64
@@ -76,9 +77,9 @@ code-small image mode area = go (run image mode area) refl
   where
     go : (r : Result (List ℕ)) → run image mode area ≡ r → codeOn image mode area < 2 ^ 64
     go (ok bytes) e = let s = accepted-split image mode area bytes e in omega (arith, s .1)
-    go (refused n i k) e =
-        let (most, least, concatenation, component) = refusal-places image mode area n i k e in
-        let code : codeOn image mode area ≡ n * 2 ^ 32 + i * 2 ^ 16 + k = ap (λ (r : Result (List ℕ)). codeOf (r >>= λ b. ok (length b))) e in
+    go (refused q) e =
+        let (most, least, concatenation, component) = refusal-places image mode area q e in
+        let code : codeOn image mode area ≡ codeOf (refused q) = ap (λ (r : Result (List ℕ)). codeOf (r >>= λ b. ok (length b))) e in
         omega (arith, code)
 
 -- ---- closed examples of both

@@ -7,7 +7,7 @@ use native.Mathlib.Omega.{arith}
 use lib.Dec.{lit≤}
 use lib.ListN.{length-append}
 use Rattle.definition.specs.Prelude.{ℕ, zero, suc, _+_, _*_, Bool, true, false, List, [], _∷_, _++_, map, reverse, length, take, drop, eqb}
-use Rattle.definition.specs.Basics.{ok, refused, if_then_else_, joined, sum, tab, ascii}
+use Rattle.definition.specs.Basics.{ok, Refusal, refused, if_then_else_, joined, sum, tab, ascii}
 use Rattle.definition.specs.Image.{padded}
 use Rattle.definition.specs.Answer.{Bound, Field, Concat, Read, readAnswer}
 use Rattle.definition.specs.Listing.{decimal, hex, shown, boundWord, endWord, widthWord, alignWord, flagWord, isSet, summaryWords, line, fieldLine, concatLines, answerLines, listing}
@@ -131,9 +131,16 @@ pub accepted-most : (image bytes : List ℕ) (t b : ℕ) → (let r = readAnswer
 unfolding listing
 accepted-most image bytes t b h = let r = readAnswer image bytes in omega (arith, h .0, h .1, h .2, h .3, answer-most r)
 
-pub refused-most : (image : List ℕ) (n i k : ℕ) → length (listing image (refused n i k)) ≤ 128
+pub refused-most : (image : List ℕ) (q : Refusal) → length (listing image (refused q)) ≤ 128
 unfolding listing sum ascii
-refused-most image n i k = omega (arith, line-length (ascii "refused") (decimal n ∷ decimal i ∷ decimal k ∷ []), decimal-most n, decimal-most i, decimal-most k)
+refused-most image q =
+    omega (
+      arith,
+      line-length (ascii "refused") (decimal (q .number) ∷ decimal (q .concatenation) ∷ decimal (q .component) ∷ []),
+      decimal-most (q .number),
+      decimal-most (q .concatenation),
+      decimal-most (q .component),
+    )
 
 -- a closed answer that meets the premises: one concatenation of one filler, whose start has a text of 2 bytes
 one : List ℕ

@@ -3,18 +3,18 @@ use mathlib.Core.Path.{_≡_, refl}
 use Prim.Native.Nat.{_≤_, _<_}
 use native.Mathlib.Omega.{arith}
 use Rattle.definition.specs.Prelude.{ℕ, Bool, true, false, Option, none, some}
-use Rattle.definition.specs.Basics.{Result, ok, refused, _>>=_, withPlaces, if_then_else_}
+use Rattle.definition.specs.Basics.{Refusal, refusal, Result, ok, refused, _>>=_, withPlaces, if_then_else_}
 use Rattle.definition.specs.Limits.{limits}
 use Rattle.definition.specs.Refusals.{Reason, mode-above-2, short-image, bad-count, bad-offset, bad-entry, bad-record, too-deep, short-area, empty-after-colon, nothing-before-range, empty-range, second-dots, three-dots, not-one-token, bound-overflow, no-literal, overflow, negative-bound, reversed, zero-width, start-above-width, end-above-width, range-above-width, end-zero, open-start, literal-in-sink, lone-filler-sink, second-filler, zero-total-width, sum-overflow, filler-without-start, unequal-widths, no-common-width, only-source, middle-filler, opposite-fillers, numberOf, refuse, need}
 
 -- a number of the table, and places within the limits of an image
-abbrev pub Told : ℕ → ℕ → ℕ → Type 0
-Told n i k = (n ≤ 45) × (1 ≤ n) × (i < limits .concatenations) × (k < limits .components)
+abbrev pub Told : Refusal → Type 0
+Told q = (q .number ≤ 45) × (1 ≤ q .number) × (q .concatenation < limits .concatenations) × (q .component < limits .components)
 
 -- an answer of which P holds, or a refusal with such a number and such places
 pub data Ends {A : Type 0} (P : A → Type 0) : Result A → Type 0 where
   answers : {a : A} → P a → Ends P (ok a)
-  refuses : {n i k : ℕ} → Told n i k → Ends P (refused n i k)
+  refuses : {q : Refusal} → Told q → Ends P (refused q)
 
 -- nothing is said of the answer
 abbrev pub Fine : {A : Type 0} → Result A → Type 0
@@ -61,7 +61,7 @@ in-table opposite-fillers = (omega arith, omega arith)
 
 module _ {A : Type 0} (P : A → Type 0) where
   pub refuse-ends : (r : Reason) → Ends P (refuse r)
-  refuse-ends r = let (a, b) = in-table r in refuses {i = 0} {k = 0} (a, b, omega arith, omega arith)
+  refuse-ends r = let (a, b) = in-table r in refuses {q = refusal (numberOf r) 0 0} (a, b, omega arith, omega arith)
 
 module _ {A : Type 0} {P : A → Type 0} where
   pub placed-ends : (i k : ℕ) {m : Result A} → i < limits .concatenations → k < limits .components → Ends P m → Ends P (withPlaces i k m)

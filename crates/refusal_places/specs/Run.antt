@@ -30,7 +30,7 @@ run-fine image mode area =
     next-ends (stages-fine mode (treeOf image) (tree-within image (h .0) (h .1))) λ a. fine _
 
 pub refusal-places : RefusalPlaces
-refusal-places image mode area n i k e = told (subst Fine e (run-fine image mode area))
+refusal-places image mode area q e = told (subst Fine e (run-fine image mode area))
   where
-    told : Fine {A = List ℕ} (refused n i k) → Told n i k
+    told : Fine {A = List ℕ} (refused q) → Told q
     told (refuses t) = t

@@ -2,12 +2,12 @@
 use mathlib.Core.Path.{_≡_}
 use Prim.Native.Nat.{_≤_, _<_}
 use Rattle.definition.specs.Prelude.{ℕ, List}
-use Rattle.definition.specs.Basics.{refused}
+use Rattle.definition.specs.Basics.{Refusal, refused}
 use Rattle.definition.specs.Limits.{limits}
 use Rattle.definition.specs.Run.{run}
 
 -- "a refusal is a number and two places (concatenation, component; 0 where none)"
 abbrev pub RefusalPlaces : Type 0
 RefusalPlaces =
-    (image : List ℕ) (mode area n i k : ℕ) → run image mode area ≡ refused n i k
-    → (n ≤ 45) × (1 ≤ n) × (i < limits .concatenations) × (k < limits .components)
+    (image : List ℕ) (mode area : ℕ) (q : Refusal) → run image mode area ≡ refused q
+    → (q .number ≤ 45) × (1 ≤ q .number) × (q .concatenation < limits .concatenations) × (q .component < limits .components)

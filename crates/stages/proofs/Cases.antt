@@ -2,7 +2,7 @@
 use mathlib.Core.Path.{_≡_, refl}
 use native.Mathlib.Omega.{arith}
 use Rattle.definition.specs.Prelude.{ℕ, true, false, none, some}
-use Rattle.definition.specs.Basics.{ok, refused}
+use Rattle.definition.specs.Basics.{ok, Refusal, refused}
 use Rattle.errors.specs.declared.Checked.{Checked}
 use Rattle.errors.specs.declared.Checked.the-variants as C
 use Rattle.errors.specs.Refused.{resultOf}
@@ -17,7 +17,7 @@ none-some h = let z : _≡_ {A = ℕ} 0 1 = cc in absurd (omega arith)
 pub some-is : {A : Type 0} {a b : A} → some a ≡ some b → a ≡ b
 some-is h = cc
 
-pub never : {G A : Type 0} {n i k : ℕ} {a : A} → refused n i k ≡ ok a → G
+pub never : {G A : Type 0} {q : Refusal} {a : A} → refused q ≡ ok a → G
 never h = let z : _≡_ {A = ℕ} 0 1 = cc in absurd (omega arith)
 
 pub passed : (c : Checked) → isRefusedBy c ≡ false → resultOf c ≡ ok tt

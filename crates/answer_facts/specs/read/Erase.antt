@@ -23,13 +23,13 @@ eraseParsed t = record { init = eraseInit (t .init); cc = eraseTree (t .cc) }
 on-bind : {A A′ B B′ : Type 0} (f : A → A′) (g : B → B′) (m : Result A) {m′ : Result A′} (k : A → Result B) (k′ : A′ → Result B′)
     → m′ ≡ onOk f m → ((a : A) → k′ (f a) ≡ onOk g (k a)) → (m′ >>= k′) ≡ onOk g (m >>= k)
 on-bind f g (ok a) k k′ e h = rw e (h a)
-on-bind f g (refused n i j) k k′ e h = rw e
+on-bind f g (refused q) k k′ e h = rw e
 
 -- the same where the first step has one result
 on-same : {A B B′ : Type 0} (g : B → B′) (m : Result A) {m′ : Result A} (k : A → Result B) (k′ : A → Result B′)
     → m′ ≡ m → ((a : A) → k′ a ≡ onOk g (k a)) → (m′ >>= k′) ≡ onOk g (m >>= k)
 on-same g (ok a) k k′ e h = rw e (h a)
-on-same g (refused n i j) k k′ e h = rw e
+on-same g (refused q) k k′ e h = rw e
 
 empty-map : {A B : Type 0} (f : A → B) (l : List A) → isEmpty (map f l) ≡ isEmpty l
 empty-map f [] = refl
@@ -44,7 +44,7 @@ erase-kept {A} {B} f i k last p = go (f last (p .value))
     go : (r : Result B)
         → withPlaces i k (r >>= λ b. ok (record { base = 0; value = b })) ≡ onOk erase (withPlaces i k (r >>= λ b. ok (record { base = p .base; value = b })))
     go (ok b) = refl
-    go (refused n i₀ k₀) = refl
+    go (refused q) = refl
 
 erase-eachIn : {A B : Type 0} (f : Bool → A → Result B) (i k : ℕ) (ps : List (Placed A))
     → eachIn (keepBase f) i k (map erase ps) ≡ onOk (map erase) (eachIn (keepBase f) i k ps)

@@ -1,10 +1,10 @@
 -- How a fact is carried along: to what an operation gives where it does not refuse, to what is found, to every element of a list.
 use Rattle.definition.specs.Prelude.{ℕ, Bool, true, false, Option, none, some, List, [], _∷_, _++_}
-use Rattle.definition.specs.Basics.{Result, ok, refused, _>>=_, withPlaces, if_then_else_}
+use Rattle.definition.specs.Basics.{Result, ok, Refusal, refused, _>>=_, withPlaces, if_then_else_}
 
 pub data Yields {A : Type 0} (P : A → Type 0) : Result A → Type 0 where
   given : {a : A} → P a → Yields P (ok a)
-  nothing : {n i k : ℕ} → Yields P (refused n i k)
+  nothing : {q : Refusal} → Yields P (refused q)
 
 pub data Found {A : Type 0} (P : A → Type 0) : Option A → Type 0 where
   found : {a : A} → P a → Found P (some a)
@@ -25,7 +25,7 @@ module _ {A : Type 0} {P : A → Type 0} where
   -- what is bound after a step that tells nothing
   pub after : {B : Type 0} (m : Result B) {f : B → Result A} → ((b : B) → Yields P (f b)) → Yields P (m >>= f)
   after (ok b) h = h b
-  after (refused n i k) h = nothing
+  after (refused q) h = nothing
 
   pub bound : {B : Type 0} {Q : B → Type 0} {m : Result B} {f : B → Result A} → Yields Q m → ((b : B) → Q b → Yields P (f b)) → Yields P (m >>= f)
   bound (given {a = b} q) h = h b q

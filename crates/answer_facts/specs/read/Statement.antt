@@ -33,7 +33,7 @@ eraseAnswer a =
 
 abbrev pub onOk : {A B : Type 0} → (A → B) → Result A → Result B
 onOk f (ok a) = ok (f a)
-onOk f (refused n i k) = refused n i k
+onOk f (refused q) = refused q
 
 abbrev pub EraseStages : Type 0
 EraseStages = (mode : ℕ) (t : List (List (Placed Unparsed))) → stages mode (eraseTree t) ≡ onOk eraseAnswer (stages mode t)

@@ -53,7 +53,7 @@ kept s p = go (stage1Component s (p .value))
         → (m >>= simplify >>= λ b. ok (record { base = p .base; value = b }))
         ≡ (m >>= (λ b. ok (record { base = p .base; value = b })) >>= keepBase (λ last. simplify) s)
     go (ok c) = refl
-    go (refused n i k) = refl
+    go (refused q) = refl
 
 -- by what the starting value and stage 1 answer
 in-order : (mode : ℕ) (t : List (List (Placed Unparsed))) (start : Result (Option (Placed Part))) (m : Result (List (List (Placed Component))))
@@ -61,8 +61,8 @@ in-order : (mode : ℕ) (t : List (List (Placed Unparsed))) (start : Result (Opt
     → (start >>= (λ init. m >>= λ cc. ok (record { init = init; cc = cc })) >>= stage2 >>= later mode)
     ≡ (start >>= λ init. m >>= λ _. each (keepBase both) 0 t >>= λ u. later mode (record { init = init; cc = u }))
 unfolding stage2
-in-order mode t (refused n i k) m e = refl
-in-order mode t (ok init) (refused n i k) e = refl
+in-order mode t (refused q) m e = refl
+in-order mode t (ok init) (refused q) e = refl
 in-order mode t (ok init) (ok v) e =
     rw (second (keepBase stage1Component) (keepBase (λ last. simplify)) (keepBase both) kept 0 (each-read (keepBase stage1Component) 0 t e))
     (sym (bind-assoc (each (keepBase both) 0 t) (λ cc. ok (record { init = init; cc = cc })) (later mode)))

@@ -18,7 +18,7 @@ Fit (some z) = fits128 z ≡ true
 
 abbrev pub FitBound : Result Usb → Type 0
 FitBound (ok u) = fits128 (u .x) ≡ true
-FitBound (refused n i k) = Unit
+FitBound (refused q) = Unit
 
 pub zero-fits : fits128 (pos 0) ≡ true
 unfolding half128
@@ -128,11 +128,11 @@ simplify-fit u h = either FitBound (isEmpty (u .s .bytes)) h (go (tryParse (u .s
 abbrev pub FitRange : Result (Option Usbr) → Type 0
 FitRange (ok none) = Unit
 FitRange (ok (some r)) = fits128 (r .start .x) ≡ true
-FitRange (refused n i k) = Unit
+FitRange (refused q) = Unit
 
 through : {A : Type 0} (Q : Result A → Type 0) (m : Result A) (k : A → Result (Option Usbr)) → Q m → ((a : A) → Q (ok a) → FitRange (k a)) → FitRange (m >>= k)
 through Q (ok a) k q h = h a q
-through Q (refused n i j) k q h = tt
+through Q (refused e) k q h = tt
 
 pub range-fit : (is : List Item) → FitRange (parseRange is)
 unfolding parseRange

@@ -40,9 +40,9 @@ fixed-usb u n h = go (simplifyUsb u) h
     number at [] (negsuc m) h = (0, cc)
 
     go : (m : Result Usb) →
-        _≡_ {A = Option ℕ} (elim m [ refused n i k ↦ none | ok u′ ↦ elim (staticVal u′) [ none ↦ none | some z ↦ elim z [ pos n ↦ some n | negsuc n ↦ none ] ] ]) (some n) →
+        _≡_ {A = Option ℕ} (elim m [ refused q ↦ none | ok u′ ↦ elim (staticVal u′) [ none ↦ none | some z ↦ elim z [ pos n ↦ some n | negsuc n ↦ none ] ] ]) (some n) →
         (at : ℕ) × (m ≡ ok (numberAt at n))
-    go (refused m i k) h = (0, cc)
+    go (refused q) h = (0, cc)
     go (ok u) h = number (u .s .at) (u .s .bytes) (u .x) h
 
 -- an end that is not written, or a number

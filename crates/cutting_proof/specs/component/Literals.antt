@@ -77,7 +77,7 @@ literal-read mid none bits c {ab} h b =
 
 -- the bounds of a range are fixed whatever the offsets of its texts
 abbrev numberFrom : Result Usb → Option ℕ
-numberFrom m = elim m [ refused n i k ↦ none | ok u ↦ elim (staticVal u) [ none ↦ none | some z ↦ elim z [ pos n ↦ some n | negsuc n ↦ none ] ] ]
+numberFrom m = elim m [ refused q ↦ none | ok u ↦ elim (staticVal u) [ none ↦ none | some z ↦ elim z [ pos n ↦ some n | negsuc n ↦ none ] ] ]
 
 abbrev bothOf : Option ℕ → Option ℕ → Option (ℕ × ℕ)
 bothOf o p = elim o [ none ↦ none | some a ↦ elim p [ none ↦ none | some b ↦ some (a, b) ] ]
@@ -110,9 +110,9 @@ bare-fixed w r = ap₂ bothOf (bare-fixedBound (r .start)) (ends (r .«end»))
 readsAs-range : (w : ℕ) (f : Forest) {cd : ℕ × ℕ} → readsAs w f ≡ some cd → (r : Usbr) × (readRange (items 0 (flat f)) ≡ ok r) × (fixedRange w r ≡ some cd)
 readsAs-range w f {cd} h = go (parseRange (items 0 (flat f))) h
   where
-    go : (m : Result (Option Usbr)) → (elim m [ refused n i k ↦ none | ok r ↦ fixedRange w (rangeIn (items 0 (flat f)) r) ]) ≡ some cd →
+    go : (m : Result (Option Usbr)) → (elim m [ refused q ↦ none | ok r ↦ fixedRange w (rangeIn (items 0 (flat f)) r) ]) ≡ some cd →
         (r : Usbr) × ((m >>= λ r. ok (rangeIn (items 0 (flat f)) r)) ≡ ok r) × (fixedRange w r ≡ some cd)
-    go (refused n i k) h = absurd (Option·none-ne-some cd h)
+    go (refused q) h = absurd (Option·none-ne-some cd h)
     go (ok r) h = (rangeIn (items 0 (flat f)) r, refl, h)
 
 bracket-range : (w at : ℕ) (f : Forest) {cd : ℕ × ℕ} → readsAs w f ≡ some cd → (r : Usbr) × (readRange (items at (flat f)) ≡ ok r) × (fixedRange w r ≡ some cd)
@@ -121,7 +121,7 @@ bracket-range w at f {cd} h =
     go r q (readRange (items at (flat f))) (reads-anywhere at 0 (flat f) ∙ ap (inResult bareRange) p)
   where
     go : (r : Usbr) → fixedRange w r ≡ some cd → (m : Result Usbr) → inResult bareRange m ≡ ok (bareRange r) → (r : Usbr) × (m ≡ ok r) × (fixedRange w r ≡ some cd)
-    go r q (refused n i k) e = (r, cc, q)
+    go r q (refused w) e = (r, cc, q)
     go r q (ok r′) e =
         let same : bareRange r′ ≡ bareRange r = cc in
         (r′, refl, sym (bare-fixed w r′) ∙ ap (fixedRange w) same ∙ bare-fixed w r ∙ q)

@@ -29,7 +29,7 @@ inOption f (some a) = some (f a)
 
 abbrev pub inResult : {A B : Type 0} → (A → B) → Result A → Result B
 inResult f (ok a) = ok (f a)
-inResult f (refused n i k) = refused n i k
+inResult f (refused q) = refused q
 
 abbrev pub bareRange : Usbr → Usbr
 bareRange r = record { start = bareUsb (r .start); «end» = inOption bareUsb (r .«end») }
@@ -159,9 +159,9 @@ bare-bound is =
 bind-alike : {A B C D : Type 0} (f : A → C) (g : B → D) (m m′ : Result A) (k k′ : A → Result B) →
     inResult f m ≡ inResult f m′ → ((a a′ : A) → f a ≡ f a′ → inResult g (k a) ≡ inResult g (k′ a′)) → inResult g (m >>= k) ≡ inResult g (m′ >>= k′)
 bind-alike f g (ok a) (ok a′) k k′ e h = h a a′ cc
-bind-alike f g (ok a) (refused n i j) k k′ e h = cc
-bind-alike f g (refused n i j) (ok a′) k k′ e h = cc
-bind-alike f g (refused n i j) (refused n′ i′ j′) k k′ e h = cc
+bind-alike f g (ok a) (refused q) k k′ e h = cc
+bind-alike f g (refused q) (ok a′) k k′ e h = cc
+bind-alike f g (refused q) (refused q′) k k′ e h = cc
 
 bound-alike : (is is′ : List Item) → bareItems is ≡ bareItems is′ → inResult bareUsb (readBound is) ≡ inResult bareUsb (readBound is′)
 bound-alike is is′ e = sym (bare-bound is) ∙ ap readBound e ∙ bare-bound is′

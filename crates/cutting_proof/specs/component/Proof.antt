@@ -28,8 +28,8 @@ record FixedRead (s : Bool) (n : Node) (a b : ℕ) : Type 0 where
 fixed-read : (s : Bool) (n : Node) (a b : ℕ) → fixedLiteral s n ≡ some (a, b) → FixedRead s n a b
 fixed-read s n a b h = go (stage1Component s (unparsed n)) refl h
   where
-    go : (m : Result Component) → stage1Component s (unparsed n) ≡ m → _≡_ {A = Option (ℕ × ℕ)} (elim m [ refused n i k ↦ none | ok c ↦ fixedOf c ]) (some (a, b)) → FixedRead s n a b
-    go (refused m i k) e h = absurd (Option·none-ne-some (a, b) h)
+    go : (m : Result Component) → stage1Component s (unparsed n) ≡ m → _≡_ {A = Option (ℕ × ℕ)} (elim m [ refused q ↦ none | ok c ↦ fixedOf c ]) (some (a, b)) → FixedRead s n a b
+    go (refused q) e h = absurd (Option·none-ne-some (a, b) h)
     go (ok c) e h = record { component = c; read = e; bounds = h; as-literal = literal-read (middle s (unparsed n)) ((splitOf (unparsed n)) .range) (n .bits) c e h }
 
 pub literal-reads : LiteralReads

@@ -90,9 +90,9 @@ opener t e rest depth = firstOf (need (openRight t e rest) bad-record) (need (lt
 
 five : (a b c d e : Result Unit) → firstOf a (firstOf b (firstOf c (firstOf d e))) ≡ firstOf (firstOf a b) (firstOf (firstOf c d) e)
 five (ok u) (ok v) (ok w) d e = refl
-five (ok u) (ok v) (refused n i j) d e = refl
-five (ok u) (refused n i j) c d e = refl
-five (refused n i j) b c d e = refl
+five (ok u) (ok v) (refused q) d e = refl
+five (ok u) (refused q) c d e = refl
+five (refused q) b c d e = refl
 
 check-word : (t f : ℕ) (e : Entry) (rest : List Entry) (depth : ℕ) → opens (e .kind) ≡ false
     → checkIn t (suc f) (e ∷ rest) depth ≡ firstOf (need (wordRight t e) bad-record) (checkIn t f rest depth)

@@ -4,4 +4,4 @@ use Rattle.definition.specs.Basics.{Result, ok, refused}
 
 abbrev pub codeOf : Result ℕ → ℕ
 codeOf (ok n) = n
-codeOf (refused number concatenation component) = number * 2 ^ 32 + concatenation * 2 ^ 16 + component
+codeOf (refused q) = q .number * 2 ^ 32 + q .concatenation * 2 ^ 16 + q .component

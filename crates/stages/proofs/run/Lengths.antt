@@ -102,7 +102,7 @@ one-go s p = go (stage1Component s (p .value))
     go : (m : Result Component)
         → (m >>= (λ b. ok (record { base = p .base; value = b })) >>= secondStage s) ≡ (m >>= simplify >>= λ b. ok (record { base = p .base; value = b }))
     go (ok c) = refl
-    go (refused n i k) = refl
+    go (refused q) = refl
 
 pub all-fixed : (image : List ℕ) → checkImage image ≡ ok tt → (cc : List (List (Placed Component))) → twoStages (treeOf image) ≡ ok cc → AllFixed (joined cc)
 all-fixed image k cc h =

@@ -31,8 +31,8 @@ by-stages : (mode : ℕ) (a : Result (Option (Placed Part))) (b : Result (List (
     → (a >>= (λ init. b >>= λ cc. ok (record { init = init; cc = cc })) >>= stage2 >>= later mode)
     ≡ (a >>= λ init. b >>= each secondStage 0 >>= λ cc. later mode (record { init = init; cc = cc }))
 unfolding stage2
-by-stages mode (refused n i k) b = refl
-by-stages mode (ok init) (refused n i k) = refl
+by-stages mode (refused q) b = refl
+by-stages mode (ok init) (refused q) = refl
 by-stages mode (ok init) (ok v) = sym (bind-assoc (each secondStage 0 v) (λ cc. ok (record { init = init; cc = cc })) (later mode))
 
 pub stages-two : (mode : ℕ) (t : List (List (Placed Unparsed))) → stages mode t
@@ -51,8 +51,8 @@ run-after image mode area =
   where
     go : (a b c : Result Unit) (r : Result (List ℕ)) → (a >>= λ _. b >>= λ _. c >>= λ _. r) ≡ (a >>= (λ _. b >>= λ _. c) >>= λ _. r)
     go (ok u) (ok v) c r = refl
-    go (ok u) (refused n i k) c r = refl
-    go (refused n i k) b c r = refl
+    go (ok u) (refused q) c r = refl
+    go (refused q) b c r = refl
 
 all-bytes : (s : List ℕ) → ((i : ℕ) → getD s i 0 < 256) → Bytes s
 unfolding all

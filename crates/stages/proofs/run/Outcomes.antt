@@ -62,7 +62,7 @@ module _ {A : Type 0} (m : Result A) (q : Checked) (said : resultOf q ≡ verdic
     where
       go : (m : Result A) → refusedAs {A = Unit} e ≡ verdict m → m ≡ refusedAs e
       go (ok a) h = let z : _≡_ {A = ℕ} 0 1 = cc in absurd (omega arith)
-      go (refused n i k) h = cc
+      go (refused q) h = cc
 
 -- ---- the starting value
 

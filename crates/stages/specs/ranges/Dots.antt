@@ -62,7 +62,7 @@ dotsOf image t r n st =
 
 abbrev pub dotsResult : List ℕ → Tree → ℕ → ℕ → Result Scan → Dots
 dotsResult image t r n (ok st) = dotsOf image t r n st
-dotsResult image t r n (refused m i k) = refusedDots m
+dotsResult image t r n (refused q) = refusedDots (q .number)
 
 -- what `dots_in` gives: the definition's scan of the items
 abbrev pub dotsIn : List ℕ → Tree → ℕ → List Item → Dots

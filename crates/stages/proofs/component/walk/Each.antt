@@ -9,11 +9,11 @@ use Rattle.stages.proofs.Cases.{never}
 
 pub bind-on : {A B : Type 0} (x : Result A) (y : Result A) (z : Result B) → ((x >>= λ _. y) >>= λ _. z) ≡ (x >>= λ _. y >>= λ _. z)
 bind-on (ok a) y z = refl
-bind-on (refused n i k) y z = refl
+bind-on (refused q) y z = refl
 
 pub same-verdict : (x : Result Unit) → x ≡ (x >>= λ _. ok tt)
 same-verdict (ok tt) = refl
-same-verdict (refused n i k) = refl
+same-verdict (refused q) = refl
 
 pub ok-is : {A : Type 0} (a b : A) → ok a ≡ ok b → a ≡ b
 ok-is a b h = cc
@@ -21,7 +21,7 @@ ok-is a b h = cc
 -- a stage whose verdict is `ok`
 pub verdict-ok : {A : Type 0} (m : Result A) → verdict m ≡ ok tt → (a : A) × (m ≡ ok a)
 verdict-ok (ok a) h = (a, refl)
-verdict-ok (refused n i k) h = never h
+verdict-ok (refused q) h = never h
 
 module _ {A B : Type 0} (g : Bool → A → Result B) (i : ℕ) where
   -- one more in front
@@ -34,8 +34,8 @@ module _ {A B : Type 0} (g : Bool → A → Result B) (i : ℕ) where
           → verdict (withPlaces i j (a >>= λ b. ok (record { base = p .base; value = b })) >>= λ b. m >>= λ bs. ok (b ∷ bs))
           ≡ (withPlaces i j (verdict a) >>= λ _. verdict m)
       go (ok a) (ok m) = refl
-      go (ok a) (refused n x y) = refl
-      go (refused n x y) m = refl
+      go (ok a) (refused q) = refl
+      go (refused q) m = refl
 
   pub record Parts (j : ℕ) (p : Placed A) (l : List (Placed A)) (m : List (Placed B)) : Type 0 where
     pub one : B
@@ -51,8 +51,8 @@ module _ {A B : Type 0} (g : Bool → A → Result B) (i : ℕ) where
       go : (a : Result B) (n : Result (List (Placed B))) → g (eqb i 0 && isEmpty l) (p .value) ≡ a → eachIn (keepBase g) i (suc j) l ≡ n
           → (withPlaces i j (a >>= λ b. ok (record { base = p .base; value = b })) >>= λ b. n >>= λ bs. ok (b ∷ bs)) ≡ ok m → Parts j p l m
       go (ok a) (ok n) e f h = record { one = a; rest = n; reads = e; others = f; all = ok-is _ _ (sym h) }
-      go (ok a) (refused x y z) e f h = never h
-      go (refused x y z) n e f h = never h
+      go (ok a) (refused q) e f h = never h
+      go (refused q) n e f h = never h
 
   pub each-none : (j : ℕ) (m : List (Placed B)) → eachIn (keepBase g) i j [] ≡ ok m → m ≡ []
   unfolding eachIn
@@ -75,8 +75,8 @@ module _ {A B : Type 0} (g : Bool → A → Result B) where
       go : (a : Result (List (Placed B))) (m : Result (List (List (Placed B))))
           → verdict (a >>= λ b. m >>= λ bs. ok (b ∷ bs)) ≡ (verdict a >>= λ _. verdict m)
       go (ok a) (ok m) = refl
-      go (ok a) (refused n x y) = refl
-      go (refused n x y) m = refl
+      go (ok a) (refused q) = refl
+      go (refused q) m = refl
 
   pub record TreeParts (i : ℕ) (c : List (Placed A)) (t : List (List (Placed A))) (m : List (List (Placed B))) : Type 0 where
     pub one : List (Placed B)
@@ -92,8 +92,8 @@ module _ {A B : Type 0} (g : Bool → A → Result B) where
       go : (a : Result (List (Placed B))) (n : Result (List (List (Placed B)))) → eachIn (keepBase g) i 0 c ≡ a → each (keepBase g) (suc i) t ≡ n
           → (a >>= λ b. n >>= λ bs. ok (b ∷ bs)) ≡ ok m → TreeParts i c t m
       go (ok a) (ok n) e f h = record { one = a; rest = n; reads = e; others = f; all = ok-is _ _ (sym h) }
-      go (ok a) (refused x y z) e f h = never h
-      go (refused x y z) n e f h = never h
+      go (ok a) (refused q) e f h = never h
+      go (refused q) n e f h = never h
 
   pub tree-none : (i : ℕ) (m : List (List (Placed B))) → each (keepBase g) i [] ≡ ok m → m ≡ []
   unfolding each

@@ -81,12 +81,12 @@ stages-are image t q words words′ e h =
     go : (m : Result (List (List (Placed Def.Component))))
         → (m >>= λ bss. _>>=_ {A = Unit} (ok tt) (λ _. verdict (each secondStage 0 bss))) ≡ verdict (m >>= each secondStage 0)
     go (ok a) = refl
-    go (refused x y z) = refl
+    go (refused q) = refl
 
     both : (m : Result (List (List (Placed Def.Component)))) → each firstStage 0 (placedLists 0 t) ≡ m → (dss : List (List (Placed Def.Component)))
         → (each firstStage 0 (placedLists 0 t) >>= each secondStage 0) ≡ ok dss → KeptFrom image words′ 0 (joined dss)
     both (ok bss) p dss g = h .kept bss dss p (ap (λ m. m >>= each secondStage 0) (sym p) ∙ g)
-    both (refused x y z) p dss g = never (ap (λ m. m >>= each secondStage 0) (sym p) ∙ g)
+    both (refused q) p dss g = never (ap (λ m. m >>= each secondStage 0) (sym p) ∙ g)
 
 -- none are left
 pub stages-none : (image : List ℕ) (i s : ℕ) (w : Walk) (words : List ℕ) → StagesFrom image i s [] w (w .second) words words
@@ -135,7 +135,7 @@ module _ (image : List ℕ) (i s : ℕ) (c : List Node) (t : List (List Node)) (
       stays : {A B : Type 0} (x : Checked) → isRefusedBy x ≡ true → (a : Result A) → resultOf x ≡ verdict a → (f : A → Result B) (g : B → Result Unit)
           → resultOf x ≡ ((a >>= f) >>= g)
       stays x q (ok a) e f g = not-passed x q e
-      stays x q (refused y z u) e f g = e
+      stays x q (refused w) e f g = e
 
   joined-one : (ds : List (Placed Def.Component)) (rest dss : List (List (Placed Def.Component))) → dss ≡ ds ∷ rest → joined dss ≡ ds ++ joined rest
   unfolding joined
@@ -153,7 +153,7 @@ module _ (image : List ℕ) (i s : ℕ) (c : List Node) (t : List (List Node)) (
           → (x : Result (List (List (Placed Def.Component))))
           → (x >>= λ bss. resultOf (m .second) >>= λ _. verdict (each secondStage (suc i) bss))
           ≡ ((x >>= λ bss. ok (bs ∷ bss)) >>= λ bss. resultOf (w .second) >>= λ _. verdict (each secondStage i bss))
-      all bs e (refused x y z) = refl
+      all bs e (refused q) = refl
       all bs e (ok bss) =
           ap (λ x. x >>= λ _. verdict (each secondStage (suc i) bss)) e
           ∙ bind-on (resultOf (w .second)) (verdict (eachIn secondStage i 0 bs)) (verdict (each secondStage (suc i) bss))

@@ -58,7 +58,7 @@ pub record Answers (image : List ℕ) (i j k : ℕ) (s : ℕ) (m : Result Def.Co
 
 passed-first : (i j : ℕ) (m : Result Def.Component) (d : Def.Component) → (m >>= simplify) ≡ ok d → ok tt ≡ withPlaces i j (verdict m)
 passed-first i j (ok a) d e = refl
-passed-first i j (refused x y z) d e = never e
+passed-first i j (refused q) d e = never e
 
 pub answers : (image : List ℕ) (t : Tree) (i j k s at : ℕ) (q : ReadResult) (m : Result Def.Component) (before first second : Result Unit) (words words′ : List ℕ)
     → s < 2 ^ 32 → at ≤ length image → length image < 2 ^ 31 → 11 * k + 11 ≤ length words → ReadIs image t s at q m → KeptBy q k at words words′

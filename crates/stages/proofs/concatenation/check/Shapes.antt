@@ -59,7 +59,7 @@ module _ (c : Component) (s : Shape) (h : ShapeOf c s) where
             → (m >>= λ r₁. withPlaces i k (checkType (not (eqb i 0)) first last c r₁))
             ≡ (m >>= λ r₁. withPlaces i k (checkAs (s .kind) (s .«has_end») (s .full) (not (eqb i 0)) first last r₁))
         by-width (ok r₁) = ap (withPlaces i k) (check-as (not (eqb i 0)) first last r₁)
-        by-width (refused n a b) = refl
+        by-width (refused q) = refl
 
     pub advanced-as : settledOf r (stepOf i k first last c r) ≡ advancedAs i k first last s r
     advanced-as = ap (settledOf r) step-as

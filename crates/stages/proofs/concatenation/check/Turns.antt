@@ -42,14 +42,14 @@ last-is {A} cs j n e l = go (drop (j + 1) cs) (length-drop (j + 1) cs)
 
 kept-ok : (m : Result Running) (r r′ : Running) → r′ ≡ keptOf r m → ok tt ≡ verdictOf m → m ≡ ok r′
 kept-ok (ok x) r r′ h e = ap ok (sym h)
-kept-ok (refused n i k) r r′ h e = let z : _≡_ {A = ℕ} 0 1 = cc in absurd (omega arith)
+kept-ok (refused q) r r′ h e = let z : _≡_ {A = ℕ} 0 1 = cc in absurd (omega arith)
 
 -- a step's refusal is the whole check's
 refused-through : {A B : Type 0} (q : Checked) (m : Result Running) (x : B) (g : Running → Result A) (f : A → Result B) → isRefusedBy q ≡ true
     → resultOf q ≡ verdictOf m → (resultOf q >>= λ _. ok x) ≡ (m >>= g >>= f)
 refused-through C.Passed m x g f h e = cc
 refused-through (C.Refused q) (ok r) x g f h e = let z : _≡_ {A = ℕ} 0 1 = cc in absurd (omega arith)
-refused-through (C.Refused q) (refused n i k) x g f h e = cc
+refused-through (C.Refused q) (refused w) x g f h e = cc
 
 abbrev concatenationBy : List (Placed Component) → Running → Concatenation
 concatenationBy cs r = record { comps = cs; align = r .align; width = r .width; deterministic = r .deterministic; nonzero = r .nonzero }

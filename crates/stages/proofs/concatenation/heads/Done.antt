@@ -36,7 +36,7 @@ done-none heads tree = record { done = []; count = refl; heads-are = (heads, ref
   where
     same : (m : Result (List Concatenation)) → m ≡ (m >>= λ ds. ok ([] ++ ds))
     same (ok ds) = refl
-    same (refused n i k) = refl
+    same (refused q) = refl
 
 -- ---- the heads
 
@@ -74,7 +74,7 @@ concatenationBy cs a =
 regroup : (m : Result (List Concatenation)) (done : List Concatenation) (d : Concatenation)
     → (m >>= (λ ds. ok (d ∷ ds)) >>= (λ ds. ok (done ++ ds))) ≡ (m >>= λ ds. ok ((done ++ d ∷ []) ++ ds))
 regroup (ok ds) done d = ap ok (sym (append-assoc done (d ∷ []) ds))
-regroup (refused n i k) done d = refl
+regroup (refused q) done d = refl
 
 passed : (q : Checked) (d : Concatenation) (m : Result Concatenation) → isRefusedBy q ≡ false → (resultOf q >>= λ _. ok d) ≡ m → m ≡ ok d
 passed C.Passed d m h e = sym e
@@ -109,7 +109,7 @@ module _ (heads : List ℕ) (i : ℕ) (tree : List (List (Placed Component))) (h
           → (resultOf q ≡ verdict (stage3 0 tree)) × ((ds : List Concatenation) → stage3 0 tree ≡ ok ds → HeadsAre heads ds)
       go C.Passed r m s t = let z : _≡_ {A = ℕ} 0 1 = cc in absurd (omega arith)
       go (C.Refused q) r (ok d) s t = let z : _≡_ {A = ℕ} 0 1 = cc in absurd (omega arith)
-      go (C.Refused q) r (refused n x y) s t = (rw t cc, λ ds e. let z : _≡_ {A = ℕ} 0 1 = cc in absurd (omega arith))
+      go (C.Refused q) r (refused w) s t = (rw t cc, λ ds e. let z : _≡_ {A = ℕ} 0 1 = cc in absurd (omega arith))
 
 pub done-end : (heads : List ℕ) (i : ℕ) (tree : List (List (Placed Component))) → Done heads i tree → drop i tree ≡ []
     → (ok tt ≡ verdict (stage3 0 tree)) × ((ds : List Concatenation) → stage3 0 tree ≡ ok ds → HeadsAre heads ds)

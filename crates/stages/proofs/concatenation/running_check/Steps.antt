@@ -2,7 +2,7 @@
 use mathlib.Core.Path.{_≡_}
 use borrow.Author.Tests.{eq-eqb, ne-eqb}
 use Rattle.definition.specs.Prelude.{ℕ, _+_, none, some, Bool, true, false, not, _&&_, eqb, ℤ, natAbs}
-use Rattle.definition.specs.Basics.{ok, refused, withPlaces, if_then_else_}
+use Rattle.definition.specs.Basics.{ok, Refusal, refused, withPlaces, if_then_else_}
 use Rattle.definition.specs.Refusals.{refuse, lone-filler-sink, second-filler, sum-overflow}
 use Rattle.definition.specs.Concatenation.{Running, isAlign, align-none, alignOf as placedAlign}
 use Rattle.numbers.specs.Value.{optionOf}
@@ -51,5 +51,5 @@ module _ (i k : ℕ) (first last : Bool) (s : Shape) (r : Running) where
       → stepAs i k first last s r ≡ withPlaces i k (checkAs (s .kind) (s .«has_end») (s .full) (not (eqb i 0)) first last r₁)
   step-on r₁ e = rw e
 
-  pub step-off : (n a b : ℕ) → withPlaces i 0 (addAs (optionOf (s .width)) r) ≡ refused n a b → stepAs i k first last s r ≡ refused n a b
-  step-off n a b e = rw e
+  pub step-off : (q : Refusal) → withPlaces i 0 (addAs (optionOf (s .width)) r) ≡ refused q → stepAs i k first last s r ≡ refused q
+  step-off q e = rw e

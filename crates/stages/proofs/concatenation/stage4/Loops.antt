@@ -9,7 +9,7 @@ use Rattle.definition.specs.Image.{Placed, componentCount}
 use Rattle.definition.specs.Component.{Component}
 use Rattle.definition.specs.Prelude.{ℕ, zero, suc, _+_, _*_, Bool, true, false, Option, none, some, List, [], _∷_, map, length, drop}
 use Rattle.definition.specs.Refusals.{refuse, middle-filler, opposite-fillers}
-use Rattle.definition.specs.Basics.{Result, ok, refused, _>>=_, withPlaces, if_then_else_, joined}
+use Rattle.definition.specs.Basics.{Result, ok, Refusal, refused, _>>=_, withPlaces, if_then_else_, joined}
 use Rattle.definition.specs.Overall.{Overall, placeFrom, joinWidth, checkSource, overallFrom, middleFrom, oppositeFrom}
 use Rattle.definition.specs.Concatenation.{Concatenation, isAlign, align-mid}
 use Rattle.stages.specs.declared.concatenation.overall.Summary.{Summary}
@@ -93,8 +93,8 @@ starts-by (d ∷ ds) c s e h = (h ds d refl, λ z. absurd (omega (arith, e, z)))
 
 over-two : (m : Result Overall) (s : Result Unit) (g : Overall → Result Overall) → (m >>= λ o. s >>= λ _. g o) ≡ (m >>= (λ o. s >>= λ _. ok o) >>= g)
 over-two (ok o) (ok u) g = refl
-over-two (ok o) (refused n i k) g = refl
-over-two (refused n i k) s g = refl
+over-two (ok o) (refused q) g = refl
+over-two (refused q) s g = refl
 
 abbrev middleBy : ℕ → Bool → Option ℕ → Result Unit → Result Unit
 middleBy i t p later = if t then elim p [ none ↦ later | some k ↦ withPlaces i k (refuse middle-filler) ] else later
@@ -119,8 +119,8 @@ module _ (i : ℕ) (l : List Concatenation) (d : Concatenation) (here : drop i l
   pub over-on : (bare : Bool) (o p : Overall) → turn bare i d o ≡ ok p → overallFrom bare (i + 1) (drop (i + 1) l) p ≡ overallFrom bare i (drop i l) o
   over-on bare o p e = sym (over-then bare o ∙ ap (λ m. m >>= λ q. overallFrom bare (i + 1) (drop (i + 1) l) q) e)
 
-  pub over-off : (bare : Bool) (o : Overall) (n j k : ℕ) → turn bare i d o ≡ refused n j k → refused n j k ≡ overallFrom bare i (drop i l) o
-  over-off bare o n j k e = sym (over-then bare o ∙ ap (λ m. m >>= λ q. overallFrom bare (i + 1) (drop (i + 1) l) q) e)
+  pub over-off : (bare : Bool) (o : Overall) (q : Refusal) → turn bare i d o ≡ refused q → refused q ≡ overallFrom bare i (drop i l) o
+  over-off bare o q e = sym (over-then bare o ∙ ap (λ m. m >>= overallFrom bare (i + 1) (drop (i + 1) l)) e)
 
   middle-then : middleFrom i (drop i l) ≡ (middleAt i d >>= λ _. middleFrom (i + 1) (drop (i + 1) l))
   unfolding middleFrom
@@ -131,8 +131,8 @@ module _ (i : ℕ) (l : List Concatenation) (d : Concatenation) (here : drop i l
   pub middle-on : middleAt i d ≡ ok tt → middleFrom (i + 1) (drop (i + 1) l) ≡ middleFrom i (drop i l)
   middle-on e = sym (middle-then ∙ ap (λ m. m >>= λ _. middleFrom (i + 1) (drop (i + 1) l)) e)
 
-  pub middle-off : (n j k : ℕ) → middleAt i d ≡ refused n j k → refused n j k ≡ middleFrom i (drop i l)
-  middle-off n j k e = sym (middle-then ∙ ap (λ m. m >>= λ _. middleFrom (i + 1) (drop (i + 1) l)) e)
+  pub middle-off : (q : Refusal) → middleAt i d ≡ refused q → refused q ≡ middleFrom i (drop i l)
+  middle-off q e = sym (middle-then ∙ ap (λ m. m >>= λ _. middleFrom (i + 1) (drop (i + 1) l)) e)
 
   opposite-then : oppositeFrom i (drop i l) ≡ (oppositeAt i d (drop (i + 1) l) >>= λ _. oppositeFrom (i + 1) (drop (i + 1) l))
   unfolding oppositeFrom
@@ -143,8 +143,8 @@ module _ (i : ℕ) (l : List Concatenation) (d : Concatenation) (here : drop i l
   pub opposite-on : oppositeAt i d (drop (i + 1) l) ≡ ok tt → oppositeFrom (i + 1) (drop (i + 1) l) ≡ oppositeFrom i (drop i l)
   opposite-on e = sym (opposite-then ∙ ap (λ m. m >>= λ _. oppositeFrom (i + 1) (drop (i + 1) l)) e)
 
-  pub opposite-off : (n j k : ℕ) → oppositeAt i d (drop (i + 1) l) ≡ refused n j k → refused n j k ≡ oppositeFrom i (drop i l)
-  opposite-off n j k e = sym (opposite-then ∙ ap (λ m. m >>= λ _. oppositeFrom (i + 1) (drop (i + 1) l)) e)
+  pub opposite-off : (q : Refusal) → oppositeAt i d (drop (i + 1) l) ≡ refused q → refused q ≡ oppositeFrom i (drop i l)
+  opposite-off q e = sym (opposite-then ∙ ap (λ m. m >>= λ _. oppositeFrom (i + 1) (drop (i + 1) l)) e)
 
   pub place-on : (p : Concatenation → Bool) → p d ≡ false → placeFrom p (i + 1) (drop (i + 1) l) ≡ placeFrom p i (drop i l)
   unfolding placeFrom

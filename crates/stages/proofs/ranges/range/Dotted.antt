@@ -5,7 +5,7 @@ use native.Mathlib.Omega.{arith}
 use native.Mathlib.Nat.{zero-add, add-zero}
 use borrow.Author.Tests.{eqb-true}
 use Rattle.definition.specs.Prelude.{ℕ, suc, _+_, _-_, Bool, true, false, Option, none, some, List, [], _∷_, length, eqb}
-use Rattle.definition.specs.Basics.{Result, ok, refused, _>>=_, if_then_else_}
+use Rattle.definition.specs.Basics.{Result, ok, refused, refusal, _>>=_, if_then_else_}
 use Rattle.definition.specs.Text.{Item, isToken}
 use Rattle.definition.specs.Ranges.{Usbr, Scan, find, scanStep, scanFrom, scanDots, parseRange}
 use Rattle.laws.specs.Tests.{by-test}
@@ -26,7 +26,7 @@ Placed n (some f) = Between n f
 -- places found lie in the run, and refusals have the places 0 and 0
 abbrev Fine : ℕ → Result Scan → Type 0
 Fine n (ok st) = (st .dots ≤ n) × Placed n (st .found)
-Fine n (refused m i k) = (0 < m) × (_≡_ {A = Result (Option Usbr)} (refused m i k) (refused m 0 0))
+Fine n (refused q) = (0 < q .number) × (q ≡ refusal (q .number) 0 0)
 
 placed-more : (n : ℕ) (o : Option (ℕ × ℕ)) → Placed n o → Placed (suc n) o
 placed-more n none h = tt
@@ -58,7 +58,7 @@ scan-fine n (i ∷ rest) st h = go (scanStep n i st) (step-fine n i st h) (λ u 
   where
     go : (r : Result Scan) → Fine (suc n) r → ((u : Scan) → Fine (suc n) (ok u) → Fine (suc n + length rest) (scanFrom (suc n) rest u))
         → Fine (n + suc (length rest)) (r >>= scanFrom (suc n) rest)
-    go (refused m a b) f k = f
+    go (refused q) f k = f
     go (ok u) f k = subst (λ x. Fine x (scanFrom (suc n) rest u)) (let z : suc n + length rest ≡ n + suc (length rest) = omega arith in z) (k u f)
 
 -- ---- what parse_range does with the scan's answer
@@ -80,7 +80,7 @@ module _ (image : List ℕ) (t : Tree) (r : ℕ) (is : List Item) (d : Dots) whe
     pub result : parseRange is ≡ rangedBy (places .0) (places .1) (d .inclusive) is
 
   pub record RangeBy : Type 0 where
-    pub refusal : (d .number ≡ 0 → ⊥) → parseRange is ≡ refused (d .number) 0 0
+    pub off : (d .number ≡ 0 → ⊥) → parseRange is ≡ refused (refusal (d .number) 0 0)
     pub nothing : d .number ≡ 0 → d .found ≡ false → parseRange is ≡ ok none
     pub cut : d .number ≡ 0 → d .found ≡ true → RangeCut
 
@@ -91,7 +91,7 @@ module _ (image : List ℕ) (t : Tree) (r : ℕ) (is : List Item) (d : Dots) whe
         let num : d .number ≡ 0 = ap (λ (x : Dots). x .number) eq in
         let no : d .found ≡ false = ap (λ (x : Dots). x .found) eq ∙ ap isFound g in
         record {
-          refusal = λ z. absurd (z num);
+          off = λ z. absurd (z num);
           nothing = λ z y. scanned ∙ ap (λ x. x >>= ofScan is) q ∙ rw g refl;
           cut = λ z y. absurd (let x : true ≡ false = sym y ∙ no in let c : _≡_ {A = ℕ} 0 1 = cc in omega (arith, c));
         }
@@ -100,7 +100,7 @@ module _ (image : List ℕ) (t : Tree) (r : ℕ) (is : List Item) (d : Dots) whe
         let yes : d .found ≡ true = ap (λ (x : Dots). x .found) eq ∙ ap isFound g in
         let inc : st .inclusive ≡ d .inclusive = sym (ap (λ (x : Dots). x .inclusive) eq) in
         record {
-          refusal = λ z. absurd (z num);
+          off = λ z. absurd (z num);
           nothing = λ z y. absurd (let x : true ≡ false = sym yes ∙ y in let c : _≡_ {A = ℕ} 0 1 = cc in omega (arith, c));
           cut = λ z y. record {
             places = w;
@@ -113,10 +113,10 @@ module _ (image : List ℕ) (t : Tree) (r : ℕ) (is : List Item) (d : Dots) whe
 
     by-scan : (m : Result Scan) → scanDots is ≡ m → Fine (length is) m → d ≡ dotsResult image t r (length is) m → RangeBy
     by-scan (ok st) q f eq = with-found st (st .found) refl q (f .1) eq
-    by-scan (refused m a b) q f eq =
-        let num : d .number ≡ m = ap (λ (x : Dots). x .number) eq in
+    by-scan (refused v) q f eq =
+        let num : d .number ≡ v .number = ap (λ (x : Dots). x .number) eq in
         record {
-          refusal = λ z. scanned ∙ ap (λ x. x >>= ofScan is) q ∙ f .1 ∙ ap (λ x. refused x 0 0) (sym num);
+          off = λ z. scanned ∙ ap (λ x. x >>= ofScan is) q ∙ ap refused (f .1 ∙ ap (λ x. refusal x 0 0) (sym num));
           nothing = λ z y. absurd (let p = f .0 in omega (arith, num, z, p));
           cut = λ z y. absurd (let p = f .0 in omega (arith, num, z, p));
         }

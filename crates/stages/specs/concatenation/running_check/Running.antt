@@ -83,7 +83,7 @@ stepAs i k first last s r =
 -- the running check after a step, as it was where the step refuses; and whether it refused
 abbrev pub keptOf : Running → Result Running → Running
 keptOf r (ok s) = s
-keptOf r (refused n i k) = r
+keptOf r (refused q) = r
 
 abbrev pub verdictOf : Result Running → Result Unit
 verdictOf q = q >>= λ _. ok tt

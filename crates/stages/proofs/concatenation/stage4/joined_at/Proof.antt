@@ -21,7 +21,7 @@ returns-2 c = λ image ds rest d h g e f.
     let s = c .before .before .before .before .before .before .before .args in
     let j = c .before .before .before .join-width in
     let m = c .before .before .before .before .summary-at in
-    turn-off (s .bare) (s .i) d (overallOf (s .o)) _ _ _ (sym (ap answerOf (c .before .e .given .1)) ∙ j .ensures d (m .ensures .1 ds rest d h g e))
+    turn-off (s .bare) (s .i) d (overallOf (s .o)) _ (sym (ap answerOf (c .before .e .given .1)) ∙ j .ensures d (m .ensures .1 ds rest d h g e))
 
 pub joined-at-spec : {M : Type 1} → statement M
 joined-at-spec =

@@ -105,7 +105,7 @@ returns c = λ ds j.
     let t = turn-of (s .image .now) (s .words .now) (s .heads .now) (s .c) (v .k .0) (v .i) ds j (w .0)
     (c .before .before .before .before .before .before .before .loop-test .taken) in
     let sum = m .ensures .1 ds (drop (v .i + 1) ds) (t .one) (j .heads-are) (j .checked) (t .rest) in
-    middle-off (v .i) ds (t .one) (t .rest) _ _ _
+    middle-off (v .i) ds (t .one) (t .rest) _
     (sym (c .before .before .before .middle-at .ensures (s .image .now) (t .one) (sum .align-is) (sym (n .ensures ∙ t .size)) (t .kept))
     ∙ ap resultOf (c .before .e .given .1))
     ∙ w .1

@@ -58,7 +58,7 @@ returns c = λ ds n h g.
     let s = c .before .before .before .before .before .before .before .args in
     let v = c .before .before .before .before .before .loop in
     let t = turn-at ds (v .i) (s .c) n (c .before .before .before .before .loop-test .taken) in
-    opposite-off (v .i) ds (t .0) (t .1) _ _ _
+    opposite-off (v .i) ds (t .0) (t .1) _
     (sym (c .before .before .before .opposite-at .ensures ds (t .0) n h g (t .1)) ∙ ap resultOf (c .before .e .given .1))
     ∙ v .inv .1 ds n h g
 

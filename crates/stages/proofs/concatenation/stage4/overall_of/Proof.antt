@@ -90,7 +90,7 @@ returns c = λ ds j.
     let v = c .before .before .before .before .before .loop in
     let n = c .before .before .before .before .before .before .before .before .components-of in
     let t = turn-at ds (v .i) (s .c) (j .count) (c .before .before .before .before .loop-test .taken) in
-    over-off (v .i) ds (t .0) (t .1) (s .bare) (overallOf (v .o)) _ _ _
+    over-off (v .i) ds (t .0) (t .1) (s .bare) (overallOf (v .o)) _
     (sym (c .before .before .before .joined-at .ensures (s .image .now) ds (drop (v .i + 1) ds) (t .0) (j .heads-are) (j .checked) (t .1)
     (first-is (s .image .now) (s .words .now) (s .heads .now) (s .c) (n .result) (v .i) ds (drop (v .i + 1) ds) (t .0) j (f .some) (n .ensures) (t .1)))
     ∙ ap answerOf (c .before .e .given .1))

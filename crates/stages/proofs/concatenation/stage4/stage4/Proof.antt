@@ -19,7 +19,7 @@ returns-2 c = λ ds j.
     let s = c .before .before .before .before .before .before .before .before .args in
     let b = c .before .before .before .before .both in
     let loop = c .before .before .before .overall-of .ensures ds j ∙ ap (λ t. overallFrom t 0 ds (overallStart ds)) (b .ensures) in
-    refuses (s .mode) (s .given) ds _ _ _ (sym loop ∙ ap answerOf (c .before .e .given .1))
+    refuses (s .mode) (s .given) ds _ (sym loop ∙ ap answerOf (c .before .e .given .1))
 
 pub stage4-spec : {M : Type 1} → statement M
 stage4-spec =

@@ -29,9 +29,8 @@ returns c =
 returns-2 : tie.Need-returns-2
 returns-2 c =
     let p = c .before .before .before .before .args in
-    sym (step-off (p .i) (p .k) (p .first) (p .last) (p .shape) (runningOf (p .r)) (c .before .e .given .0 .0 .number) (c
-    .before .e .given .0 .0 .concatenation) (c .before .e .given .0 .0 .component) (sym (c .before .before .before .add-width .ensures) ∙
-    ap steppedOf (c .before .e .given .1)))
+    sym (step-off (p .i) (p .k) (p .first) (p .last) (p .shape) (runningOf (p .r)) _
+    (sym (c .before .before .before .add-width .ensures) ∙ ap steppedOf (c .before .e .given .1)))
 
 pub step-spec : {M : Type 1} → statement M
 step-spec =
