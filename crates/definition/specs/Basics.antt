@@ -16,8 +16,8 @@ pub record Refusal : Type 0 where
   pub concatenation : ℕ
   pub component : ℕ
 
-abbrev pub refusal : ℕ → ℕ → ℕ → Refusal
-refusal n i k = record { number = n; concatenation = i; component = k }
+abbrev pub refusalOf : ℕ → ℕ → ℕ → Refusal
+refusalOf n i k = record { number = n; concatenation = i; component = k }
 
 pub data Result (A : Type 0) : Type 0 where
   ok : A → Result A
@@ -31,7 +31,7 @@ refused q >>= f = refused q
 -- a refusal met below is given its places
 abbrev pub withPlaces : {A : Type 0} → ℕ → ℕ → Result A → Result A
 withPlaces i k (ok a) = ok a
-withPlaces i k (refused q) = refused (refusal (q .number) i k)
+withPlaces i k (refused q) = refused (refusalOf (q .number) i k)
 
 abbrev pub isEmpty : {A : Type 0} → List A → Bool
 isEmpty [] = true

@@ -1,7 +1,7 @@
 -- Document 01, "Edge readings": the twelve starred ones as one table, which one theorem covers.
 use mathlib.Core.Path.{_≡_, refl}
 use Rattle.definition.specs.Prelude.{ℕ, false, Option, none, some, List, [], _∷_, map, String, ℤ, pos, negsuc}
-use Rattle.definition.specs.Basics.{Result, ok, refused, refusal, _>>=_, sameBytes, sum, all, joined, tab, ascii}
+use Rattle.definition.specs.Basics.{Result, ok, refused, refusalOf, _>>=_, sameBytes, sum, all, joined, tab, ascii}
 use Rattle.definition.specs.Numbers.{tryParse, half128, digitWorth, digitsFrom, inner, unsignedParse}
 use Rattle.definition.specs.Image.{kinds}
 use Rattle.definition.specs.Tree.{Forest, end, word, group, flat, textOf}
@@ -39,7 +39,7 @@ readingOf f (ok a) = f a
 readingOf f (refused q) = is-refused (q .number)
 
 abbrev pub simplified : Option Usbr → Result Usbr
-simplified none = refused (refusal 0 0 0)
+simplified none = refused (refusalOf 0 0 0)
 simplified (some r) = simplifyRange r
 
 -- both stages of the literal `0u8` with a bracket

@@ -1,6 +1,6 @@
 -- Document 01, "How each operation refuses": every reason with its number, in the document's order. The numbers stand here only.
 use Rattle.definition.specs.Prelude.{ℕ, Bool, true, false}
-use Rattle.definition.specs.Basics.{Result, ok, refused, refusal}
+use Rattle.definition.specs.Basics.{Result, ok, refused, refusalOf}
 
 pub data Reason : Type 0 where
   mode-above-2 short-image bad-count bad-offset bad-entry bad-record too-deep short-area : Reason
@@ -54,7 +54,7 @@ numberOf opposite-fillers = 45
 
 -- a refusal whose places are still to be given, or are 0 and 0
 abbrev pub refuse : {A : Type 0} → Reason → Result A
-refuse r = refused (refusal (numberOf r) 0 0)
+refuse r = refused (refusalOf (numberOf r) 0 0)
 
 abbrev pub need : Bool → Reason → Result Unit
 need true r = ok tt

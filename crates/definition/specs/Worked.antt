@@ -2,7 +2,7 @@
 use mathlib.Core.Path.{_≡_, refl}
 use lib.ListN.{set}
 use Rattle.definition.specs.Prelude.{ℕ, zero, suc, _+_, List, [], _∷_, _++_, map, take, true}
-use Rattle.definition.specs.Basics.{ascii, Result, ok, refused, refusal}
+use Rattle.definition.specs.Basics.{ascii, Result, ok, refused, refusalOf}
 use Rattle.definition.specs.Image.{kinds}
 use Rattle.definition.specs.Check.{checkImage}
 use Rattle.definition.specs.Tree.{Tree, Node, Forest, end, word, group, imageOf, fits}
@@ -127,7 +127,7 @@ wrongImages =
 
 pub refused-images :
     map (λ (e : List ℕ × ℕ). checkImage (e .0)) wrongImages
-    ≡ map (λ (e : List ℕ × ℕ). refused (refusal (e .1) 0 0)) wrongImages
+    ≡ map (λ (e : List ℕ × ℕ). refused (refusalOf (e .1) 0 0)) wrongImages
 unfolding computed workedImage nested
 refused-images = refl
 
@@ -138,7 +138,7 @@ nested-accepted = refl
 -- 1 and 8, in their places in the order: 1 before the image check, 8 after it
 pub refused-runs :
     run workedImage 3 290 ∷ run (take 39 workedImage) 3 290 ∷ run workedImage 0 289 ∷ run (take 39 workedImage) 0 289 ∷ []
-    ≡ refused (refusal 1 0 0) ∷ refused (refusal 1 0 0) ∷ refused (refusal 8 0 0) ∷ refused (refusal 2 0 0) ∷ []
+    ≡ refused (refusalOf 1 0 0) ∷ refused (refusalOf 1 0 0) ∷ refused (refusalOf 8 0 0) ∷ refused (refusalOf 2 0 0) ∷ []
 unfolding computed workedImage
 refused-runs = refl
 

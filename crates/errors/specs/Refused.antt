@@ -1,6 +1,6 @@
 -- The answer of a check in code, as the definition's: passed, or refused with document 01's number and two places.
 use Rattle.definition.specs.Prelude.{ℕ}
-use Rattle.definition.specs.Basics.{Result, ok, refused, refusal}
+use Rattle.definition.specs.Basics.{Result, ok, refused, refusalOf}
 use Rattle.errors.specs.declared.Refusal.{Refusal}
 use Rattle.errors.specs.declared.Checked.{Checked}
 use Rattle.errors.specs.declared.Checked.the-variants.{Passed, Refused}
@@ -8,7 +8,7 @@ use Rattle.errors.specs.declared.Outcome.{Outcome}
 use Rattle.errors.specs.declared.Outcome.the-variants as O
 
 abbrev pub refusedAs : {A : Type 0} → Refusal → Result A
-refusedAs r = refused (refusal (r .number) (r .concatenation) (r .component))
+refusedAs r = refused (refusalOf (r .number) (r .concatenation) (r .component))
 
 abbrev pub resultOf : Checked → Result Unit
 resultOf Passed = ok tt

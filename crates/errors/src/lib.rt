@@ -2,7 +2,7 @@
 pub mod flags;
 
 ghost use mathlib.Core.Path.{_≡_};
-ghost use Rattle.definition.specs.Basics.{refused, refusal};
+ghost use Rattle.definition.specs.Basics.{refused, refusalOf};
 ghost use Rattle.errors.specs.Refused.{refusedAs, resultOf, numberIn};
 
 // A number of document 01 and two places: concatenation and component, 0 where there is none.
@@ -26,7 +26,7 @@ pub enum Outcome {
 
 // A refusal with the places 0 and 0.
 pub fn refuse(number: u32) -> Refusal
-    ensures { λ r. ⌜ refusedAs {A = Unit} r ≡ refused (refusal number 0 0) ⌝ }
+    ensures { λ r. ⌜ refusedAs {A = Unit} r ≡ refused (refusalOf number 0 0) ⌝ }
 {
     Refusal {
         number,

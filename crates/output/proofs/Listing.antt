@@ -6,7 +6,7 @@ use borrow.Author.Tests.{leb-true, leb-false}
 use lib.Seq.{take-append-seam, take-all}
 use Rattle.definition.specs.Prelude.{ℕ, _-_, List, [], _∷_, length, take, drop, getD, leb}
 use Rattle.laws.specs.Tests.{by-test}
-use Rattle.definition.specs.Basics.{Result, ok, refused, refusal, _>>=_}
+use Rattle.definition.specs.Basics.{Result, ok, refused, refusalOf, _>>=_}
 use Rattle.definition.specs.Limits.{maxInput}
 use Rattle.definition.specs.Listing.{listing, output, programArea}
 use Rattle.definition.specs.Run.{run, areaAfter}
@@ -26,7 +26,7 @@ result-of area after (Accepted n) (ok bytes) e a =
 result-of area after (Accepted n) (refused q) e a = let z : _≡_ {A = ℕ} 0 1 = cc in absurd (omega arith)
 result-of area after (Refused q) (ok bytes) e a = let z : _≡_ {A = ℕ} 0 1 = cc in absurd (omega arith)
 result-of area after (Refused q) (refused w) e a =
-    let same : refusal (q .number) (q .concatenation) (q .component) ≡ w = cc in rw same refl
+    let same : refusalOf (q .number) (q .concatenation) (q .component) ≡ w = cc in rw same refl
 
 pub listing-of : (image area after : List ℕ) (mode : ℕ) (o : Outcome)
     → (outcomeOf o, after) ≡ ranOn image mode area → listingOf image after o ≡ listing image (run image mode (length area))

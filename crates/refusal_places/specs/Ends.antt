@@ -3,7 +3,7 @@ use mathlib.Core.Path.{_≡_, refl}
 use Prim.Native.Nat.{_≤_, _<_}
 use native.Mathlib.Omega.{arith}
 use Rattle.definition.specs.Prelude.{ℕ, Bool, true, false, Option, none, some}
-use Rattle.definition.specs.Basics.{Refusal, refusal, Result, ok, refused, _>>=_, withPlaces, if_then_else_}
+use Rattle.definition.specs.Basics.{Refusal, refusalOf, Result, ok, refused, _>>=_, withPlaces, if_then_else_}
 use Rattle.definition.specs.Limits.{limits}
 use Rattle.definition.specs.Refusals.{Reason, mode-above-2, short-image, bad-count, bad-offset, bad-entry, bad-record, too-deep, short-area, empty-after-colon, nothing-before-range, empty-range, second-dots, three-dots, not-one-token, bound-overflow, no-literal, overflow, negative-bound, reversed, zero-width, start-above-width, end-above-width, range-above-width, end-zero, open-start, literal-in-sink, lone-filler-sink, second-filler, zero-total-width, sum-overflow, filler-without-start, unequal-widths, no-common-width, only-source, middle-filler, opposite-fillers, numberOf, refuse, need}
 
@@ -61,7 +61,7 @@ in-table opposite-fillers = (omega arith, omega arith)
 
 module _ {A : Type 0} (P : A → Type 0) where
   pub refuse-ends : (r : Reason) → Ends P (refuse r)
-  refuse-ends r = let (a, b) = in-table r in refuses {q = refusal (numberOf r) 0 0} (a, b, omega arith, omega arith)
+  refuse-ends r = let (a, b) = in-table r in refuses {q = refusalOf (numberOf r) 0 0} (a, b, omega arith, omega arith)
 
 module _ {A : Type 0} {P : A → Type 0} where
   pub placed-ends : (i k : ℕ) {m : Result A} → i < limits .concatenations → k < limits .components → Ends P m → Ends P (withPlaces i k m)

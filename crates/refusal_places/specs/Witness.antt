@@ -2,7 +2,7 @@
 use mathlib.Core.Path.{_≡_, refl}
 use lib.ListN.{replicate}
 use Rattle.definition.specs.Prelude.{[], _∷_, _++_}
-use Rattle.definition.specs.Basics.{ascii, refused, refusal}
+use Rattle.definition.specs.Basics.{ascii, refused, refusalOf}
 use Rattle.definition.specs.Tree.{Node, end, word, imageOf}
 use Rattle.definition.specs.Readings.{tokens}
 use Rattle.definition.specs.Run.{run}
@@ -27,6 +27,6 @@ pub refused-runs :
     -- concatenations 0 and 1 with opposite fillers
     ∷ run (imageOf ((filler ∷ variable ∷ []) ∷ (variable ∷ filler ∷ []) ∷ [])) 0 1000
     ∷ []
-    ≡ refused (refusal 2 0 0) ∷ refused (refusal 1 0 0) ∷ refused (refusal 30 1 1) ∷ refused (refusal 30 15 0) ∷ refused (refusal 45 0 1) ∷ []
+    ≡ refused (refusalOf 2 0 0) ∷ refused (refusalOf 1 0 0) ∷ refused (refusalOf 30 1 1) ∷ refused (refusalOf 30 15 0) ∷ refused (refusalOf 45 0 1) ∷ []
 unfolding computed tokens
 refused-runs = refl

@@ -4,7 +4,7 @@ use Prim.Native.Nat.{_<_, _≤_, _-_}
 use native.Mathlib.Omega.{arith}
 use borrow.Author.Tests.{lt-leb, le-leb, ne-eqb}
 use Rattle.definition.specs.Prelude.{ℕ, _+_, Bool, true, false, _&&_, List, map, length, leb, eqb}
-use Rattle.definition.specs.Basics.{Result, ok, refused, refusal, sum, all, tab}
+use Rattle.definition.specs.Basics.{Result, ok, refused, refusalOf, sum, all, tab}
 use Rattle.definition.specs.Refusals.{need, short-image, bad-count, bad-offset, bad-entry, bad-record}
 use Rattle.definition.specs.Image.{u32At, bytesFor, counts, tablesFor, tables, componentCount, recordCount, literalWidth, startAt, entryAt}
 use Rattle.definition.specs.Check.{countsRight, offsetsRight, sparesZero, entriesRight, checkIn, checkComponents, checkImage}
@@ -83,7 +83,7 @@ records-sum image h e r =
     rw (ap (λ x. x .n) e, ap (λ x. x .r) e) s
 
 -- ---- the records: the first start is looked at before them
-start-stops : (n : ℕ) (x : Result Unit) → (n ≡ 0 → ⊥) → refused (refusal 6 0 0) ≡ firstOf (need (eqb n 0) bad-record) x
+start-stops : (n : ℕ) (x : Result Unit) → (n ≡ 0 → ⊥) → refused (refusalOf 6 0 0) ≡ firstOf (need (eqb n 0) bad-record) x
 start-stops n x h = rw (ne-eqb n 0 h)
 
 start-goes : (n : ℕ) (x : Result Unit) → n ≡ 0 → x ≡ firstOf (need (eqb n 0) bad-record) x
@@ -96,7 +96,7 @@ module _ (image : List ℕ) (h : Counts) (at : Tables) (l : Laid image h at) (st
   abbrev all-components : Result Unit
   all-components = checkComponents image 0 (tab (recordCount image) 0 ((counts image) .n))
 
-  pub start-refused : (start ≡ 0 → ⊥) → refused (refusal 6 0 0) ≡ records image
+  pub start-refused : (start ≡ 0 → ⊥) → refused (refusalOf 6 0 0) ≡ records image
   unfolding records
   start-refused a = start-stops (startAt image 0) all-components λ z. a (first-start ∙ z)
 
@@ -115,20 +115,20 @@ module _ (image : List ℕ) where
   unfolding checkImage records
   parts = refl
 
-  pub too-short : length image < 40 → checkImage image ≡ refused (refusal 2 0 0)
+  pub too-short : length image < 40 → checkImage image ≡ refused (refusalOf 2 0 0)
   too-short h = parts ∙ rw (lt-leb 40 (length image) h)
 
   module _ (long : 40 ≤ length image) where
     at-least : leb 40 (length image) ≡ true
     at-least = le-leb 40 (length image) long
 
-    pub miscounted : countsRight image ≡ false → checkImage image ≡ refused (refusal 3 0 0)
+    pub miscounted : countsRight image ≡ false → checkImage image ≡ refused (refusalOf 3 0 0)
     miscounted h = parts ∙ rw (at-least, h)
 
-    pub misplaced : countsRight image ≡ true → offsetsRight image ≡ false → checkImage image ≡ refused (refusal 4 0 0)
+    pub misplaced : countsRight image ≡ true → offsetsRight image ≡ false → checkImage image ≡ refused (refusalOf 4 0 0)
     misplaced h p = parts ∙ rw (at-least, h, p)
 
-    pub wrong-entry : countsRight image ≡ true → offsetsRight image ≡ true → entriesRight image ≡ false → checkImage image ≡ refused (refusal 5 0 0)
+    pub wrong-entry : countsRight image ≡ true → offsetsRight image ≡ true → entriesRight image ≡ false → checkImage image ≡ refused (refusalOf 5 0 0)
     wrong-entry h p e = parts ∙ rw (at-least, h, p, e)
 
     pub all-but-records : countsRight image ≡ true → offsetsRight image ≡ true → entriesRight image ≡ true → checkImage image ≡ records image

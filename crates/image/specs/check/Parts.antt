@@ -2,7 +2,7 @@
 use mathlib.Core.Path.{_≡_}
 use Prim.Native.Nat.{_≤_}
 use Rattle.definition.specs.Prelude.{ℕ, _+_, _*_, _/_, _^_, Bool, _&&_, List, map, length, getD, leb, eqb}
-use Rattle.definition.specs.Basics.{Result, ok, refused, refusal, _>>=_, if_then_else_, within, sum, all, tab}
+use Rattle.definition.specs.Basics.{Result, ok, refused, refusalOf, _>>=_, if_then_else_, within, sum, all, tab}
 use Rattle.definition.specs.Limits.{limits}
 use Rattle.definition.specs.Refusals.{need, bad-record}
 use Rattle.definition.specs.Image.{u32At, bytesFor, counts, tables, recordCount, startAt, Entry}
@@ -59,7 +59,7 @@ entryFrom image text e = entryWith e (getD image (text + e .start) 0)
 
 -- an answer as a number: 0 passed, any other refuses
 abbrev pub answerOf : ℕ → Result Unit
-answerOf n = if eqb n 0 then ok tt else refused (refusal n 0 0)
+answerOf n = if eqb n 0 then ok tt else refused (refusalOf n 0 0)
 
 -- x is the answer of the check of `count` records from record `from` on, whatever fuel is enough
 abbrev pub Says : ℕ → (ℕ → Entry) → ℕ → ℕ → ℕ → Result Unit → Type 0

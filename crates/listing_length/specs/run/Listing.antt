@@ -5,7 +5,7 @@ use native.Mathlib.Nat.{le-trans}
 use native.Mathlib.Omega.{arith}
 use lib.Dec.{lit≤}
 use Rattle.definition.specs.Prelude.{ℕ, _+_, _*_, _-_, _^_, List, [], _∷_, length, take}
-use Rattle.definition.specs.Basics.{Result, ok, refused, refusal, joined}
+use Rattle.definition.specs.Basics.{Result, ok, refused, refusalOf, joined}
 use Rattle.definition.specs.Limits.{limits, maxInput}
 use Rattle.definition.specs.Image.{counts, treeOf}
 use Rattle.definition.specs.Check.{checkImage}
@@ -81,5 +81,5 @@ listing-most image mode area = go (run image mode area) refl
 
 pub output-most : (input : List ℕ) → length (output input) ≤ longestListing
 unfolding output
-output-most [] = le-trans (refused-most [] (refusal 2 0 0)) (lit≤ tt)
+output-most [] = le-trans (refused-most [] (refusalOf 2 0 0)) (lit≤ tt)
 output-most (mode ∷ rest) = listing-most (take (maxInput - 1) rest) mode programArea

@@ -3,7 +3,7 @@ use mathlib.Core.Path.{_≡_, sym, ap, _∙_}
 use Prim.Native.Nat.{_≤_, _<_}
 use borrow.Author.Tests.{lt-leb, le-leb}
 use Rattle.definition.specs.Prelude.{ℕ, _+_, _*_, Bool, true, false, List, leb}
-use Rattle.definition.specs.Basics.{ok, refused, refusal}
+use Rattle.definition.specs.Basics.{ok, refused, refusalOf}
 use Rattle.definition.specs.Limits.{areaNeeded}
 use Rattle.definition.specs.Refusals.{need, short-area}
 use Rattle.definition.specs.Image.{counts}
@@ -22,7 +22,7 @@ module _ (image : List ℕ) (area : ℕ) where
   enough-is c n b e f g = rw (e, f, g)
 
   module _ (mode : ℕ) where
-    pub mode-above : (q : Refusal) → refusedAs {A = Unit} q ≡ refused (refusal 1 0 0) → 2 < mode → refusedAs q ≡ admittedOf image mode area
+    pub mode-above : (q : Refusal) → refusedAs {A = Unit} q ≡ refused (refusalOf 1 0 0) → 2 < mode → refusedAs q ≡ admittedOf image mode area
     unfolding admittedOf
     mode-above q e h = rw (lt-leb mode 2 h) e
 
@@ -38,6 +38,6 @@ module _ (image : List ℕ) (area : ℕ) where
       pub all-passed : s ≡ C.Passed → (b : Bool) → b ≡ roomy → b ≡ true → ok tt ≡ admittedOf image mode area
       all-passed p b e t = sym (after-image p ∙ rw (← e, t))
 
-      pub area-short : s ≡ C.Passed → (b : Bool) → b ≡ roomy → b ≡ false → (q : Refusal) → refusedAs {A = Unit} q ≡ refused (refusal 8 0 0)
+      pub area-short : s ≡ C.Passed → (b : Bool) → b ≡ roomy → b ≡ false → (q : Refusal) → refusedAs {A = Unit} q ≡ refused (refusalOf 8 0 0)
           → refusedAs q ≡ admittedOf image mode area
       area-short p b e t q r = r ∙ sym (after-image p ∙ rw (← e, t))

@@ -2,7 +2,7 @@
 use mathlib.Core.Path.{_≡_, refl, sym, _∙_, ap}
 use borrow.Author.Tests.{eq-eqb, ne-eqb}
 use Rattle.definition.specs.Prelude.{ℕ, Option, none, some, Bool, true, false, not, _&&_, _||_, List, [], _∷_, eqb}
-use Rattle.definition.specs.Basics.{Result, ok, Refusal, refused, refusal, _>>=_, withPlaces, if_then_else_}
+use Rattle.definition.specs.Basics.{Result, ok, Refusal, refused, refusalOf, _>>=_, withPlaces, if_then_else_}
 use Rattle.definition.specs.Refusals.{need, refuse, middle-filler, unequal-widths, filler-without-start, numberOf}
 use Rattle.definition.specs.Concatenation.{Concatenation, isAlign, align-mid}
 use Rattle.definition.specs.Overall.{Overall, joinWidth, checkSource, overallStart, joinAlign, isSided}
@@ -22,7 +22,7 @@ module _ (i : ℕ) (c : Concatenation) (o : Overall) where
   pub width-same : (w v : ℕ) → c .width ≡ some w → o .width ≡ some v → w ≡ v → joinWidth i c o ≡ ok (joined c (o .known) (some v) o)
   width-same w v h g e = rw (h, g, eq-eqb w v e)
 
-  pub width-differs : (w v : ℕ) → c .width ≡ some w → o .width ≡ some v → (w ≡ v → ⊥) → joinWidth i c o ≡ refused (refusal (numberOf unequal-widths) (o .known) i)
+  pub width-differs : (w v : ℕ) → c .width ≡ some w → o .width ≡ some v → (w ≡ v → ⊥) → joinWidth i c o ≡ refused (refusalOf (numberOf unequal-widths) (o .known) i)
   width-differs w v h g e = rw (h, g, ne-eqb w v e)
 
 pub joins :

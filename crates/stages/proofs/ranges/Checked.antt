@@ -1,7 +1,7 @@
 -- Stage 2 of a range, on the definition alone: both bounds, then the tests, and what the tests leave.
 use mathlib.Core.Path.{_≡_, refl, sym, _∙_, subst}
 use Rattle.definition.specs.Prelude.{Bool, true, false, _&&_, Option, none, some, pos, ltZ, nonNeg}
-use Rattle.definition.specs.Basics.{Result, ok, refused, refusal, _>>=_}
+use Rattle.definition.specs.Basics.{Result, ok, refused, refusalOf, _>>=_}
 use Rattle.definition.specs.Refusals.{need, negative-bound, reversed, zero-width}
 use Rattle.definition.specs.Ranges.{Usbr}
 use Rattle.definition.specs.Component.{simplifyUsb, simplifyEnd, simplifyRange, ifStatic, ifStaticEnd, ifKnown}
@@ -16,7 +16,7 @@ bind-same (refused q) h = refl
 
 -- the tests, of a range that is there
 abbrev pub thenChecked : Option Usbr → Result Usbr
-thenChecked o = elim o [ none ↦ refused (refusal 20 0 0) | some v ↦ checkedRange v ]
+thenChecked o = elim o [ none ↦ refused (refusalOf 20 0 0) | some v ↦ checkedRange v ]
 
 pub range-is : (v : Usbr) → (bothSimple v >>= thenChecked) ≡ simplifyRange v
 unfolding simplifyRange

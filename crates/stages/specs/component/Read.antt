@@ -3,7 +3,7 @@ use mathlib.Core.Path.{_≡_}
 use Prim.Native.Nat.{_≤_, _<_}
 use lib.Seq.{sets}
 use Rattle.definition.specs.Prelude.{ℕ, zero, suc, _+_, _*_, _/_, _^_, Bool, true, false, Option, none, some, List, [], _∷_, length, take, eqb, leb}
-use Rattle.definition.specs.Basics.{Result, ok, refused, refusal, _>>=_, withPlaces, if_then_else_, joined}
+use Rattle.definition.specs.Basics.{Result, ok, refused, refusalOf, _>>=_, withPlaces, if_then_else_, joined}
 use Rattle.definition.specs.Image.{Unparsed, Placed, bytesFor, treeOf}
 use Rattle.definition.specs.Tree.{Node, recsOf, allRecs, literalsOf}
 use Rattle.definition.specs.Component as Def
@@ -44,8 +44,8 @@ stagedBy (R.Refused n) = Q.Second n
 abbrev pub ReadIs : List ℕ → Tree → ℕ → ℕ → ReadResult → Result Def.Component → Type 0
 ReadIs image t base at (Q.Ok c) m =
     ((m >>= simplify) ≡ ok (componentOf image t base at c)) × ComponentStaged image t base c × EndGiven image t base c
-ReadIs image t base at (Q.First n) m = m ≡ refused (refusal n 0 0)
-ReadIs image t base at (Q.Second n) m = (d : Def.Component) × (m ≡ ok d) × (simplify d ≡ refused (refusal n 0 0))
+ReadIs image t base at (Q.First n) m = m ≡ refused (refusalOf n 0 0)
+ReadIs image t base at (Q.Second n) m = (d : Def.Component) × (m ≡ ok d) × (simplify d ≡ refused (refusalOf n 0 0))
 
 abbrev pub OrderedRead : ReadResult → Type 0
 OrderedRead (Q.Ok c) = Ordered (c .«c_type»)
@@ -62,13 +62,13 @@ KeptBy (Q.Second n) k literal words words′ = words′ ≡ words
 
 abbrev pub firstBy : ReadResult → ℕ → ℕ → Result Unit
 firstBy (Q.Ok c) i j = ok tt
-firstBy (Q.First n) i j = refused (refusal n i j)
+firstBy (Q.First n) i j = refused (refusalOf n i j)
 firstBy (Q.Second n) i j = ok tt
 
 abbrev secondOf : ReadResult → ℕ → ℕ → Result Unit
 secondOf (Q.Ok c) i j = ok tt
 secondOf (Q.First n) i j = ok tt
-secondOf (Q.Second n) i j = refused (refusal n i j)
+secondOf (Q.Second n) i j = refused (refusalOf n i j)
 
 abbrev pub secondBy : Result Unit → ReadResult → ℕ → ℕ → Result Unit
 secondBy before q i j = before >>= λ _. secondOf q i j

@@ -3,7 +3,7 @@
 use mathlib.Core.Path.{_≡_}
 use Prim.Native.Nat.{_≤_, _<_}
 use Rattle.definition.specs.Prelude.{ℕ, _-_, List, drop}
-use Rattle.definition.specs.Basics.{Result, ok, refused, refusal}
+use Rattle.definition.specs.Basics.{Result, ok, refused, refusalOf}
 use Rattle.definition.specs.Component as Def
 use Rattle.numbers.specs.declared.OptionI128.{OptionI128}
 use Rattle.numbers.specs.declared.OptionI128.the-variants as I
@@ -46,7 +46,7 @@ componentOf image t base at c = record { c-type = typeOf image t base at (c .«c
 
 abbrev pub componentResult : List ℕ → Tree → ℕ → ℕ → ComponentResult → Result Def.Component
 componentResult image t base at (R.Ok c) = ok (componentOf image t base at c)
-componentResult image t base at (R.Refused n) = refused (refusal n 0 0)
+componentResult image t base at (R.Refused n) = refused (refusalOf n 0 0)
 
 -- ---- texts within the image, and bits in order and within a literal's 4,096
 

@@ -1,7 +1,7 @@
 -- What stage 4 reads of a concatenation, its answer in code, and its steps.
 use Rattle.definition.specs.Prelude.{ℕ, suc, Bool, true, false, not, _&&_, _||_, Option, none, some, List, [], _∷_, length, eqb}
 use mathlib.Core.Path.{_≡_}
-use Rattle.definition.specs.Basics.{Result, ok, refused, refusal, _>>=_, withPlaces, if_then_else_}
+use Rattle.definition.specs.Basics.{Result, ok, refused, refusalOf, _>>=_, withPlaces, if_then_else_}
 use Rattle.definition.specs.Refusals.{need, refuse, no-common-width, only-source, middle-filler, opposite-fillers}
 use Rattle.definition.specs.Image.{Placed}
 use Rattle.definition.specs.Component.{Component}
@@ -98,4 +98,4 @@ checksOf mode l o =
 
 -- a refusal at a place, if there is one
 abbrev pub refusedBy : ℕ → ℕ → Option ℕ → Result Unit
-refusedBy number i p = elim p [ none ↦ ok tt | some k ↦ refused (refusal number i k) ]
+refusedBy number i p = elim p [ none ↦ ok tt | some k ↦ refused (refusalOf number i k) ]

@@ -2,7 +2,7 @@
 use mathlib.Core.Path.{_≡_}
 use Prim.Native.Nat.{_<_}
 use Rattle.definition.specs.Prelude.{ℕ, _^_, Option, none, some, List}
-use Rattle.definition.specs.Basics.{Result, ok, refused, refusal}
+use Rattle.definition.specs.Basics.{Result, ok, refused, refusalOf}
 use Rattle.definition.specs.Ranges as Ranges
 use Rattle.definition.specs.Ranges.{staticWidth}
 use Rattle.numbers.specs.Value.{valueOf, optionOf}
@@ -53,16 +53,16 @@ usbrOf image t base r = record { start = usbOf image t base (r .start); «end» 
 
 abbrev pub usbResult : List ℕ → Tree → ℕ → UsbResult → Result Ranges.Usb
 usbResult image t base (U.Ok u) = ok (usbOf image t base u)
-usbResult image t base (U.Refused n) = refused (refusal n 0 0)
+usbResult image t base (U.Refused n) = refused (refusalOf n 0 0)
 
 abbrev pub rangeResult : List ℕ → Tree → ℕ → RangeResult → Result (Option Ranges.Usbr)
 rangeResult image t base (R.Ok r) = ok (some (usbrOf image t base r))
 rangeResult image t base R.NoRange = ok none
-rangeResult image t base (R.Refused n) = refused (refusal n 0 0)
+rangeResult image t base (R.Refused n) = refused (refusalOf n 0 0)
 
 abbrev pub simplifiedOf : List ℕ → Tree → ℕ → Simplified → Result Ranges.Usbr
 simplifiedOf image t base (S.Ok r x) = ok (usbrOf image t base r)
-simplifiedOf image t base (S.Refused n) = refused (refusal n 0 0)
+simplifiedOf image t base (S.Refused n) = refused (refusalOf n 0 0)
 
 -- ---- texts within the image, and halves of 64 bits
 

@@ -12,7 +12,7 @@ ghost use mathlib.Core.Path.{_≡_};
 ghost use mathlib.Core.List.{List};
 ghost use Prim.Native.Nat.{ℕ, _+_, _*_, _≤_, _<_};
 ghost use lib.ListN.{length};
-ghost use Rattle.definition.specs.Basics.{refused as refusedDef, refusal};
+ghost use Rattle.definition.specs.Basics.{refused as refusedDef, refusalOf};
 ghost use Rattle.definition.specs.Image.{bitsAt};
 ghost use Rattle.definition.specs.Text.{Item};
 ghost use Rattle.errors.specs.Refused.{resultOf};
@@ -69,7 +69,7 @@ pub(crate) fn kept(words: &mut [u64], k: usize, literal: usize, q: ReadResult)
 }
 
 pub(crate) fn refused(number: u32, i: u32, j: u32) -> Checked
-    ensures { λ q. ⌜ resultOf q ≡ refusedDef (refusal number i j) ⌝ }
+    ensures { λ q. ⌜ resultOf q ≡ refusedDef (refusalOf number i j) ⌝ }
 {
     Checked::Refused(Refusal {
         number,

@@ -21,7 +21,7 @@ ghost use mathlib.Core.Path.{_≡_};
 ghost use mathlib.Core.List.{List, _∷_};
 ghost use Prim.Native.Nat.{ℕ, _+_, _*_, _≤_, _<_};
 ghost use lib.ListN.{length, drop};
-ghost use Rattle.definition.specs.Basics.{refused, refusal};
+ghost use Rattle.definition.specs.Basics.{refused, refusalOf};
 ghost use Rattle.definition.specs.Image.{Placed};
 ghost use Rattle.definition.specs.Component.{Component};
 ghost use Rattle.definition.specs.Concatenation as Def;
@@ -35,7 +35,7 @@ ghost use Rattle.stages.specs.concatenation.Heads.{HeadsAre, AllChecked,
 ghost use Rattle.stages.specs.concatenation.Overall.{placeOf, overallOf, answerOf, turn, refusedBy, middleAt, isOpposite, oppositeAt, commonOf, onlyOf, middleOf, oppositeOf, checksOf};
 
 fn refused_at(number: u32, i: u32, k: u32) -> Checked
-    ensures { λ q. ⌜ resultOf q ≡ refused (refusal number i k) ⌝ }
+    ensures { λ q. ⌜ resultOf q ≡ refused (refusalOf number i k) ⌝ }
 {
     Checked::Refused(Refusal {
         number,

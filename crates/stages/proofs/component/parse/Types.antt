@@ -3,7 +3,7 @@ use mathlib.Core.Path.{_≡_, refl, sym, ap, subst, _∙_}
 use Prim.Native.Nat.{_≤_}
 use native.Mathlib.Omega.{arith}
 use Rattle.definition.specs.Prelude.{ℕ, zero, suc, _+_, _-_, Bool, true, false, none, some, List, [], _∷_, length, getD}
-use Rattle.definition.specs.Basics.{Result, ok, refused, refusal, _>>=_, isEmpty, tab}
+use Rattle.definition.specs.Basics.{Result, ok, refused, refusalOf, _>>=_, isEmpty, tab}
 use Rattle.definition.specs.Image.{bitsAt}
 use Rattle.definition.specs.Text.{Item}
 use Rattle.definition.specs.Ranges as Ranges
@@ -84,7 +84,7 @@ unfolding parseComponent
 parse-none [] bits l = absurd (omega (arith, l))
 parse-none (i ∷ mid) bits l = refl
 
-pub parse-empty : (range : _) (bits : List ℕ) → refused (refusal 11 0 0) ≡ parseComponent [] range bits
+pub parse-empty : (range : _) (bits : List ℕ) → refused (refusalOf 11 0 0) ≡ parseComponent [] range bits
 unfolding parseComponent
 parse-empty range bits = refl
 

@@ -3,7 +3,7 @@ use mathlib.Core.Path.{_≡_, refl, sym, ap, subst, _∙_}
 use mathlib.Core.Logic.{_⊎_, inl, inr}
 use native.Mathlib.Omega.{arith}
 use Rattle.definition.specs.Prelude.{ℕ, true, List}
-use Rattle.definition.specs.Basics.{Result, ok, refused, refusal, _>>=_}
+use Rattle.definition.specs.Basics.{Result, ok, refused, refusalOf, _>>=_}
 use Rattle.definition.specs.Component as Def
 use Rattle.definition.specs.Component.{simplify}
 use Rattle.errors.specs.Refused.{resultOf}
@@ -42,7 +42,7 @@ module _ (image : List ℕ) (t : Tree) (base at : ℕ) (q : ComponentResult) (m 
   pub parsed-held : (c : Component) → q ≡ R.Ok c → ComponentParsed image t base c
   parsed-held c e = let g : ComponentReads image t base at (R.Ok c) m = subst (λ x. ComponentReads image t base at x m) e h in g .held
 
-  pub first-refused : (n : ℕ) → q ≡ R.Refused n → m ≡ refused (refusal n 0 0)
+  pub first-refused : (n : ℕ) → q ≡ R.Refused n → m ≡ refused (refusalOf n 0 0)
   first-refused n e = sym (h .is) ∙ ap (componentResult image t base at) e
 
 -- both stages

@@ -3,7 +3,7 @@ use mathlib.Core.Path.{_≡_, refl, sym, ap, _∙_, subst}
 use Prim.Native.Nat.{_≤_}
 use native.Mathlib.Omega.{arith}
 use Rattle.definition.specs.Prelude.{ℕ, List}
-use Rattle.definition.specs.Basics.{Result, ok, refused, refusal, _>>=_}
+use Rattle.definition.specs.Basics.{Result, ok, refused, refusalOf, _>>=_}
 use Rattle.definition.specs.Image.{bitsAt}
 use Rattle.definition.specs.Ranges as D
 use Rattle.definition.specs.Component.{cutLiteral, simplifyLiteral, simplifyRange, simplify}
@@ -37,7 +37,7 @@ module _ (image : List ℕ) (t : Tree) (base : ℕ) where
     pub reads-measured : (r : Usbr) (x : OptionI128) → q ≡ S.Ok r x → Measured image t base r x
     reads-measured r x e = (subst (λ (q : Simplified). SimplifiedReads image t base q m) e h) .held
 
-    pub reads-refused : (n : ℕ) → q ≡ S.Refused n → m ≡ refused (refusal n 0 0)
+    pub reads-refused : (n : ℕ) → q ≡ S.Refused n → m ≡ refused (refusalOf n 0 0)
     reads-refused n e = sym (h .is) ∙ ap (simplifiedOf image t base) e
 
     -- ---- with a type

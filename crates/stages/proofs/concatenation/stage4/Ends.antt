@@ -3,7 +3,7 @@ use mathlib.Core.Bool.{or-true}
 use mathlib.Core.Path.{_≡_}
 use borrow.Author.Tests.{eq-eqb, ne-eqb}
 use Rattle.definition.specs.Refusals.{numberOf, no-common-width}
-use Rattle.definition.specs.Basics.{ok, Refusal, refused, refusal}
+use Rattle.definition.specs.Basics.{ok, Refusal, refused, refusalOf}
 use Rattle.definition.specs.Overall.{Overall, overallFrom, overallStart, stage4}
 use Rattle.definition.specs.Concatenation.{Concatenation}
 use Rattle.definition.specs.Prelude.{ℕ, Option, none, some, Bool, true, not, _&&_, List, leb, eqb}
@@ -13,7 +13,7 @@ use Rattle.stages.specs.concatenation.Overall.{commonOf, checksOf}
 pub common-known : (mode : ℕ) (p : Option ℕ) (w : ℕ) → p ≡ some w → ok tt ≡ commonOf mode p
 common-known mode p w e = rw (e, or-true (not (eqb mode 2)))
 
-pub common-lacking : (mode : ℕ) (p : Option ℕ) → p ≡ none → mode ≡ 2 → refused (refusal (numberOf no-common-width) 0 0) ≡ commonOf mode p
+pub common-lacking : (mode : ℕ) (p : Option ℕ) → p ≡ none → mode ≡ 2 → refused (refusalOf (numberOf no-common-width) 0 0) ≡ commonOf mode p
 common-lacking mode p e h = rw (e, eq-eqb mode 2 h)
 
 pub common-free : (mode : ℕ) (p : Option ℕ) → p ≡ none → (mode ≡ 2 → ⊥) → ok tt ≡ commonOf mode p

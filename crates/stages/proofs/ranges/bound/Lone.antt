@@ -5,7 +5,7 @@ use Prim.Native.Nat.{_≤_, _<_}
 use native.Mathlib.Omega.{arith}
 use borrow.Author.Tests.{eq-eqb, ne-eqb}
 use Rattle.definition.specs.Prelude.{ℕ, _+_, _-_, Bool, true, false, none, some, List, [], _∷_, length, eqb, pos}
-use Rattle.definition.specs.Basics.{ok, refused, refusal, if_then_else_}
+use Rattle.definition.specs.Basics.{ok, refused, refusalOf, if_then_else_}
 use Rattle.definition.specs.Numbers.{half128}
 use Rattle.definition.specs.Text as Text
 use Rattle.definition.specs.Text.{Item, isGroup, isToken, items}
@@ -32,7 +32,7 @@ use Rattle.stages.proofs.ranges.bound.AtSign.{read-none, read-some}
 
 -- ---- over a list
 
-usb-many : (i j : Item) (is : List Item) → parseUsb (i ∷ j ∷ is) ≡ refused (refusal 15 0 0)
+usb-many : (i j : Item) (is : List Item) → parseUsb (i ∷ j ∷ is) ≡ refused (refusalOf 15 0 0)
 unfolding parseUsb
 usb-many i j is = refl
 
@@ -40,7 +40,7 @@ usb-token : (i : Item) → isGroup i ≡ false → parseUsb (i ∷ []) ≡ readB
 unfolding parseUsb
 usb-token i h = rw (h, parseUsb)
 
-usb-other : (i : Item) → isGroup i ≡ true → (i .kind ≡ 2 → ⊥) → parseUsb (i ∷ []) ≡ refused (refusal 15 0 0)
+usb-other : (i : Item) → isGroup i ≡ true → (i .kind ≡ 2 → ⊥) → parseUsb (i ∷ []) ≡ refused (refusalOf 15 0 0)
 unfolding parseUsb
 usb-other i h k = rw (h, parseUsb, ne-eqb (i .kind) 2 k)
 
@@ -117,7 +117,7 @@ module _ (image : List ℕ) (t : Tree) (base stop tail r s : ℕ) where
   unfolding Laid
   text-ended h = h .1
 
-refused-as : (image : List ℕ) (t : Tree) (base : ℕ) (is : List Item) → parseUsb is ≡ refused (refusal 15 0 0) → UsbReads image t base (U.Refused 15) (parseUsb is)
+refused-as : (image : List ℕ) (t : Tree) (base : ℕ) (is : List Item) → parseUsb is ≡ refused (refusalOf 15 0 0) → UsbReads image t base (U.Refused 15) (parseUsb is)
 refused-as image t base is e = record { is = sym e; held = tt }
 
 module _ (image : List ℕ) (t : Tree) (base stop tail r s : ℕ) (is : List Item) (l : r < stop) (h : Laid image t base stop tail r s is) where

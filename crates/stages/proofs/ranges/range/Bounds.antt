@@ -3,7 +3,7 @@ use mathlib.Core.Path.{_≡_, refl, sym, ap, subst}
 use Prim.Native.Nat.{_≤_, _<_}
 use native.Mathlib.Omega.{arith}
 use Rattle.definition.specs.Prelude.{ℕ, _+_, Bool, true, false, Option, some, List, [], _∷_, length}
-use Rattle.definition.specs.Basics.{Result, ok, refused, refusal, _>>=_, if_then_else_}
+use Rattle.definition.specs.Basics.{Result, ok, refused, refusalOf, _>>=_, if_then_else_}
 use Rattle.definition.specs.Text.{Item}
 use Rattle.definition.specs.Ranges as Ranges
 use Rattle.definition.specs.Ranges.{parseUsb, parseStart}
@@ -29,7 +29,7 @@ module _ (image : List ℕ) (t : Tree) (base : ℕ) where
       → (m ≡ ok (usbOf image t base u)) × UsbFits image t base u
   reads-ok b u m e r = let k : UsbReads image t base (U.Ok u) m = subst (λ x. UsbReads image t base x m) e r in (sym (k .is), k .held)
 
-  pub reads-refused : (b : UsbResult) (n : ℕ) (m : Result Ranges.Usb) → b ≡ U.Refused n → UsbReads image t base b m → m ≡ refused (refusal n 0 0)
+  pub reads-refused : (b : UsbResult) (n : ℕ) (m : Result Ranges.Usb) → b ≡ U.Refused n → UsbReads image t base b m → m ≡ refused (refusalOf n 0 0)
   reads-refused b n m e r = let k : UsbReads image t base (U.Refused n) m = subst (λ x. UsbReads image t base x m) e r in sym (k .is)
 
   -- "`..=` adds 1 to x of the end if there is one"
@@ -51,7 +51,7 @@ module _ (image : List ℕ) (t : Tree) (base : ℕ) where
   pub refused-reads : (b : UsbResult) (n : ℕ) (m : Result Ranges.Usb) (i : Bool) → b ≡ U.Refused n → UsbReads image t base b m
       → UsbReads image t base b (raisedBy i m)
   refused-reads b n m i e r =
-      let g : UsbReads image t base (U.Refused n) (raisedBy i (refused (refusal n 0 0))) = record { is = refl; held = tt } in
+      let g : UsbReads image t base (U.Refused n) (raisedBy i (refused (refusalOf n 0 0))) = record { is = refl; held = tt } in
       rw (e, reads-refused b n m e r) g
 
   -- the range from a start to an end

@@ -5,7 +5,7 @@ use native.Mathlib.Omega.{arith}
 use lib.ListN.{take-append-drop, length-drop}
 use lib.Seq.{length-take-le}
 use Rattle.definition.specs.Prelude.{ℕ, _-_, Bool, true, false, List, [], _∷_, take, drop, length}
-use Rattle.definition.specs.Basics.{refused, refusal, _>>=_}
+use Rattle.definition.specs.Basics.{refused, refusalOf, _>>=_}
 use Rattle.definition.specs.Text.{Item}
 use Rattle.definition.specs.Ranges.{parseStart, parseRange}
 use Rattle.stages.specs.token_tree.Laid.{Laid, Runs, placeOf}
@@ -75,7 +75,7 @@ module _ (image : List ℕ) (t : Tree) (base stop tail : ℕ) where
       pub ranged-refused : (n : ℕ) → b ≡ U.Refused n → RangeReads image t base (R.Refused n) (rangedBy lo hi inc is)
       ranged-refused n e =
           let k = reads-refused image t base b n (parseStart (take lo is)) e (started base s (take lo is) (cut-before lo plo el below)) in
-          let g : RangeReads image t base (R.Refused n) (refused (refusal n 0 0)) = record { is = refl; held = tt } in
+          let g : RangeReads image t base (R.Refused n) (refused (refusalOf n 0 0)) = record { is = refl; held = tt } in
           subst (λ m. RangeReads image t base (R.Refused n) (m >>= λ x. endedRange inc x (drop hi is))) (sym k) g
 
     -- ---- the ways through parse_range

@@ -5,7 +5,7 @@ use native.Mathlib.Omega.{arith}
 use native.Mathlib.Nat.{zero-add, add-zero}
 use borrow.Author.Tests.{eqb-true}
 use Rattle.definition.specs.Prelude.{ℕ, suc, _+_, _-_, Bool, true, false, Option, none, some, List, [], _∷_, length, eqb}
-use Rattle.definition.specs.Basics.{Result, ok, refused, refusal, _>>=_, if_then_else_}
+use Rattle.definition.specs.Basics.{Result, ok, refused, refusalOf, _>>=_, if_then_else_}
 use Rattle.definition.specs.Text.{Item, isToken}
 use Rattle.definition.specs.Ranges.{Usbr, Scan, find, scanStep, scanFrom, scanDots, parseRange}
 use Rattle.laws.specs.Tests.{by-test}
@@ -26,7 +26,7 @@ Placed n (some f) = Between n f
 -- places found lie in the run, and refusals have the places 0 and 0
 abbrev Fine : ℕ → Result Scan → Type 0
 Fine n (ok st) = (st .dots ≤ n) × Placed n (st .found)
-Fine n (refused q) = (0 < q .number) × (q ≡ refusal (q .number) 0 0)
+Fine n (refused q) = (0 < q .number) × (q ≡ refusalOf (q .number) 0 0)
 
 placed-more : (n : ℕ) (o : Option (ℕ × ℕ)) → Placed n o → Placed (suc n) o
 placed-more n none h = tt
@@ -80,7 +80,7 @@ module _ (image : List ℕ) (t : Tree) (r : ℕ) (is : List Item) (d : Dots) whe
     pub result : parseRange is ≡ rangedBy (places .0) (places .1) (d .inclusive) is
 
   pub record RangeBy : Type 0 where
-    pub off : (d .number ≡ 0 → ⊥) → parseRange is ≡ refused (refusal (d .number) 0 0)
+    pub off : (d .number ≡ 0 → ⊥) → parseRange is ≡ refused (refusalOf (d .number) 0 0)
     pub nothing : d .number ≡ 0 → d .found ≡ false → parseRange is ≡ ok none
     pub cut : d .number ≡ 0 → d .found ≡ true → RangeCut
 
@@ -116,7 +116,7 @@ module _ (image : List ℕ) (t : Tree) (r : ℕ) (is : List Item) (d : Dots) whe
     by-scan (refused v) q f eq =
         let num : d .number ≡ v .number = ap (λ (x : Dots). x .number) eq in
         record {
-          off = λ z. scanned ∙ ap (λ x. x >>= ofScan is) q ∙ ap refused (f .1 ∙ ap (λ x. refusal x 0 0) (sym num));
+          off = λ z. scanned ∙ ap (λ x. x >>= ofScan is) q ∙ ap refused (f .1 ∙ ap (λ x. refusalOf x 0 0) (sym num));
           nothing = λ z y. absurd (let p = f .0 in omega (arith, num, z, p));
           cut = λ z y. absurd (let p = f .0 in omega (arith, num, z, p));
         }

@@ -7,7 +7,7 @@ use native.Mathlib.Omega.{arith}
 use lib.ListN.{length-append}
 use borrow.Author.Tests.{ne-eqb, eqb-true, eqb-false}
 use Rattle.definition.specs.Prelude.{ℕ, suc, _+_, _-_, Bool, true, false, Option, none, some, List, [], _∷_, _++_, length, eqb}
-use Rattle.definition.specs.Basics.{Result, ok, refused, refusal, _>>=_, if_then_else_}
+use Rattle.definition.specs.Basics.{Result, ok, refused, refusalOf, _>>=_, if_then_else_}
 use Rattle.definition.specs.Text.{Item, isToken}
 use Rattle.definition.specs.Ranges.{Scan, find, scanStep, scanFrom, scanDots}
 use Rattle.laws.specs.Tests.{by-test}
@@ -34,7 +34,7 @@ module _ (image : List ℕ) (t : Tree) (e : ℕ) where
 
   dotted-is : (n d : ℕ) (o : Option (ℕ × ℕ)) (i : Bool)
       → dottedBy (dotsOf image t e n (stateOf d o i)) (placeOf image t e n)
-      ≡ dotsResult image t e (suc n) (if eqb d 2 then refused (refusal 14 0 0) else ok (stateOf (suc d) o i))
+      ≡ dotsResult image t e (suc n) (if eqb d 2 then refused (refusalOf 14 0 0) else ok (stateOf (suc d) o i))
   dotted-is n d o i =
       let s : suc n - suc d ≡ n - d = omega arith in
       by-test (eqb d 2) (λ q. rw q refl)
@@ -85,7 +85,7 @@ Numbered (refused q) = 0 < q .number
 find-numbered : (st : Scan) (lo hi : ℕ) (b : Bool) → Numbered (find st lo hi b)
 find-numbered st lo hi b = go (st .found)
   where
-    go : (o : Option (ℕ × ℕ)) → Numbered (elim o [ none ↦ ok (stateOf 0 (some (lo, hi)) b) | some f ↦ refused (refusal 13 0 0) ])
+    go : (o : Option (ℕ × ℕ)) → Numbered (elim o [ none ↦ ok (stateOf 0 (some (lo, hi)) b) | some f ↦ refused (refusalOf 13 0 0) ])
     go none = omega arith
     go (some f) = omega arith
 

@@ -5,7 +5,7 @@ use native.Mathlib.Omega.{arith}
 use Prim.Native.Nat.{_≤_, _<_}
 use borrow.Author.Tests.{eqb-true, lt-ltb, le-leb, lt-leb, eq-eqb, ne-eqb}
 use Rattle.definition.specs.Prelude.{ℕ, zero, suc, _^_, Option, none, some, List, eqb, ℤ, pos, negsuc, natAbs, ltZ, nonNeg}
-use Rattle.definition.specs.Basics.{Result, ok, refused, refusal, _>>=_, if_then_else_}
+use Rattle.definition.specs.Basics.{Result, ok, refused, refusalOf, _>>=_, if_then_else_}
 use Rattle.definition.specs.Refusals.{need, negative-bound, reversed, zero-width}
 use Rattle.definition.specs.Ranges as D
 use Rattle.definition.specs.Ranges.{staticVal, staticWidth}
@@ -65,7 +65,7 @@ gate v a b c d = need (a && b) negative-bound >>= λ _. (need c reversed >>= λ 
 abbrev widthNumber : Bool → Bool → ℕ
 widthNumber c d = if c then (if d then 0 else 23) else 22
 
-refused-gate : (v : D.Usbr) (c d : Bool) → eqb (widthNumber c d) 0 ≡ false → refused (refusal (widthNumber c d) 0 0) ≡ gate v true true c d
+refused-gate : (v : D.Usbr) (c d : Bool) → eqb (widthNumber c d) 0 ≡ false → refused (refusalOf (widthNumber c d) 0 0) ≡ gate v true true c d
 refused-gate v true true h = let z : _≡_ {A = ℕ} 0 1 = cc in absurd (omega arith)
 refused-gate v true false h = refl
 refused-gate v false d h = refl
@@ -118,7 +118,7 @@ module _ (image : List ℕ) (t : Tree) (base : ℕ) (r : Usbr) (f : UsbrFits ima
           let c = passes nonNeg (staticWidth v) in
           let z = passes (ltZ (pos 0)) (staticWidth v) in
           record {
-            is = ap (λ (n : ℕ). refused (refusal n 0 0)) number
+            is = ap (λ (n : ℕ). refused (refusalOf n 0 0)) number
                 ∙ refused-gate v c z (subst (λ (n : ℕ). eqb n 0 ≡ false) number (ne-eqb n 0 h)) ∙ sym (ends true p);
             held = tt;
           }

@@ -12,7 +12,7 @@ ghost use mathlib.Core.Path.{_≡_};
 ghost use mathlib.Core.Bool.{not};
 ghost use mathlib.Core.Option.{some};
 ghost use lib.Dec.{eqb};
-ghost use Rattle.definition.specs.Basics.{withPlaces, refused as refusedDef, refusal};
+ghost use Rattle.definition.specs.Basics.{withPlaces, refused as refusedDef, refusalOf};
 ghost use Rattle.errors.specs.Refused.{resultOf};
 ghost use Rattle.numbers.specs.Value.{valueOf, optionOf};
 ghost use Rattle.stages.specs.concatenation.running_check.Running.{runningOf, steppedOf, finishOf, addAs, checkLiteral, withFull, checkOpen, checkAs, stepAs, settledOf, advancedAs};
@@ -39,7 +39,7 @@ pub enum Stepped {
 }
 
 fn refused(number: u32, i: u32, k: u32) -> Stepped
-    ensures { λ q. ⌜ steppedOf q ≡ refusedDef (refusal number i k) ⌝ }
+    ensures { λ q. ⌜ steppedOf q ≡ refusedDef (refusalOf number i k) ⌝ }
 {
     Stepped::Refused(Refusal {
         number,
