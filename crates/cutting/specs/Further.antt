@@ -5,6 +5,7 @@ use Rattle.definition.specs.Basics.{ascii}
 use Rattle.definition.specs.Image.{kinds}
 use Rattle.definition.specs.Tree.{end, word, group}
 use Rattle.definition.specs.Readings.{tokens, parenthesised}
+use Rattle.definition.specs.Run.{under}
 use Rattle.cutting.specs.Statement.{Given, Premises, _⊕_}
 use Rattle.cutting.specs.Witnesses.{found, claimed, meets, exampleIn, example, byte, plain, sink, opened}
 
@@ -24,14 +25,14 @@ between =
 -- mode 1, `zero:165u8, ..`: a filler in the source, with a starting value
 unfoldable pub returned : Given
 returned =
-    exampleIn 1 [] (plain (tokens ("." ∷ "." ∷ [])) ∷ []) (byte (tokens ("zero" ∷ ":" ∷ "165u8" ∷ []))) []
+    exampleIn (under 1) [] (plain (tokens ("." ∷ "." ∷ [])) ∷ []) (byte (tokens ("zero" ∷ ":" ∷ "165u8" ∷ []))) []
     ((plain (word (ascii "b") (group (kinds .bracket) (tokens ("." ∷ "." ∷ "64" ∷ [])) end)) ∷ []) ∷ []) 0 8 4 []
     (tokens ("." ∷ "." ∷ "4" ∷ []) ∷ tokens ("4" ∷ "." ∷ "." ∷ []) ∷ [])
 
 -- mode 2: the worked example's width is known
 unfoldable pub static : Given
 static =
-    exampleIn 2 [] [] (byte (tokens ("165u8" ∷ []))) [] (sink ∷ []) 0 8 4 []
+    exampleIn (under 2) [] [] (byte (tokens ("165u8" ∷ []))) [] (sink ∷ []) 0 8 4 []
     (tokens ("." ∷ "." ∷ "4" ∷ []) ∷ tokens ("4" ∷ "." ∷ "." ∷ []) ∷ [])
 
 pub three-right : found three ≡ claimed three

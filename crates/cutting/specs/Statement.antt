@@ -15,7 +15,7 @@ use Rattle.definition.specs.Ranges.{Usb, Usbr, parseRange, singleBit, staticVal
 use Rattle.definition.specs.Component.{Component, literal, variable, filler, stage1Component, stage1, stage2, simplifyUsb, theEnd}
 use Rattle.definition.specs.Concatenation.{isStaticLiteral, merge}
 use Rattle.definition.specs.Answer.{Read, Field, readAnswer}
-use Rattle.definition.specs.Run.{run, areaAfter}
+use Rattle.definition.specs.Run.{Choices, run, areaAfter}
 
 -- ── The parts of a component ──
 
@@ -177,8 +177,8 @@ bitIn r p =
 
 -- all that is given
 pub record Given : Type 0 where
-  -- an image, mode and area on which the run accepts
-  pub mode : ℕ
+  -- an image, choices (the mode) and an area on which the run accepts
+  pub how : Choices
   pub area : List ℕ
   pub answer : List ℕ
   -- its tree, with the literal in its place: the concatenations below and above, and the components below and above in its own
@@ -215,7 +215,7 @@ newImage g = imageOf (newTree g)
 
 pub record Premises (g : Given) : Type 0 where
   pub a-tree : fits (treeWith g (g .node ∷ [])) ≡ true
-  pub accepted : run (image g) (g .mode) (length (g .area)) ≡ ok (g .answer)
+  pub accepted : run (image g) (g .how) (length (g .area)) ≡ ok (g .answer)
   pub bounds : fixedLiteral (scanned g) (g .node) ≡ some (g .a, g .b)
   pub rises : rising (g .a) (g .place ∷ g .places) (g .b) ≡ true
   pub brackets-read : map (readsAs (length (g .node .bits))) (g .brackets) ≡ map some (piecesOf (g .a) (g .place ∷ g .places) (g .b))
@@ -242,7 +242,7 @@ pub record BitKept (g : Given) (new-answer : List ℕ) (i : ℕ) : Type 0 where
 
 pub record Same (g : Given) : Type 0 where
   pub new-answer : List ℕ
-  pub new-accepted : run (newImage g) (g .mode) (length (g .new-area)) ≡ ok new-answer
+  pub new-accepted : run (newImage g) (g .how) (length (g .new-area)) ≡ ok new-answer
   pub fields-equal : readNew g new-answer ≡ readOld g
   pub bits-kept : (i : ℕ) → g .a ≤ i → i < g .b → BitKept g new-answer i
 

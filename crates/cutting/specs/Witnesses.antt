@@ -10,16 +10,16 @@ use Rattle.definition.specs.Image.{kinds}
 use Rattle.definition.specs.Tree.{Forest, end, word, group, Node, Tree, imageOf, fits, literalsOf}
 use Rattle.definition.specs.Readings.{tokens, parenthesised}
 use Rattle.definition.specs.Answer.{Read}
-use Rattle.definition.specs.Run.{run}
+use Rattle.definition.specs.Run.{Choices, under, run}
 use Rattle.definition.specs.Compute.{computed}
 use Rattle.cutting.specs.Statement.{Given, Premises, BitPlace, _⊕_, unranged, atColon, rising, piecesOf, pieces, runEnd, pieceAt, treeWith, newTree, scanned, fixedLiteral, readsAs, image, newImage, readOld, readNew, placeOf, componentsOf, bitIn}
 
 -- the answer of a run that accepts
-abbrev pub answerOf : List ℕ → ℕ → ℕ → List ℕ
-answerOf im mode area = elim (run im mode area) [ ok s ↦ s | refused q ↦ [] ]
+abbrev pub answerOf : List ℕ → Choices → ℕ → List ℕ
+answerOf im how area = elim (run im how area) [ ok s ↦ s | refused q ↦ [] ]
 
 abbrev pub newAnswer : Given → List ℕ
-newAnswer g = answerOf (newImage g) (g .mode) (length (g .new-area))
+newAnswer g = answerOf (newImage g) (g .how) (length (g .new-area))
 
 -- where the bits a to b lie in the old and in the new answer, and what the answers hold there
 abbrev pub oldPlaces : Given → List BitPlace
@@ -53,13 +53,13 @@ abbrev pub found : Given → Facts
 found g =
     record {
       fits-old = fits (treeWith g (g .node ∷ []));
-      accepted = run (image g) (g .mode) (length (g .area));
+      accepted = run (image g) (g .how) (length (g .area));
       bounds = fixedLiteral (scanned g) (g .node);
       rises = rising (g .a) (g .place ∷ g .places) (g .b);
       brackets-read = map (readsAs (length (g .node .bits))) (g .brackets);
       fits-new = fits (newTree g);
       room = leb (room g) (length (g .new-area));
-      new-accepted = run (newImage g) (g .mode) (length (g .new-area));
+      new-accepted = run (newImage g) (g .how) (length (g .new-area));
       fields = readNew g (newAnswer g);
       places = newPlaces g;
       old-bits = map (bitIn (readOld g)) (oldPlaces g);
@@ -97,12 +97,12 @@ meets g h =
     }
 
 -- a literal in its place, its bounds, places and brackets, under a mode, with areas that hold other bytes
-abbrev pub exampleIn : ℕ → Tree → List Node → Node → List Node → Tree → ℕ → ℕ → ℕ → List ℕ → List Forest → Given
-exampleIn mode cb below node above ca a b place places brackets =
+abbrev pub exampleIn : Choices → Tree → List Node → Node → List Node → Tree → ℕ → ℕ → ℕ → List ℕ → List Forest → Given
+exampleIn how cb below node above ca a b place places brackets =
     record {
-      mode = mode;
+      how = how;
       area = replicate 500 7;
-      answer = answerOf (imageOf (cb ++ (below ++ (node ∷ []) ++ above) ∷ ca)) mode 500;
+      answer = answerOf (imageOf (cb ++ (below ++ (node ∷ []) ++ above) ∷ ca)) how 500;
       concatenations-below = cb;
       below = below;
       node = node;
@@ -117,7 +117,7 @@ exampleIn mode cb below node above ca a b place places brackets =
     }
 
 abbrev pub example : Tree → List Node → Node → List Node → Tree → ℕ → ℕ → ℕ → List ℕ → List Forest → Given
-example = exampleIn 0
+example = exampleIn (under 0)
 
 -- 165, as document 01's worked literal: bits 10100101
 abbrev pub byte : Forest → Node

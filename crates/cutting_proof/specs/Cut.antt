@@ -9,7 +9,7 @@ use Rattle.definition.specs.Image.{Unparsed, Placed, counts, treeOf}
 use Rattle.definition.specs.Tree.{Node, Tree, imageOf, fits, literalsOf, soundNode}
 use Rattle.definition.specs.Component.{Component, Parsed, stage1, stage2}
 use Rattle.definition.specs.Answer.{Answer, answerBytes, readAnswer, Read}
-use Rattle.definition.specs.Run.{run, stages, areaAfter}
+use Rattle.definition.specs.Run.{Choices, run, stages, areaAfter}
 use Rattle.laws.specs.Results.{bind-ok}
 use Rattle.laws.specs.Tests.{leb-iff, and-iff}
 use Rattle.laws.specs.Lists.{all-append, all-joined}
@@ -39,31 +39,31 @@ node-passes p cb l n h ca t =
 -- the stages of trees with a literal and with its pieces
 module _ (in-turn : InTurn) (cut-early : CutEarly) (cut-later : CutLater) where
   -- the stages of a tree's image, without the text starts
-  record Staged (t : Tree) (mode : ℕ) (a : Answer) : Type 0 where
+  record Staged (t : Tree) (how : Choices) (a : Answer) : Type 0 where
     parsed : Parsed
     bare-early : early (bareTree t) ≡ ok parsed
-    bare-later : later mode parsed ≡ ok (eraseAnswer a)
+    bare-later : later how parsed ≡ ok (eraseAnswer a)
 
-  staged : (t : Tree) (mode : ℕ) (a : Answer) → stages mode (placedTree t) ≡ ok a → Staged t mode a
-  staged t mode a h =
-      let all-bare : (early (bareTree t) >>= later mode) ≡ ok (eraseAnswer a) =
-      sym (in-turn mode (bareTree t)) ∙ ap (stages mode) (sym (erase-placed t)) ∙ erase-stages mode (placedTree t) ∙ ap (onOk eraseAnswer) h in
-      let inv = bind-ok (early (bareTree t)) (later mode) all-bare in
+  staged : (t : Tree) (how : Choices) (a : Answer) → stages how (placedTree t) ≡ ok a → Staged t how a
+  staged t how a h =
+      let all-bare : (early (bareTree t) >>= later how) ≡ ok (eraseAnswer a) =
+      sym (in-turn how (bareTree t)) ∙ ap (stages how) (sym (erase-placed t)) ∙ erase-stages how (placedTree t) ∙ ap (onOk eraseAnswer) h in
+      let inv = bind-ok (early (bareTree t)) (later how) all-bare in
       record { parsed = inv .0; bare-early = inv .1; bare-later = inv .2 }
 
-  unstaged : (t : Tree) (mode : ℕ) (p : Parsed) (a : Answer) → early (bareTree t) ≡ ok p → later mode p ≡ ok a
-      → (b : Answer) × (stages mode (placedTree t) ≡ ok b) × (eraseAnswer b ≡ a)
-  unstaged t mode p a e l =
-      on-ok eraseAnswer (stages mode (placedTree t)) a
-      (sym (erase-stages mode (placedTree t)) ∙ ap (stages mode) (erase-placed t) ∙ in-turn mode (bareTree t) ∙ rw (e, l))
+  unstaged : (t : Tree) (how : Choices) (p : Parsed) (a : Answer) → early (bareTree t) ≡ ok p → later how p ≡ ok a
+      → (b : Answer) × (stages how (placedTree t) ≡ ok b) × (eraseAnswer b ≡ a)
+  unstaged t how p a e l =
+      on-ok eraseAnswer (stages how (placedTree t)) a
+      (sym (erase-stages how (placedTree t)) ∙ ap (stages how) (erase-placed t) ∙ in-turn how (bareTree t) ∙ rw (e, l))
 
   -- a tree that fits is accepted where its stages are
-  run-of : (t : Tree) → fits t ≡ true → (mode area : ℕ) (b : Answer) → leb mode 2 ≡ true → stages mode (placedTree t) ≡ ok b
+  run-of : (t : Tree) → fits t ≡ true → (how : Choices) (area : ℕ) (b : Answer) → leb (how .mode) 2 ≡ true → stages how (placedTree t) ≡ ok b
       → areaNeeded (length t) (length (joined t)) (length (literalsOf (joined t))) ≤ area
-      → run (imageOf t) mode area ≡ ok (answerBytes b)
-  run-of t f mode area b m s room =
+      → run (imageOf t) how area ≡ ok (answerBytes b)
+  run-of t f how area b m s room =
       let r : ReadsBack t = read-back t f in
-      accepts-run (imageOf t) mode area (answerBytes b)
+      accepts-run (imageOf t) how area (answerBytes b)
       (record {
         mode-right = m;
         checked = passes-check t f;
@@ -89,14 +89,14 @@ module _ (in-turn : InTurn) (cut-early : CutEarly) (cut-later : CutLater) where
     abbrev old : Tree
     old = treeWith g (g .node ∷ [])
 
-    accepts : Accepts (image g) (g .mode) (length (g .area)) (g .answer)
-    accepts = run-accepts (image g) (g .mode) (length (g .area)) (g .answer) (pr .accepted)
+    accepts : Accepts (image g) (g .how) (length (g .area)) (g .answer)
+    accepts = run-accepts (image g) (g .how) (length (g .area)) (g .answer) (pr .accepted)
 
-    old-placed : stages (g .mode) (placedTree old) ≡ ok (accepts .said)
-    old-placed = sym (ap (stages (g .mode)) ((read-back old (pr .a-tree)) .tree)) ∙ accepts .staged
+    old-placed : stages (g .how) (placedTree old) ≡ ok (accepts .said)
+    old-placed = sym (ap (stages (g .how)) ((read-back old (pr .a-tree)) .tree)) ∙ accepts .staged
 
-    old-stages : Staged old (g .mode) (accepts .said)
-    old-stages = staged old (g .mode) (accepts .said) old-placed
+    old-stages : Staged old (g .how) (accepts .said)
+    old-stages = staged old (g .how) (accepts .said) old-placed
 
     sound : Sound (g .node)
     sound = sound-parts (g .node) (node-passes soundNode (g .concatenations-below) (g .below) (g .node) (g .above) (g .concatenations-above) ((fits-parts old (pr .a-tree)) .sound))
@@ -117,35 +117,35 @@ module _ (in-turn : InTurn) (cut-early : CutEarly) (cut-later : CutLater) where
     newComponents = cut .concatenations-below ++ (cut .below ++ pieceComponents (g .node .bits) (g .a) places (g .b) ++ cut .above) ∷ cut .concatenations-above
 
     -- the new tree's stages give the same answer, but for text starts
-    new-later : later (g .mode) (record { init = old-stages .parsed .init; cc = newComponents }) ≡ ok (eraseAnswer (accepts .said))
+    new-later : later (g .how) (record { init = old-stages .parsed .init; cc = newComponents }) ≡ ok (eraseAnswer (accepts .said))
     new-later =
-        cut-later (g .mode) (old-stages .parsed .init) (cut .concatenations-below) (cut .below) (cut .above) (cut .concatenations-above)
+        cut-later (g .how) (old-stages .parsed .init) (cut .concatenations-below) (cut .below) (cut .above) (cut .concatenations-above)
         (g .node .bits) (g .a) places (g .b) (pr .rises) (cut .within-width) (sound .width) (eraseAnswer (accepts .said))
-        (sym (ap (λ cc. later (g .mode) (record { init = old-stages .parsed .init; cc = cc })) (cut .old)) ∙ old-stages .bare-later)
+        (sym (ap (λ cc. later (g .how) (record { init = old-stages .parsed .init; cc = cc })) (cut .old)) ∙ old-stages .bare-later)
 
-    new : (b : Answer) × (stages (g .mode) (placedTree (newTree g)) ≡ ok b) × (eraseAnswer b ≡ eraseAnswer (accepts .said))
-    new = unstaged (newTree g) (g .mode) (record { init = old-stages .parsed .init; cc = newComponents }) (eraseAnswer (accepts .said)) (cut .new) new-later
+    new : (b : Answer) × (stages (g .how) (placedTree (newTree g)) ≡ ok b) × (eraseAnswer b ≡ eraseAnswer (accepts .said))
+    new = unstaged (newTree g) (g .how) (record { init = old-stages .parsed .init; cc = newComponents }) (eraseAnswer (accepts .said)) (cut .new) new-later
 
     abbrev newAnswer : List ℕ
     newAnswer = answerBytes (new .0)
 
-    new-run : run (newImage g) (g .mode) (length (g .new-area)) ≡ ok newAnswer
-    new-run = run-of (newTree g) (pr .within-limits) (g .mode) (length (g .new-area)) (new .0) (accepts .mode-right) (new .1) (pr .long-enough)
+    new-run : run (newImage g) (g .how) (length (g .new-area)) ≡ ok newAnswer
+    new-run = run-of (newTree g) (pr .within-limits) (g .how) (length (g .new-area)) (new .0) (accepts .mode-right) (new .1) (pr .long-enough)
 
     old-read : readOld g ≡ shown (eraseAnswer (accepts .said))
     old-read =
         ap (λ s. readAnswer (image g) (s ++ drop (length s) (g .area))) (sym (accepts .bytes))
-        ∙ reads-answer old (pr .a-tree) (g .mode) (accepts .said) old-placed _
+        ∙ reads-answer old (pr .a-tree) (g .how) (accepts .said) old-placed _
 
     new-read : readNew g newAnswer ≡ shown (eraseAnswer (accepts .said))
-    new-read = reads-answer (newTree g) (pr .within-limits) (g .mode) (new .0) (new .1) _ ∙ ap shown (new .2)
+    new-read = reads-answer (newTree g) (pr .within-limits) (g .how) (new .0) (new .1) _ ∙ ap shown (new .2)
 
     bit-kept : (i : ℕ) → g .a ≤ i → i < g .b → BitKept g newAnswer i
     bit-kept i lo hi =
         let here = placeOf oldComponents (length (cut .concatenations-below)) (length (cut .below)) (i - g .a) in
         let value : bitIn (shown (eraseAnswer (accepts .said))) here ≡ some (getD (g .node .bits) i 0) =
         ap (λ cc. bitIn (shown (eraseAnswer (accepts .said))) (placeOf cc (length (cut .concatenations-below)) (length (cut .below)) (i - g .a))) (sym (cut .old))
-        ∙ holds-bit old (pr .a-tree) (old-stages .parsed) (old-stages .bare-early) (g .mode) (eraseAnswer (accepts .said)) (old-stages .bare-later)
+        ∙ holds-bit old (pr .a-tree) (old-stages .parsed) (old-stages .bare-early) (g .how) (eraseAnswer (accepts .said)) (old-stages .bare-later)
         (cut .concatenations-below) (cut .below) (cut .above) (cut .concatenations-above) (g .node .bits) (g .a) (g .b)
         (omega arith) (cut .within-width) (sound .bits) (cut .old) i lo hi in
         record {

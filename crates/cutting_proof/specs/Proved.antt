@@ -3,7 +3,7 @@ use mathlib.Core.Path.{_≡_}
 use Rattle.definition.specs.Prelude.{ℕ, true, List}
 use Rattle.definition.specs.Basics.{ok}
 use Rattle.definition.specs.Tree.{Tree, imageOf, fits}
-use Rattle.definition.specs.Run.{run}
+use Rattle.definition.specs.Run.{Choices, run}
 use Rattle.prepared.specs.Statement.{Bytes}
 use Rattle.prepared.specs.back.Every.{every-image}
 use Rattle.cutting.specs.Statement.{Cutting}
@@ -18,6 +18,6 @@ pub cutting : Cutting
 cutting = Cut.cutting in-turn (cut-early-from literal-reads piece-reads prefix-kept) cut-later
 
 -- "every image": what the run accepts is the image of a tree that fits, so the claim speaks of all of them
-pub every-accepted : (image : List ℕ) → Bytes image → (mode area : ℕ) (answer : List ℕ) → run image mode area ≡ ok answer
+pub every-accepted : (image : List ℕ) → Bytes image → (how : Choices) (area : ℕ) (answer : List ℕ) → run image how area ≡ ok answer
     → (t : Tree) × (fits t ≡ true) × (image ≡ imageOf t)
-every-accepted image b mode area answer h = every-image image b ((run-accepts image mode area answer h) .checked)
+every-accepted image b how area answer h = every-image image b ((run-accepts image how area answer h) .checked)

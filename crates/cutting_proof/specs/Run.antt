@@ -8,7 +8,7 @@ use Rattle.definition.specs.Basics.{Result, ok, refused, _>>=_, joined}
 use Rattle.definition.specs.Limits.{areaNeeded}
 use Rattle.definition.specs.Tree.{Tree, imageOf, fits, literalsOf}
 use Rattle.definition.specs.Answer.{readAnswer}
-use Rattle.definition.specs.Run.{run, areaAfter, ranOn}
+use Rattle.definition.specs.Run.{Choices, run, areaAfter, ranOn}
 use Rattle.prepared.specs.Statement.{Bytes}
 use Rattle.errors.specs.Refused.{outcomeOf}
 use Rattle.errors.specs.declared.Outcome.{Outcome}
@@ -18,8 +18,8 @@ use Rattle.cutting.specs.Witnesses.{two, met}
 use Rattle.cutting_proof.specs.Proved.{cutting, every-accepted}
 
 -- what `run` promises of one call: its outcome, and the area at entry and at exit
-abbrev pub Ran : List ℕ → ℕ → List ℕ → Outcome → List ℕ → Type 0
-Ran im mode before o after = (outcomeOf o, after) ≡ ranOn im mode before
+abbrev pub Ran : List ℕ → Choices → List ℕ → Outcome → List ℕ → Type 0
+Ran im how before o after = (outcomeOf o, after) ≡ ranOn im how before
 
 pub record BitSame (g : Given) (after new-after : List ℕ) (i : ℕ) : Type 0 where
   pub at : BitPlace
@@ -38,8 +38,8 @@ pub record SameRun (g : Given) (after : List ℕ) (o : Outcome) (new-after : Lis
   pub bits-kept : (i : ℕ) → g .a ≤ i → i < g .b → BitSame g after new-after i
 
 -- any two calls of the run, the first on the image, the second on the cut one
-pub cut-run : (g : Given) → Premises g → (o o′ : Outcome) (after after′ : List ℕ) → Ran (image g) (g .mode) (g .area) o after
-    → Ran (newImage g) (g .mode) (g .new-area) o′ after′ → SameRun g after o′ after′
+pub cut-run : (g : Given) → Premises g → (o o′ : Outcome) (after after′ : List ℕ) → Ran (image g) (g .how) (g .area) o after
+    → Ran (newImage g) (g .how) (g .new-area) o′ after′ → SameRun g after o′ after′
 cut-run g pr o o′ after after′ e e′ =
     let s = cutting g pr in
     let left : after ≡ areaAfter (g .area) (ok (g .answer)) = ap (λ (p : Result ℕ × List ℕ). p .1) e ∙ ap (areaAfter (g .area)) (pr .accepted) in
@@ -63,21 +63,21 @@ cut-run g pr o o′ after after′ e e′ =
     }
 
 -- "every accepted image": what a call accepts is the image of a tree that fits, and the definition accepts it
-pub accepted-tree : (im : List ℕ) → Bytes im → (mode n : ℕ) (before after : List ℕ) → Ran im mode before (Accepted n) after
+pub accepted-tree : (im : List ℕ) → Bytes im → (how : Choices) (n : ℕ) (before after : List ℕ) → Ran im how before (Accepted n) after
     → (t : Tree) × (fits t ≡ true) × (im ≡ imageOf t)
-accepted-tree im b mode n before after e = go (run im mode (length before)) refl (ap (λ (p : Result ℕ × List ℕ). p .0) e)
+accepted-tree im b how n before after e = go (run im how (length before)) refl (ap (λ (p : Result ℕ × List ℕ). p .0) e)
   where
-    go : (r : Result (List ℕ)) → run im mode (length before) ≡ r → ok n ≡ (r >>= λ bytes. ok (length bytes))
+    go : (r : Result (List ℕ)) → run im how (length before) ≡ r → ok n ≡ (r >>= λ bytes. ok (length bytes))
         → (t : Tree) × (fits t ≡ true) × (im ≡ imageOf t)
-    go (ok bytes) q h = every-accepted im b mode (length before) bytes q
+    go (ok bytes) q h = every-accepted im b how (length before) bytes q
     go (refused e) q h = let z : _≡_ {A = ℕ} 0 1 = cc in absurd (omega arith)
 
 -- ── Witnesses: calls that meet the premises ──
 
 -- a call on which the definition's run accepts
-ran-accepted : (im : List ℕ) (mode : ℕ) (before bytes : List ℕ) → run im mode (length before) ≡ ok bytes
-    → Ran im mode before (Accepted (length bytes)) (areaAfter before (ok bytes))
-ran-accepted im mode before bytes q = rw q refl
+ran-accepted : (im : List ℕ) (how : Choices) (before bytes : List ℕ) → run im how (length before) ≡ ok bytes
+    → Ran im how before (Accepted (length bytes)) (areaAfter before (ok bytes))
+ran-accepted im how before bytes q = rw q refl
 
 -- what is claimed of the two calls, where both accept
 abbrev BothAccepted : (g : Given) → Premises g → Type 0
@@ -89,8 +89,8 @@ both-accepted : (g : Given) (pr : Premises g) → BothAccepted g pr
 both-accepted g pr =
     let s = cutting g pr in
     cut-run g pr (Accepted (length (g .answer))) (Accepted (length (s .new-answer))) _ _
-    (ran-accepted (image g) (g .mode) (g .area) (g .answer) (pr .accepted))
-    (ran-accepted (newImage g) (g .mode) (g .new-area) (s .new-answer) (s .new-accepted))
+    (ran-accepted (image g) (g .how) (g .area) (g .answer) (pr .accepted))
+    (ran-accepted (newImage g) (g .how) (g .new-area) (s .new-answer) (s .new-accepted))
 
 -- of the worked literal in two pieces
 cut-in-two : BothAccepted two (met .0)

@@ -6,7 +6,7 @@ use Rattle.definition.specs.Basics.{ascii, ok, refused, refusalOf}
 use Rattle.definition.specs.Image.{kinds}
 use Rattle.definition.specs.Tree.{Tree, Node, Forest, end, word, group, imageOf}
 use Rattle.definition.specs.Readings.{tokens}
-use Rattle.definition.specs.Run.{run}
+use Rattle.definition.specs.Run.{under, run}
 use Rattle.definition.specs.Compute.{computed}
 
 -- a component without a literal, and one of some bits
@@ -120,7 +120,7 @@ startedArea =
     14 ∷ 5 ∷ []
 
 -- in the least area, and refused in one byte less
-pub started-answered : run (imageOf started) 0 579 ∷ run (imageOf started) 0 578 ∷ [] ≡ ok startedArea ∷ refused (refusalOf 8 0 0) ∷ []
+pub started-answered : run (imageOf started) (under 0) 579 ∷ run (imageOf started) (under 0) 578 ∷ [] ≡ ok startedArea ∷ refused (refusalOf 8 0 0) ∷ []
 unfolding computed started startedArea tokens
 started-answered = refl
 
@@ -184,7 +184,7 @@ wideArea =
     0 ∷ 0 ∷ 0 ∷ 0 ∷ 0 ∷ 0 ∷ 0 ∷ 0 ∷ 0 ∷ 0 ∷ 0 ∷ 0 ∷ 0 ∷ 0 ∷ 0 ∷ 0 ∷ []
 
 -- in the least area, and refused in one byte less
-pub wide-answered : run (imageOf wide) 2 288 ∷ run (imageOf wide) 2 287 ∷ [] ≡ ok wideArea ∷ refused (refusalOf 8 0 0) ∷ []
+pub wide-answered : run (imageOf wide) (under 2) 288 ∷ run (imageOf wide) (under 2) 287 ∷ [] ≡ ok wideArea ∷ refused (refusalOf 8 0 0) ∷ []
 unfolding computed wide wideArea tokens
 wide-answered = refl
 
@@ -246,6 +246,6 @@ joinedBitsArea =
     255 ∷ 1 ∷ 246 ∷ 15 ∷ []
 
 -- in the least area, and refused in one byte less
-pub joined-bits-answered : run (imageOf joinedBits) 1 344 ∷ run (imageOf joinedBits) 1 343 ∷ [] ≡ ok joinedBitsArea ∷ refused (refusalOf 8 0 0) ∷ []
+pub joined-bits-answered : run (imageOf joinedBits) (under 1) 344 ∷ run (imageOf joinedBits) (under 1) 343 ∷ [] ≡ ok joinedBitsArea ∷ refused (refusalOf 8 0 0) ∷ []
 unfolding computed joinedBits joinedBitsArea tokens
 joined-bits-answered = refl

@@ -5,7 +5,7 @@ use Rattle.definition.specs.Characters.{char}
 use Rattle.definition.specs.Limits.{areaNeeded, limits, maxInput}
 use Rattle.definition.specs.Refusals.{refuse, short-image}
 use Rattle.definition.specs.Answer.{Read, Concat, Field, Bound, readAnswer}
-use Rattle.definition.specs.Run.{run}
+use Rattle.definition.specs.Run.{under, run}
 
 -- a number's decimal digits, at most as many as 128 bits need
 unfoldable pub decimalOnto : ℕ → ℕ → List ℕ → List ℕ
@@ -101,4 +101,4 @@ programArea = areaNeeded (limits .concatenations) (limits .components) (limits .
 
 unfoldable pub output : List ℕ → List ℕ
 output [] = listing [] (refuse short-image)
-output (mode ∷ rest) = let image = take (maxInput - 1) rest in listing image (run image mode programArea)
+output (mode ∷ rest) = let image = take (maxInput - 1) rest in listing image (run image (under mode) programArea)

@@ -1,32 +1,44 @@
 -- The whole run, and what a lent area holds after it (document 01, "How each operation refuses").
-use Rattle.definition.specs.Prelude.{ℕ, _+_, true, false, none, some, List, _++_, map, length, drop, leb}
+use Rattle.definition.specs.Prelude.{ℕ, _+_, Bool, true, false, Option, none, some, List, _++_, map, length, drop, leb}
 use Rattle.definition.specs.Basics.{Result, ok, refused, _>>=_}
 use Rattle.definition.specs.Limits.{areaNeeded}
 use Rattle.definition.specs.Refusals.{need, mode-above-2, short-area}
 use Rattle.definition.specs.Image.{Unparsed, Placed, counts, treeOf}
 use Rattle.definition.specs.Check.{checkImage}
+use Rattle.definition.specs.Text.{Part}
 use Rattle.definition.specs.Component.{stage1, stage2}
 use Rattle.definition.specs.Concatenation.{stage3, merged}
 use Rattle.definition.specs.Overall.{stage4}
 use Rattle.definition.specs.Answer.{Answer, answerBytes}
 
+-- What a call is told beside its image and its area. "Modes: 0 no return type, 1 return type, 2 return type and static width."
+pub record Choices : Type 0 where
+  pub mode : ℕ
+
+abbrev pub under : ℕ → Choices
+under mode = record { mode = mode }
+
+-- whether there is a starting value
+abbrev pub hasStart : Choices → Option (Placed Part) → Bool
+hasStart how init = elim init [ none ↦ false | some p ↦ true ]
+
 -- "then stages 1 to 5, each over the whole tree before the next"; "Stage 5 refuses nothing."
-unfoldable pub stages : ℕ → List (List (Placed Unparsed)) → Result Answer
-stages mode t = do
+unfoldable pub stages : Choices → List (List (Placed Unparsed)) → Result Answer
+stages how t = do
   t₁ ← stage1 t
   t₂ ← stage2 t₁
   cc ← stage3 0 (t₂ .cc)
-  o ← stage4 mode (elim (t₂ .init) [ none ↦ false | some p ↦ true ]) cc
+  o ← stage4 (how .mode) (hasStart how (t₂ .init)) cc
   ok (record { init = t₂ .init; overall = o; cc = map merged cc })
 
 -- "Whole run: 1 mode above 2; the image check; 8 area shorter than 32 + 20·C + 72·N + B; then stages 1 to 5": the answer's bytes, or
 -- a refusal
-unfoldable pub run : List ℕ → ℕ → ℕ → Result (List ℕ)
-run image mode area = do
-  _ ← need (leb mode 2) mode-above-2
+unfoldable pub run : List ℕ → Choices → ℕ → Result (List ℕ)
+run image how area = do
+  _ ← need (leb (how .mode) 2) mode-above-2
   _ ← checkImage image
   _ ← need (leb (areaNeeded ((counts image) .c) ((counts image) .n) ((counts image) .b)) area) short-area
-  a ← stages mode (treeOf image)
+  a ← stages how (treeOf image)
   ok (answerBytes a)
 
 -- the lent area afterwards: "the full answer from its first byte with the bytes beyond untouched, or, after a refusal, exactly as lent"
@@ -35,5 +47,5 @@ areaAfter area (ok bytes) = bytes ++ drop (length bytes) area
 areaAfter area (refused q) = area
 
 -- what a run on a lent area comes to, the answer's length or a refusal, and the area afterwards
-abbrev pub ranOn : List ℕ → ℕ → List ℕ → Result ℕ × List ℕ
-ranOn image mode area = let r = run image mode (length area) in ((r >>= λ bytes. ok (length bytes)), areaAfter area r)
+abbrev pub ranOn : List ℕ → Choices → List ℕ → Result ℕ × List ℕ
+ranOn image how area = let r = run image how (length area) in ((r >>= λ bytes. ok (length bytes)), areaAfter area r)

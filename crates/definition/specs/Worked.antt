@@ -6,7 +6,7 @@ use Rattle.definition.specs.Basics.{ascii, Result, ok, refused, refusalO
 use Rattle.definition.specs.Image.{kinds}
 use Rattle.definition.specs.Check.{checkImage}
 use Rattle.definition.specs.Tree.{Tree, Node, Forest, end, word, group, imageOf, fits}
-use Rattle.definition.specs.Run.{run}
+use Rattle.definition.specs.Run.{under, run}
 use Rattle.definition.specs.Listing.{output}
 use Rattle.definition.specs.Compute.{computed}
 
@@ -72,7 +72,7 @@ workedAnswer =
     165 ∷ []
 
 -- the area needed is 32 + 20·2 + 72·3 + 2
-pub answered : run workedImage 0 290 ≡ ok workedAnswer
+pub answered : run workedImage (under 0) 290 ≡ ok workedAnswer
 unfolding computed workedImage workedAnswer
 answered = refl
 
@@ -137,7 +137,7 @@ nested-accepted = refl
 
 -- 1 and 8, in their places in the order: 1 before the image check, 8 after it
 pub refused-runs :
-    run workedImage 3 290 ∷ run (take 39 workedImage) 3 290 ∷ run workedImage 0 289 ∷ run (take 39 workedImage) 0 289 ∷ []
+    run workedImage (under 3) 290 ∷ run (take 39 workedImage) (under 3) 290 ∷ run workedImage (under 0) 289 ∷ run (take 39 workedImage) (under 0) 289 ∷ []
     ≡ refused (refusalOf 1 0 0) ∷ refused (refusalOf 1 0 0) ∷ refused (refusalOf 8 0 0) ∷ refused (refusalOf 2 0 0) ∷ []
 unfolding computed workedImage
 refused-runs = refl

@@ -9,16 +9,16 @@ use Rattle.errors.specs.Refused.{outcomeOf}
 use Rattle.listing.specs.Outcomes.{filled, writtenAs}
 use Rattle.listing.specs.declared.Written.{Written}
 use Rattle.listing.specs.declared.Written.the-variants.{Whole, Cut}
-use Rattle.definition.specs.Run.{ranOn}
+use Rattle.definition.specs.Run.{Choices, ranOn}
 use Rattle.layout_c.specs.outcome.Code.{codeOf}
 use Rattle.layout_c.specs.Code.{codedOn, listedIn}
 use Rattle.layout_c.specs.Split.{codeOn, code-small}
 
-pub run-coded : (image area after : List ℕ) (mode : ℕ) (o : Outcome) → (outcomeOf o, after) ≡ ranOn image mode area
-    → (n : ℕ) → n ≡ codeOf (outcomeOf o) % 2 ^ 64 → _≡_ {A = ℕ × List ℕ} (n, after) (codedOn image mode area)
-run-coded image area after mode o e n is =
-    let code : codeOf (outcomeOf o) ≡ codeOn image mode (length area) = ap (λ (p : Result ℕ × List ℕ). codeOf (p .0)) e in
-    let small = code-small image mode (length area) in
+pub run-coded : (image area after : List ℕ) (how : Choices) (o : Outcome) → (outcomeOf o, after) ≡ ranOn image how area
+    → (n : ℕ) → n ≡ codeOf (outcomeOf o) % 2 ^ 64 → _≡_ {A = ℕ × List ℕ} (n, after) (codedOn image how area)
+run-coded image area after how o e n is =
+    let code : codeOf (outcomeOf o) ≡ codeOn image how (length area) = ap (λ (p : Result ℕ × List ℕ). codeOf (p .0)) e in
+    let small = code-small image how (length area) in
     let same : n ≡ codeOf (outcomeOf o) = omega (arith, is, code, small) in
     ap (λ (m : ℕ). (m, after)) same ∙ ap (λ (p : Result ℕ × List ℕ). (codeOf (p .0), p .1)) e
 

@@ -4,13 +4,14 @@ mod outcome;
 use listing::Written;
 ghost use mathlib.Core.Path.{_≡_};
 ghost use Rattle.definition.specs.Check.{checkImage};
+ghost use Rattle.definition.specs.Run.{under};
 ghost use Rattle.layout_c.specs.Code.{codedOn, listedIn};
 ghost use Rattle.errors.specs.Refused.{numberIn};
 
 // The whole run: the answer's length, or, from 2^32 on, a refusal. The area at exit is the definition's.
 #[no_mangle]
 pub extern "C" fn layout_run(image: &[u8], mode: u32, area: &mut [u8]) -> u64
-    ensures { λ r. ⌜ (r, now (area .exit)) ≡ codedOn (now (image .entry)) mode (now (area .entry)) ⌝ }
+    ensures { λ r. ⌜ (r, now (area .exit)) ≡ codedOn (now (image .entry)) (under mode) (now (area .entry)) ⌝ }
 {
     crate::outcome::coded(stages::run::run(image, mode, area))
 }

@@ -9,13 +9,12 @@ use Rattle.laws.specs.Tests.{by-test}
 use Rattle.definition.specs.Basics.{Result, ok, refused, refusalOf, _>>=_}
 use Rattle.definition.specs.Limits.{maxInput}
 use Rattle.definition.specs.Listing.{listing, output, programArea}
-use Rattle.definition.specs.Run.{run, areaAfter}
+use Rattle.definition.specs.Run.{Choices, under, run, areaAfter, ranOn}
 use Rattle.errors.specs.Refused.{outcomeOf}
 use Rattle.listing.specs.Outcomes.{resultAs, listingOf}
 use Rattle.errors.specs.declared.Outcome.{Outcome}
 use Rattle.errors.specs.declared.Outcome.the-variants.{Accepted, Refused}
 use Rattle.listing.specs.declared.Written.{Written}
-use Rattle.definition.specs.Run.{ranOn}
 use Rattle.listing.specs.Shown.{Shown}
 
 -- the outcome's answer, read from the area afterwards, is the run's
@@ -28,10 +27,10 @@ result-of area after (Refused q) (ok bytes) e a = let z : _≡_ {A = ℕ} 0 1 = 
 result-of area after (Refused q) (refused w) e a =
     let same : refusalOf (q .number) (q .concatenation) (q .component) ≡ w = cc in rw same refl
 
-pub listing-of : (image area after : List ℕ) (mode : ℕ) (o : Outcome)
-    → (outcomeOf o, after) ≡ ranOn image mode area → listingOf image after o ≡ listing image (run image mode (length area))
-listing-of image area after mode o e =
-    ap (listing image) (result-of area after o (run image mode (length area)) (ap (λ p. p .0) e) (ap (λ p. p .1) e))
+pub listing-of : (image area after : List ℕ) (how : Choices) (o : Outcome)
+    → (outcomeOf o, after) ≡ ranOn image how area → listingOf image after o ≡ listing image (run image how (length area))
+listing-of image area after how o e =
+    ap (listing image) (result-of area after o (run image how (length area)) (ap (λ p. p .0) e) (ap (λ p. p .1) e))
 
 pub empty-input : (input : List ℕ) → length input ≡ 0 → output [] ≡ output input
 empty-input [] h = refl
@@ -39,7 +38,7 @@ empty-input (x ∷ input) h = absurd (omega arith)
 
 -- "input above 51,306 bytes is judged on its first 51,306"
 read-whole : (input : List ℕ) → 0 < length input → length input ≤ maxInput
-    → (part : List ℕ) → part ≡ take (length input - 1) (drop 1 input) → listing part (run part (getD input 0 0) programArea) ≡ output input
+    → (part : List ℕ) → part ≡ take (length input - 1) (drop 1 input) → listing part (run part (under (getD input 0 0)) programArea) ≡ output input
 unfolding output
 read-whole [] h le part e = absurd (omega arith)
 read-whole (x ∷ input) h le part e =
@@ -47,7 +46,7 @@ read-whole (x ∷ input) h le part e =
     rw (whole, take-all (maxInput - 1) input (omega arith)) refl
 
 read-part : (input : List ℕ) → 0 < length input
-    → (part : List ℕ) → part ≡ take (maxInput - 1) (drop 1 input) → listing part (run part (getD input 0 0) programArea) ≡ output input
+    → (part : List ℕ) → part ≡ take (maxInput - 1) (drop 1 input) → listing part (run part (under (getD input 0 0)) programArea) ≡ output input
 unfolding output
 read-part [] h part e = absurd (omega arith)
 read-part (x ∷ input) h part e = rw e refl
@@ -58,7 +57,7 @@ some-judged n stop h e = (omega arith, omega arith)
 
 -- up to the length or the limit, whichever is less
 pub read-judged : (input : List ℕ) (stop : ℕ) → 0 < length input → stop ≡ min (length input) maxInput
-    → (part : List ℕ) → part ≡ take (stop - 1) (drop 1 input) → listing part (run part (getD input 0 0) programArea) ≡ output input
+    → (part : List ℕ) → part ≡ take (stop - 1) (drop 1 input) → listing part (run part (under (getD input 0 0)) programArea) ≡ output input
 read-judged input stop h e part p =
     by-test (leb (length input) maxInput)
     (λ t. let le = leb-true (length input) maxInput t in
@@ -70,9 +69,9 @@ read-judged input stop h e part p =
 pub shown-as : (out L L' out' : List ℕ) (w : Written) → L ≡ L' → Shown out L out' w → Shown out L' out' w
 shown-as out L L' out' w e s = subst (λ (M : List ℕ). Shown out M out' w) e s
 
-pub shows : (image area after out out' : List ℕ) (mode : ℕ) (o : Outcome) (w : Written)
-    → (outcomeOf o, after) ≡ ranOn image mode area → length area ≡ programArea → Shown out (listingOf image after o) out' w
-    → Shown out (listing image (run image mode programArea)) out' w
-shows image area after out out' mode o w e n s =
-    shown-as out (listingOf image after o) (listing image (run image mode programArea)) out' w
-    (listing-of image area after mode o e ∙ ap (λ (m : ℕ). listing image (run image mode m)) n) s
+pub shows : (image area after out out' : List ℕ) (how : Choices) (o : Outcome) (w : Written)
+    → (outcomeOf o, after) ≡ ranOn image how area → length area ≡ programArea → Shown out (listingOf image after o) out' w
+    → Shown out (listing image (run image how programArea)) out' w
+shows image area after out out' how o w e n s =
+    shown-as out (listingOf image after o) (listing image (run image how programArea)) out' w
+    (listing-of image area after how o e ∙ ap (λ (m : ℕ). listing image (run image how m)) n) s

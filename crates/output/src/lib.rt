@@ -7,7 +7,7 @@ ghost use lib.ListN.{length};
 ghost use Rattle.definition.specs.Prelude.{[]};
 ghost use Rattle.definition.specs.Limits.{maxInput};
 ghost use Rattle.definition.specs.Listing.{listing, output, programArea};
-ghost use Rattle.definition.specs.Run.{run};
+ghost use Rattle.definition.specs.Run.{under, run};
 ghost use Rattle.listing.specs.Shown.{Shown};
 
 // An area that is long enough for any image.
@@ -19,7 +19,7 @@ fn area() -> [u8; limits::ANY_AREA]
 
 // The listing of one run.
 fn listed(image: &[u8], mode: u32, out: &mut [u8]) -> Written
-    ensures { λ w. ⌜ Shown (now (out .entry)) (listing (now (image .entry)) (run (now (image .entry)) mode programArea)) (now (out .exit)) w ⌝ }
+    ensures { λ w. ⌜ Shown (now (out .entry)) (listing (now (image .entry)) (run (now (image .entry)) (under mode) programArea)) (now (out .exit)) w ⌝ }
 {
     let mut space = area();
     let outcome = stages::run::run(image, mode, &mut space);

@@ -4,6 +4,7 @@ ghost use mathlib.Core.Path.{_≡_};
 ghost use lib.Dec.{leb};
 ghost use Rattle.definition.specs.Limits.{areaNeeded};
 ghost use Rattle.definition.specs.Image.{counts};
+ghost use Rattle.definition.specs.Run.{under};
 ghost use Rattle.errors.specs.Refused.{resultOf};
 ghost use Rattle.stages.specs.admission.Asked.{admittedOf};
 
@@ -19,7 +20,7 @@ fn enough(image: &[u8], area: usize) -> bool
 
 // 1, the image check, 8.
 pub(crate) fn admitted(image: &[u8], mode: u32, area: usize) -> Checked
-    ensures { λ r. ⌜ resultOf r ≡ admittedOf (now (image .entry)) mode area ⌝ }
+    ensures { λ r. ⌜ resultOf r ≡ admittedOf (now (image .entry)) (under mode) area ⌝ }
 {
     if 2 < mode {
         return Checked::Refused(errors::refuse(1));

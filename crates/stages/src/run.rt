@@ -18,7 +18,7 @@ ghost use mathlib.Core.Path.{_≡_};
 ghost use Prim.Native.Nat.{_*_, _≤_};
 ghost use lib.ListN.{length};
 ghost use Rattle.definition.specs.Image.{counts};
-ghost use Rattle.definition.specs.Run.{ranOn};
+ghost use Rattle.definition.specs.Run.{under, ranOn};
 ghost use Rattle.errors.specs.Refused.{outcomeOf};
 ghost use Rattle.stages.specs.run.Run.{RunFits, StagesAs, StartFits, StartedAs, ReadFits, ReadAs, JudgedFits, JudgedAs};
 
@@ -33,7 +33,7 @@ fn judged(
     s: Start,
 ) -> Outcome
     requires { ⌜ RunFits (now image) (length (now area)) × JudgedFits (now image) c s (now heads) (now words) ⌝ }
-    ensures { λ o. ⌜ JudgedAs (now (image .entry)) mode c s (now (heads .entry)) (now (words .entry)) o (now (area .entry)) (now (area .exit)) ⌝ }
+    ensures { λ o. ⌜ JudgedAs (now (image .entry)) (under mode) c s (now (heads .entry)) (now (words .entry)) o (now (area .entry)) (now (area .exit)) ⌝ }
 {
     match stage4(mode, s.after.0 != 0, heads, words, image, c) {
         OverallResult::Ok(o) => Outcome::Accepted(stage5(area, image, heads, words, c, o, s)),
@@ -44,7 +44,7 @@ fn judged(
 // Stages 3 to 5, of components that are kept.
 fn kept(area: &mut [u8], image: &[u8], mode: u32, words: &[u64], c: u32, s: Start) -> Outcome
     requires { ⌜ RunFits (now image) (length (now area)) × ReadFits (now image) c s (now words) ⌝ }
-    ensures { λ o. ⌜ ReadAs (now (image .entry)) mode c s (now (words .entry)) o (now (area .entry)) (now (area .exit)) ⌝ }
+    ensures { λ o. ⌜ ReadAs (now (image .entry)) (under mode) c s (now (words .entry)) o (now (area .entry)) (now (area .exit)) ⌝ }
 {
     let mut heads = [0u64; 32];
     match stage3(&mut heads, words, image, c) {
@@ -63,7 +63,7 @@ fn started(
     s: Start,
 ) -> Outcome
     requires { ⌜ RunFits (now image) (length (now area)) × StartFits (now image) t s × (11 * (counts (now image)) .n ≤ length (now words)) ⌝ }
-    ensures { λ o. ⌜ StartedAs (now (image .entry)) mode s o (now (area .entry)) (now (area .exit)) ⌝ }
+    ensures { λ o. ⌜ StartedAs (now (image .entry)) (under mode) s o (now (area .entry)) (now (area .exit)) ⌝ }
 {
     match stage2(words, image, t, s.after) {
         Checked::Passed => kept(area, image, mode, words, t.c, s),
@@ -74,7 +74,7 @@ fn started(
 // The stages of an image that passed the check, with room for an answer, and words for its components.
 fn staged(area: &mut [u8], words: &mut [u64], image: &[u8], mode: u32) -> Outcome
     requires { ⌜ RunFits (now image) (length (now area)) × (11 * (counts (now image)) .n ≤ length (now words)) ⌝ }
-    ensures { λ o. ⌜ StagesAs (now (image .entry)) mode o (now (area .entry)) (now (area .exit)) ⌝ }
+    ensures { λ o. ⌜ StagesAs (now (image .entry)) (under mode) o (now (area .entry)) (now (area .exit)) ⌝ }
 {
     let t = tables_of(image);
     match starting_value(image, t) {
@@ -86,7 +86,7 @@ fn staged(area: &mut [u8], words: &mut [u64], image: &[u8], mode: u32) -> Outcom
 // Room for the kept words, in three sizes.
 fn few(area: &mut [u8], image: &[u8], mode: u32) -> Outcome
     requires { ⌜ RunFits (now image) (length (now area)) × ((counts (now image)) .n ≤ 8) ⌝ }
-    ensures { λ o. ⌜ StagesAs (now (image .entry)) mode o (now (area .entry)) (now (area .exit)) ⌝ }
+    ensures { λ o. ⌜ StagesAs (now (image .entry)) (under mode) o (now (area .entry)) (now (area .exit)) ⌝ }
 {
     let mut words = [0u64; 88];
     staged(area, &mut words, image, mode)
@@ -94,7 +94,7 @@ fn few(area: &mut [u8], image: &[u8], mode: u32) -> Outcome
 
 fn some(area: &mut [u8], image: &[u8], mode: u32) -> Outcome
     requires { ⌜ RunFits (now image) (length (now area)) × ((counts (now image)) .n ≤ 64) ⌝ }
-    ensures { λ o. ⌜ StagesAs (now (image .entry)) mode o (now (area .entry)) (now (area .exit)) ⌝ }
+    ensures { λ o. ⌜ StagesAs (now (image .entry)) (under mode) o (now (area .entry)) (now (area .exit)) ⌝ }
 {
     let mut words = [0u64; 704];
     staged(area, &mut words, image, mode)
@@ -102,7 +102,7 @@ fn some(area: &mut [u8], image: &[u8], mode: u32) -> Outcome
 
 fn many(area: &mut [u8], image: &[u8], mode: u32) -> Outcome
     requires { ⌜ RunFits (now image) (length (now area)) ⌝ }
-    ensures { λ o. ⌜ StagesAs (now (image .entry)) mode o (now (area .entry)) (now (area .exit)) ⌝ }
+    ensures { λ o. ⌜ StagesAs (now (image .entry)) (under mode) o (now (area .entry)) (now (area .exit)) ⌝ }
 {
     let mut words = [0u64; 2816];
     staged(area, &mut words, image, mode)
@@ -110,7 +110,7 @@ fn many(area: &mut [u8], image: &[u8], mode: u32) -> Outcome
 
 fn sized(area: &mut [u8], image: &[u8], mode: u32) -> Outcome
     requires { ⌜ RunFits (now image) (length (now area)) ⌝ }
-    ensures { λ o. ⌜ StagesAs (now (image .entry)) mode o (now (area .entry)) (now (area .exit)) ⌝ }
+    ensures { λ o. ⌜ StagesAs (now (image .entry)) (under mode) o (now (area .entry)) (now (area .exit)) ⌝ }
 {
     let n = number_at(image, 4);
     if n <= 8 {
@@ -124,7 +124,7 @@ fn sized(area: &mut [u8], image: &[u8], mode: u32) -> Outcome
 
 // For every image, mode number and area: the outcome, and the area at exit, are the definition's.
 pub fn run(image: &[u8], mode: u32, area: &mut [u8]) -> Outcome
-    ensures { λ o. ⌜ (outcomeOf o, now (area .exit)) ≡ ranOn (now (image .entry)) mode (now (area .entry)) ⌝ }
+    ensures { λ o. ⌜ (outcomeOf o, now (area .exit)) ≡ ranOn (now (image .entry)) (under mode) (now (area .entry)) ⌝ }
 {
     match admitted(image, mode, area.len()) {
         Checked::Passed => sized(area, image, mode),

@@ -11,7 +11,7 @@ use Rattle.definition.specs.Component.{Component}
 use Rattle.definition.specs.Concatenation.{Concatenation, isStaticLiteral, bitsOf, wholeLiteral, mergeOnto, merge, merged}
 use Rattle.definition.specs.Overall.{stage4}
 use Rattle.definition.specs.Answer.{components}
-use Rattle.definition.specs.Run.{stages}
+use Rattle.definition.specs.Run.{Choices, hasStart, stages}
 use Rattle.answer_facts.specs.read.Facts.{Yields, given, Every, after, bound}
 use Rattle.answer_facts.specs.read.Trees.{total, total-append, stage3-comps, merged-comps}
 use Rattle.answer_facts.specs.fits.Staged.{ShortBefore, NormalAt, weightBefore, weight, Staged, stage1-all, stage2-all}
@@ -51,12 +51,12 @@ module _ (g : ℕ → ℕ) (grows : (m n : ℕ) → m ≤ n → g m ≤ g n) (jo
       let r = total-append (weight g) c (joined t) in
       omega arith
 
-  pub stages-light : (mode : ℕ) (t : List (List (Placed Unparsed))) → Every ShortBefore (joined t)
-      → Yields (λ a. (length (a .cc) ≡ length t) × (total (weight g) (components a) ≤ total (weightBefore g) (joined t))) (stages mode t)
+  pub stages-light : (how : Choices) (t : List (List (Placed Unparsed))) → Every ShortBefore (joined t)
+      → Yields (λ a. (length (a .cc) ≡ length t) × (total (weight g) (components a) ≤ total (weightBefore g) (joined t))) (stages how t)
   unfolding stages
-  stages-light mode t h =
+  stages-light how t h =
       bound (stage1-all g grows t h) λ t₁ s₁. bound (stage2-all g grows t t₁ s₁) λ t₂ s₂.
-      bound (stage3-comps 0 (t₂ .cc)) λ ds e. after (stage4 mode (elim (t₂ .init) [ none ↦ false | some p ↦ true ]) ds) λ o.
+      bound (stage3-comps 0 (t₂ .cc)) λ ds e. after (stage4 (how .mode) (hasStart how (t₂ .init)) ds) λ o.
       given (go (t₂ .cc) ds e s₂)
     where
       go : (cc : List (List (Placed Component))) (ds : List Concatenation) → map (λ d. d .comps) ds ≡ cc → Staged g grows NormalAt t cc

@@ -52,12 +52,12 @@ ones (a ∷ l) = let e = ones l in omega arith
 -- ---- an answer of a checked image
 
 pub answer-fits : AnswerFits
-answer-fits image h mode a e = go (tree-counted image h)
+answer-fits image h how a e = go (tree-counted image h)
   where
     go : Counted image (treeOf image) → Fits image a
     go t =
-        let (concats, few) = the-given (rw e at (stages-light (λ _. 1) (λ m n l. le-refl 1) (λ m n. omega arith) mode (treeOf image) (t .short))) in
-        let (_, light) = the-given (rw e at (stages-light bytesFor (λ m n l. omega arith) (λ m n. omega arith) mode (treeOf image) (t .short))) in
+        let (concats, few) = the-given (rw e at (stages-light (λ _. 1) (λ m n l. le-refl 1) (λ m n. omega arith) how (treeOf image) (t .short))) in
+        let (_, light) = the-given (rw e at (stages-light bytesFor (λ m n l. omega arith) (λ m n. omega arith) how (treeOf image) (t .short))) in
         let size = answer-length a in
         let c : length (a .cc) ≡ (counts image) .c = concats ∙ t .concatenations in
         let m : length (components a) ≤ (counts image) .n = rw (ones (components a), ones (joined (treeOf image)), t .components) at few in

@@ -8,7 +8,7 @@ use Rattle.definition.specs.Image.{Placed, counts, treeOf}
 use Rattle.definition.specs.Check.{checkImage}
 use Rattle.definition.specs.Component.{Component, keepBase, each, stage1Component, simplify}
 use Rattle.definition.specs.Answer.{Answer, components, literalBytes, answerBytes}
-use Rattle.definition.specs.Run.{stages}
+use Rattle.definition.specs.Run.{Choices, stages}
 use Rattle.answer_facts.specs.fits.Fixed.{AllFixed}
 
 -- the literal bytes of components, one after the other
@@ -24,7 +24,7 @@ pub record Fits (image : List ℕ) (a : Answer) : Type 0 where
   pub room : length (answerBytes a) ≤ areaNeeded ((counts image) .c) ((counts image) .n) ((counts image) .b)
 
 abbrev pub AnswerFits : Type 0
-AnswerFits = (image : List ℕ) → checkImage image ≡ ok tt → (mode : ℕ) (a : Answer) → stages mode (treeOf image) ≡ ok a → Fits image a
+AnswerFits = (image : List ℕ) → checkImage image ≡ ok tt → (how : Choices) (a : Answer) → stages how (treeOf image) ≡ ok a → Fits image a
 
 -- the components as stages 1 and 2 leave them
 abbrev pub ReadFixed : Type 0

@@ -7,7 +7,7 @@ use Rattle.definition.specs.Image.{Placed, treeOf}
 use Rattle.definition.specs.Check.{checkImage}
 use Rattle.definition.specs.Component.{Component, keepBase, each, stage1Component, simplify}
 use Rattle.definition.specs.Answer.{Answer, components, answerBytes}
-use Rattle.definition.specs.Run.{stages}
+use Rattle.definition.specs.Run.{under, stages}
 use Rattle.definition.specs.Compute.{computed}
 use Rattle.definition.specs.Worked.{workedImage}
 use Rattle.answer_facts.specs.fits.Fixed.{AllFixed}
@@ -18,12 +18,12 @@ image-checked : checkImage workedImage ≡ ok tt
 unfolding computed workedImage
 image-checked = refl
 
-image-answered : (a : Answer) × (stages 0 (treeOf workedImage) ≡ ok a)
+image-answered : (a : Answer) × (stages (under 0) (treeOf workedImage) ≡ ok a)
 unfolding computed workedImage
 image-answered = (_, refl)
 
 image-fits : Fits workedImage (image-answered .0)
-image-fits = answer-fits workedImage image-checked 0 (image-answered .0) (image-answered .1)
+image-fits = answer-fits workedImage image-checked (under 0) (image-answered .0) (image-answered .1)
 
 -- 2 concatenations, 2 components of the image's 3, 1 literal byte of its 2: 32 + 20·2 + 72·2 + 1 bytes
 image-sizes : let a = image-answered .0 in

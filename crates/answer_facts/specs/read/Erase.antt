@@ -9,7 +9,7 @@ use Rattle.definition.specs.Text.{Part, partOf}
 use Rattle.definition.specs.Component.{Component, Prefix, Parsed, prefixOf, startingValue, source, eachIn, each, keepBase, stage1Component, simplify, stage1, stage2}
 use Rattle.definition.specs.Concatenation.{Concatenation, Running, isAlign, align-mid, unchecked, isUnboundedFiller, isStaticLiteral, wholeLiteral, bitsOf, checkFrom, check, stage3, mergeOnto, merge, merged}
 use Rattle.definition.specs.Overall.{Overall, overallStart, placeFrom, checkSource, overallFrom, middleFrom, oppositeFrom, isFiller, isSided, stage4}
-use Rattle.definition.specs.Run.{stages}
+use Rattle.definition.specs.Run.{Choices, hasStart, stages}
 use Rattle.answer_facts.specs.read.Statement.{erase, eraseTree, eraseConcatenation, eraseAnswer, onOk, EraseStages}
 
 abbrev pub eraseInit : Option (Placed Part) → Option (Placed Part)
@@ -183,19 +183,16 @@ erase-merged : (cs : List Concatenation) → map merged (map eraseConcatenation 
 erase-merged [] = refl
 erase-merged (c ∷ cs) = rw (erase-merge (c .comps), erase-merged cs)
 
-abbrev given : Option (Placed Part) → Bool
-given x = elim x [ none ↦ false | some p ↦ true ]
-
-erase-given : (x : Option (Placed Part)) → given (eraseInit x) ≡ given x
-erase-given none = refl
-erase-given (some p) = refl
+erase-has-start : (how : Choices) (x : Option (Placed Part)) → hasStart how (eraseInit x) ≡ hasStart how x
+erase-has-start how none = refl
+erase-has-start how (some p) = refl
 
 pub erase-stages : EraseStages
 unfolding stages
-erase-stages mode t =
+erase-stages how t =
     on-bind eraseParsed eraseAnswer (stage1 t) _ _ (erase-stage1 t) λ t₁.
     on-bind eraseParsed eraseAnswer (stage2 t₁) _ _ (erase-stage2 t₁) λ t₂.
     on-bind (map eraseConcatenation) eraseAnswer (stage3 0 (t₂ .cc)) _ _ (erase-stage3 0 (t₂ .cc)) λ cc.
-    on-same eraseAnswer (stage4 mode (given (t₂ .init)) cc) _ _
-    (ap (λ (b : Bool). stage4 mode b (map eraseConcatenation cc)) (erase-given (t₂ .init)) ∙ erase-stage4 mode (given (t₂ .init)) cc) λ o.
+    on-same eraseAnswer (stage4 (how .mode) (hasStart how (t₂ .init)) cc) _ _
+    (ap (λ (b : Bool). stage4 (how .mode) b (map eraseConcatenation cc)) (erase-has-start how (t₂ .init)) ∙ erase-stage4 (how .mode) (hasStart how (t₂ .init)) cc) λ o.
     rw (erase-merged cc)

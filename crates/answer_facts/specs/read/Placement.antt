@@ -10,7 +10,7 @@ use Rattle.definition.specs.Limits.{limits}
 use Rattle.definition.specs.Image.{parts}
 use Rattle.definition.specs.Tree.{Tree, Node, recsOf, allRecs, textOf, soundNode, fits}
 use Rattle.definition.specs.Answer.{Answer}
-use Rattle.definition.specs.Run.{stages}
+use Rattle.definition.specs.Run.{Choices, stages}
 use Rattle.prepared.specs.Statement.{placedFrom, placedTree}
 use Rattle.laws.specs.Lists.{length-joined}
 use Rattle.prepared.specs.Bytes.{Holds, holds-whole, holds-left, holds-right}
@@ -72,9 +72,9 @@ length-tree t = length-parts (map length t) (placedFrom 0 (joined t)) ∙ length
 
 -- ---- the answer's texts stand in the tree's text, and there are few of them
 
-pub answer-fits : (t : Tree) → fits t ≡ true → (mode : ℕ) (a : Answer) → stages mode (placedTree t) ≡ ok a
+pub answer-fits : (t : Tree) → fits t ≡ true → (how : Choices) (a : Answer) → stages how (placedTree t) ≡ ok a
     → Fitting (textOf (allRecs (joined t))) (length t) (suc (limits .width) * limits .components) (a .init) (map (λ c. c .comps) (a .cc))
-answer-fits t h mode a e = go (the-given (rw e at (stages-fitting txt mode (placedTree t) (rw joined-tree (placed-begin txt 0 (joined t) (holds-whole txt))))))
+answer-fits t h how a e = go (the-given (rw e at (stages-fitting txt how (placedTree t) (rw joined-tree (placed-begin txt 0 (joined t) (holds-whole txt))))))
   where
     txt : List ℕ
     txt = textOf (allRecs (joined t))

@@ -181,9 +181,9 @@ module _ (image txt : List ℕ) (read : bytesAt image ((tables image) .text) (le
 -- ---- of a tree
 
 pub reads-answer : ReadsAnswer
-reads-answer t h mode a e rest =
+reads-answer t h how a e rest =
     let p = fits-parts t h in
     let b = p .text in
     let c = p .concatenations in
     answer-read (imageOf t) (textOf (allRecs (joined t))) ((read-back t h) .text) (omega arith) a (length t) (suc (limits .width) * limits .components)
-    (answer-fits t h mode a e) (omega arith) (omega arith) (answerBytes a ++ rest) (rest, refl)
+    (answer-fits t h how a e) (omega arith) (omega arith) (answerBytes a ++ rest) (rest, refl)

@@ -10,7 +10,7 @@ use Rattle.definition.specs.Ranges.{Usb}
 use Rattle.definition.specs.Component.{Component, ComponentType, literal, variable, filler}
 use Rattle.definition.specs.Concatenation.{Concatenation, alignNumber, bitsOf}
 use Rattle.definition.specs.Answer.{Answer, components, answerBytes, readAnswer, Read, Concat, Field, Bound, flag, widthBytes, widthAt, xBytes, untwos, literalBytes}
-use Rattle.definition.specs.Run.{stages}
+use Rattle.definition.specs.Run.{Choices, stages}
 use Rattle.prepared.specs.Statement.{placedTree}
 
 -- every text start 0
@@ -36,7 +36,7 @@ onOk f (ok a) = ok (f a)
 onOk f (refused q) = refused q
 
 abbrev pub EraseStages : Type 0
-EraseStages = (mode : ℕ) (t : List (List (Placed Unparsed))) → stages mode (eraseTree t) ≡ onOk eraseAnswer (stages mode t)
+EraseStages = (how : Choices) (t : List (List (Placed Unparsed))) → stages how (eraseTree t) ≡ onOk eraseAnswer (stages how t)
 
 -- what an answer says, without its bytes: texts and literals as they are, numbers as their bytes are read back
 abbrev pub shownNumber : ℕ → ℕ
@@ -100,5 +100,5 @@ shown a =
 
 abbrev pub ReadsAnswer : Type 0
 ReadsAnswer =
-    (t : Tree) → fits t ≡ true → (mode : ℕ) (a : Answer) → stages mode (placedTree t) ≡ ok a → (rest : List ℕ)
+    (t : Tree) → fits t ≡ true → (how : Choices) (a : Answer) → stages how (placedTree t) ≡ ok a → (rest : List ℕ)
     → readAnswer (imageOf t) (answerBytes a ++ rest) ≡ shown (eraseAnswer a)

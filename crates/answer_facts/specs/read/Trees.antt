@@ -13,7 +13,7 @@ use Rattle.definition.specs.Text.{Part, partOf}
 use Rattle.definition.specs.Component.{Component, Prefix, Parsed, prefixOf, startingValue, source, eachIn, each, keepBase, stage1Component, simplify, stage1, stage2}
 use Rattle.definition.specs.Concatenation.{Concatenation, isStaticLiteral, wholeLiteral, bitsOf, unchecked, checkFrom, check, stage3, mergeOnto, merge, merged}
 use Rattle.definition.specs.Overall.{stage4}
-use Rattle.definition.specs.Run.{stages}
+use Rattle.definition.specs.Run.{Choices, hasStart, stages}
 use mathlib.Core.List.{map-append}
 use Rattle.laws.specs.Lists.{sum-append}
 use Rattle.prepared.specs.Bytes.{Holds}
@@ -174,12 +174,12 @@ module _ (txt : List ℕ) where
       bound (each-kept (keepBase (λ last. simplify)) (Within txt) (Within txt) sizeOf sizeOf (second-kept txt) 0 (t .cc) (h .texts)) λ cc f.
       given (record { concats = f .0 ∙ h .concats; init-stands = h .init-stands; texts = f .1; small = le-trans (f .2) (h .small) })
 
-  pub stages-fitting : (mode : ℕ) (t : List (List (Placed Unparsed))) → Every (Begins txt) (joined t)
-      → Yields (λ a. Fitting txt (length t) (total sizeBefore (joined t)) (a .init) (map (λ c. c .comps) (a .cc))) (stages mode t)
+  pub stages-fitting : (how : Choices) (t : List (List (Placed Unparsed))) → Every (Begins txt) (joined t)
+      → Yields (λ a. Fitting txt (length t) (total sizeBefore (joined t)) (a .init) (map (λ c. c .comps) (a .cc))) (stages how t)
   unfolding stages
-  stages-fitting mode t h =
+  stages-fitting how t h =
       bound (stage1-fitting t h) λ t₁ f₁. bound (stage2-fitting (length t) (total sizeBefore (joined t)) t₁ f₁) λ t₂ f₂.
-      bound (stage3-comps 0 (t₂ .cc)) λ cc e. after (stage4 mode (elim (t₂ .init) [ none ↦ false | some p ↦ true ]) cc) λ o.
+      bound (stage3-comps 0 (t₂ .cc)) λ cc e. after (stage4 (how .mode) (hasStart how (t₂ .init)) cc) λ o.
       given (go t₂ cc e f₂)
     where
       go : (t₂ : Parsed) (cc : List Concatenation) → map (λ c. c .comps) cc ≡ t₂ .cc → Fitting txt (length t) (total sizeBefore (joined t)) (t₂ .init) (t₂ .cc)

@@ -11,7 +11,7 @@ use Rattle.definition.specs.Component.{splitRange, splitColon, parseComponent, 
 use Rattle.definition.specs.Concatenation.{checkFrom, check, stage3, merge}
 use Rattle.definition.specs.Overall.{placeFrom, overallFrom, middleFrom, oppositeFrom, stage4}
 use Rattle.definition.specs.Answer.{Answer}
-use Rattle.definition.specs.Run.{stages}
+use Rattle.definition.specs.Run.{under, stages}
 use Rattle.prepared.specs.Statement.{placedFrom, placedTree}
 
 -- "5", "6" and, with a starting value, "s:v[a]"; then "w"
@@ -28,6 +28,6 @@ example-fits : fits example ≡ true
 unfolding example fits joined all flat textOf packed sum tab soundForest depth
 example-fits = refl
 
-example-accepted : (a : Answer) × (stages 1 (placedTree example) ≡ ok a)
+example-accepted : (a : Answer) × (stages (under 1) (placedTree example) ≡ ok a)
 unfolding example sameBytes sum all joined tab half128 digitWorth digitsFrom inner unsignedParse tryParse parts flat textOf splitRange splitColon parseComponent eachIn each startingValue stage1 simplifyUsb simplifyRange simplifyLiteral simplify stage2 checkFrom check stage3 merge placeFrom overallFrom middleFrom oppositeFrom stage4 cutLast cutPair readBound parseUsb scanFrom parseRange chunks itemsOf bytesOf stages placedFrom placedTree
 example-accepted = (_, refl)

@@ -7,7 +7,7 @@ use Rattle.definition.specs.Tree.{textOf}
 use Rattle.definition.specs.Text.{Part, chunks, itemsOf, bytesOf}
 use Rattle.definition.specs.Ranges.{unbounded, scanFrom, parseRange}
 use Rattle.definition.specs.Component.{Component, variable, splitRange, splitColon, keepBase, eachIn, each, parseComponent, stage1Component, simplifyUsb, simplifyRange, simplify, startingValue, source, stage1, stage2}
-use Rattle.definition.specs.Run.{stages}
+use Rattle.definition.specs.Run.{Choices, stages}
 use Rattle.laws.specs.Results.{bind-ok, bind-assoc}
 use Rattle.answer_facts.specs.stages.Each.{Read, ReadTree, each-read, read-each}
 use Rattle.answer_facts.specs.stages.Statement.{later, InTurn, both, StagesRead, ReadFirst}
@@ -56,24 +56,24 @@ kept s p = go (stage1Component s (p .value))
     go (refused q) = refl
 
 -- by what the starting value and stage 1 answer
-in-order : (mode : ℕ) (t : List (List (Placed Unparsed))) (start : Result (Option (Placed Part))) (m : Result (List (List (Placed Component))))
+in-order : (how : Choices) (t : List (List (Placed Unparsed))) (start : Result (Option (Placed Part))) (m : Result (List (List (Placed Component))))
     → each (keepBase stage1Component) 0 t ≡ m
-    → (start >>= (λ init. m >>= λ cc. ok (record { init = init; cc = cc })) >>= stage2 >>= later mode)
-    ≡ (start >>= λ init. m >>= λ _. each (keepBase both) 0 t >>= λ u. later mode (record { init = init; cc = u }))
+    → (start >>= (λ init. m >>= λ cc. ok (record { init = init; cc = cc })) >>= stage2 >>= later how)
+    ≡ (start >>= λ init. m >>= λ _. each (keepBase both) 0 t >>= λ u. later how (record { init = init; cc = u }))
 unfolding stage2
-in-order mode t (refused q) m e = refl
-in-order mode t (ok init) (refused q) e = refl
-in-order mode t (ok init) (ok v) e =
+in-order how t (refused q) m e = refl
+in-order how t (ok init) (refused q) e = refl
+in-order how t (ok init) (ok v) e =
     rw (second (keepBase stage1Component) (keepBase (λ last. simplify)) (keepBase both) kept 0 (each-read (keepBase stage1Component) 0 t e))
-    (sym (bind-assoc (each (keepBase both) 0 t) (λ cc. ok (record { init = init; cc = cc })) (later mode)))
+    (sym (bind-assoc (each (keepBase both) 0 t) (λ cc. ok (record { init = init; cc = cc })) (later how)))
 
 pub in-turn : InTurn
 unfolding stages
-in-turn mode t = bind-assoc (stage1 t) stage2 (later mode)
+in-turn how t = bind-assoc (stage1 t) stage2 (later how)
 
 pub stages-read : StagesRead
 unfolding stage1
-stages-read mode t = in-turn mode t ∙ in-order mode t (startingValue 0 (source t)) (each (keepBase stage1Component) 0 t) refl
+stages-read how t = in-turn how t ∙ in-order how t (startingValue 0 (source t)) (each (keepBase stage1Component) 0 t) refl
 
 pub read-first : ReadFirst
 read-first t u e =

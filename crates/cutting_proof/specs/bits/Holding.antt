@@ -124,8 +124,8 @@ module _ (answer : Answer) (cb : List (List (Placed Component))) (l : List (Plac
 
 pub holds-bit : HoldsBit
 unfolding joined
-holds-bit t f p e mode answer e′ cb l h ca bits a b u v w c i k m =
-    go (p .cc) (rw append-snoc at c) (the-given (rw e′ at (later-merges mode p))) (the-given (rw e at (early-normal t f)))
+holds-bit t f p e how answer e′ cb l h ca bits a b u v w c i k m =
+    go (p .cc) (rw append-snoc at c) (the-given (rw e′ at (later-merges how p))) (the-given (rw e at (early-normal t f)))
   where
     x : Placed Component
     x = bitsBetween bits a b

@@ -8,6 +8,7 @@ use Rattle.definition.specs.Component.{Parsed}
 use Rattle.definition.specs.Concatenation.{merge}
 use Rattle.definition.specs.Overall.{stage4}
 use Rattle.definition.specs.Answer.{components}
+use Rattle.definition.specs.Run.{Choices, hasStart}
 use Rattle.cutting_proof.specs.component.Statement.{bare}
 use Rattle.answer_facts.specs.stages.Statement.{early, later}
 use Rattle.cutting_proof.specs.stages.Statement.{bareTree}
@@ -36,7 +37,7 @@ early-normal t h =
     bound (stage1-all (λ _. 0) (λ m n l. le-refl 0) (bareTree t) (tree-short t (simp tested at h .1))) λ p s.
     yields-of (λ q s′. s′ .every) (stage2-all (λ _. 0) (λ m n l. le-refl 0) (bareTree t) p s)
 
-pub later-merges : (mode : ℕ) (p : Parsed) → Yields (λ a. components a ≡ joined (map merge (p .cc))) (later mode p)
-later-merges mode p =
-    bound (stage3-comps 0 (p .cc)) λ ds e. after (stage4 mode (elim (p .init) [ none ↦ false | some q ↦ true ]) ds) λ o.
+pub later-merges : (how : Choices) (p : Parsed) → Yields (λ a. components a ≡ joined (map merge (p .cc))) (later how p)
+later-merges how p =
+    bound (stage3-comps 0 (p .cc)) λ ds e. after (stage4 (how .mode) (hasStart how (p .init)) ds) λ o.
     given (ap joined (merged-comps ds ∙ ap (map merge) e))

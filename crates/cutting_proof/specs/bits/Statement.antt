@@ -7,6 +7,7 @@ use Rattle.definition.specs.Image.{Placed}
 use Rattle.definition.specs.Tree.{Tree, fits}
 use Rattle.definition.specs.Component.{Component, Parsed}
 use Rattle.definition.specs.Answer.{Answer}
+use Rattle.definition.specs.Run.{Choices}
 use Rattle.answer_facts.specs.read.Statement.{shown}
 use Rattle.cutting.specs.Statement.{placeOf, pieceAt, bitIn, rising}
 use Rattle.answer_facts.specs.stages.Statement.{early, later}
@@ -26,7 +27,7 @@ SamePlace =
 -- the answer holds bit i there
 abbrev pub HoldsBit : Type 0
 HoldsBit =
-    (t : Tree) → fits t ≡ true → (p : Parsed) → early (bareTree t) ≡ ok p → (mode : ℕ) (answer : Answer) → later mode p ≡ ok answer →
+    (t : Tree) → fits t ≡ true → (p : Parsed) → early (bareTree t) ≡ ok p → (how : Choices) (answer : Answer) → later how p ≡ ok answer →
     (cb : List (List (Placed Component))) (l h : List (Placed Component)) (ca : List (List (Placed Component))) (bits : List ℕ) (a b : ℕ) →
     a < b → b ≤ length bits → all (λ x. ltb x 2) bits ≡ true →
     p .cc ≡ cb ++ (l ++ (bitsBetween bits a b ∷ []) ++ h) ∷ ca →

@@ -7,6 +7,7 @@ use Rattle.definition.specs.Image.{Unparsed, Placed}
 use Rattle.definition.specs.Tree.{Node, Tree, soundForest}
 use Rattle.definition.specs.Component.{Component, Parsed}
 use Rattle.definition.specs.Answer.{Answer}
+use Rattle.definition.specs.Run.{Choices}
 use Rattle.answer_facts.specs.stages.Statement.{early, later}
 use Rattle.cutting.specs.Statement.{Given, treeWith, newTree, scanned, fixedLiteral, readsAs, rising, piecesOf}
 use Rattle.cutting_proof.specs.component.Statement.{cutTo, bare}
@@ -52,7 +53,7 @@ CutEarly = (g : Given) → Cuttable g → (p : Parsed) → early (bareTree (tree
 -- stages 3 to 5 give the same answer
 abbrev pub CutLater : Type 0
 CutLater =
-    (mode : ℕ) (init : Option (Placed Rattle.definition.specs.Text.Part)) (cb : List (List (Placed Component))) (l h : List (Placed Component)) (ca : List (List (Placed Component)))
+    (how : Choices) (init : Option (Placed Rattle.definition.specs.Text.Part)) (cb : List (List (Placed Component))) (l h : List (Placed Component)) (ca : List (List (Placed Component)))
     (bits : List ℕ) (a : ℕ) (places : List ℕ) (b : ℕ) → rising a places b ≡ true → b ≤ length bits → length bits ≤ 4096 → (answer : Answer)
-    → later mode (record { init = init; cc = cb ++ (l ++ (bitsBetween bits a b ∷ []) ++ h) ∷ ca }) ≡ ok answer
-    → later mode (record { init = init; cc = cb ++ (l ++ pieceComponents bits a places b ++ h) ∷ ca }) ≡ ok answer
+    → later how (record { init = init; cc = cb ++ (l ++ (bitsBetween bits a b ∷ []) ++ h) ∷ ca }) ≡ ok answer
+    → later how (record { init = init; cc = cb ++ (l ++ pieceComponents bits a places b ++ h) ∷ ca }) ≡ ok answer

@@ -11,7 +11,7 @@ use Rattle.definition.specs.Image.{counts, treeOf}
 use Rattle.definition.specs.Check.{checkImage}
 use Rattle.definition.specs.Answer.{Answer, components, answerBytes}
 use Rattle.definition.specs.Listing.{listing, programArea, output}
-use Rattle.definition.specs.Run.{run, stages}
+use Rattle.definition.specs.Run.{Choices, under, run, stages}
 use Rattle.laws.specs.Tests.{tested}
 use Rattle.prepared.specs.back.Every.{all-tested}
 use Rattle.answer_facts.specs.fits.Accepts.{run-accepts}
@@ -47,9 +47,9 @@ counted image h =
 
 -- ---- an accepted run
 
-answer-listing : (image : List ℕ) (mode : ℕ) (a : Answer) → checkImage image ≡ ok tt → stages mode (treeOf image) ≡ ok a
+answer-listing : (image : List ℕ) (how : Choices) (a : Answer) → checkImage image ≡ ok tt → stages how (treeOf image) ≡ ok a
     → length (listing image (ok (answerBytes a))) ≤ longestListing
-answer-listing image mode a h e = go (counted image h) (answer-fits image h mode a e) (the-given (rw e at (stages-text mode (treeOf image))))
+answer-listing image how a h e = go (counted image h) (answer-fits image h how a e) (the-given (rw e at (stages-text how (treeOf image))))
   where
     go : Counted image → Fits image a → initText (a .init) + total textsOf (components a) ≤ total twice (joined (treeOf image))
         → length (listing image (ok (answerBytes a))) ≤ longestListing
@@ -64,22 +64,22 @@ answer-listing image mode a h e = go (counted image h) (answer-fits image h mode
           omega (arith, r .literal-bytes, f .literals, k .literals-most),
         )
 
-accepted-listing : (image : List ℕ) (mode area : ℕ) (bytes : List ℕ) → run image mode area ≡ ok bytes
+accepted-listing : (image : List ℕ) (how : Choices) (area : ℕ) (bytes : List ℕ) → run image how area ≡ ok bytes
     → length (listing image (ok bytes)) ≤ longestListing
-accepted-listing image mode area bytes e =
-    let h = run-accepts image mode area bytes e in
-    rw (h .bytes) at (answer-listing image mode (h .said) (h .checked) (h .staged))
+accepted-listing image how area bytes e =
+    let h = run-accepts image how area bytes e in
+    rw (h .bytes) at (answer-listing image how (h .said) (h .checked) (h .staged))
 
 -- ---- every run
 
-pub listing-most : (image : List ℕ) (mode area : ℕ) → length (listing image (run image mode area)) ≤ longestListing
-listing-most image mode area = go (run image mode area) refl
+pub listing-most : (image : List ℕ) (how : Choices) (area : ℕ) → length (listing image (run image how area)) ≤ longestListing
+listing-most image how area = go (run image how area) refl
   where
-    go : (r : Result (List ℕ)) → run image mode area ≡ r → length (listing image r) ≤ longestListing
-    go (ok bytes) e = accepted-listing image mode area bytes e
+    go : (r : Result (List ℕ)) → run image how area ≡ r → length (listing image r) ≤ longestListing
+    go (ok bytes) e = accepted-listing image how area bytes e
     go (refused q) e = le-trans (refused-most image q) (lit≤ tt)
 
 pub output-most : (input : List ℕ) → length (output input) ≤ longestListing
 unfolding output
 output-most [] = le-trans (refused-most [] (refusalOf 2 0 0)) (lit≤ tt)
-output-most (mode ∷ rest) = listing-most (take (maxInput - 1) rest) mode programArea
+output-most (mode ∷ rest) = listing-most (take (maxInput - 1) rest) (under mode) programArea

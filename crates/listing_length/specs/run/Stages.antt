@@ -13,7 +13,7 @@ use Rattle.definition.specs.Component.{Component, Prefix, Parsed, prefixOf, sta
 use Rattle.definition.specs.Concatenation.{Concatenation, isStaticLiteral, wholeLiteral, bitsOf, mergeOnto, merge, merged}
 use Rattle.definition.specs.Overall.{stage4}
 use Rattle.definition.specs.Answer.{components}
-use Rattle.definition.specs.Run.{stages}
+use Rattle.definition.specs.Run.{Choices, hasStart, stages}
 use Rattle.answer_facts.specs.read.Facts.{Yields, given, Every, every-nil, every-cons, after, bound, yields-placed}
 use Rattle.answer_facts.specs.read.Trees.{total, total-append, each-kept, stage3-comps, merged-comps}
 use Rattle.listing_length.specs.run.Items.{size, part-size}
@@ -123,12 +123,12 @@ rows-short (c ∷ t) =
 
 -- ---- the whole
 
-pub stages-text : (mode : ℕ) (t : List (List (Placed Unparsed)))
-    → Yields (λ a. initText (a .init) + total textsOf (components a) ≤ total twice (joined t)) (stages mode t)
+pub stages-text : (how : Choices) (t : List (List (Placed Unparsed)))
+    → Yields (λ a. initText (a .init) + total textsOf (components a) ≤ total twice (joined t)) (stages how t)
 unfolding stages
-stages-text mode t =
+stages-text how t =
     bound (stage1-short t) λ t₁ h₁. bound (stage2-short (total twice (joined t)) t₁ h₁) λ t₂ h₂.
-    bound (stage3-comps 0 (t₂ .cc)) λ cc e. after (stage4 mode (elim (t₂ .init) [ none ↦ false | some p ↦ true ]) cc) λ o. given (go t₂ cc e h₂)
+    bound (stage3-comps 0 (t₂ .cc)) λ cc e. after (stage4 (how .mode) (hasStart how (t₂ .init)) cc) λ o. given (go t₂ cc e h₂)
   where
     go : (t₂ : Parsed) (cc : List Concatenation) → map (λ c. c .comps) cc ≡ t₂ .cc → Short (total twice (joined t)) t₂
         → initText (t₂ .init) + total textsOf (joined (map (λ c. c .comps) (map merged cc))) ≤ total twice (joined t)

@@ -9,7 +9,7 @@ use Rattle.definition.specs.Check.{checkImage}
 use Rattle.definition.specs.Tree.{Tree, end, word, group, imageOf}
 use Rattle.definition.specs.Answer.{Answer, components, answerBytes, readAnswer}
 use Rattle.definition.specs.Listing.{output}
-use Rattle.definition.specs.Run.{stages}
+use Rattle.definition.specs.Run.{under, stages}
 use Rattle.definition.specs.Compute.{computed}
 use Rattle.answer_facts.specs.read.Trees.{total}
 use Rattle.listing_length.specs.Lines.{texts, literals}
@@ -32,7 +32,7 @@ checked : checkImage image ≡ ok tt
 unfolding computed example image
 checked = refl
 
-accepted : (a : Answer) × (stages 1 (treeOf image) ≡ ok a)
+accepted : (a : Answer) × (stages (under 1) (treeOf image) ≡ ok a)
 unfolding computed example image
 accepted = (_, refl)
 

@@ -1,4 +1,5 @@
 -- `output::listed` meets its contract: the listing of what the run left in an area as long as the program's. Assumes nothing.
+use Rattle.definition.specs.Run.{under}
 use borrow.Author.Needs.{needs}
 use mathlib.Core.Path.{sym}
 use Rattle.output.proofs.Listing.{shows}
@@ -11,7 +12,7 @@ returns c =
     let area = c .before .before .before .before .before .before .before .before .area in
     let r = c .before .before .before .before .before .before .run in
     let l = c .before .before .write-listing in
-    shows (a .image .now) (area .result) (r .last .1 .1 .0) (a .out .now) (l .last .1 .1 .1 .0) (a .mode) (r .result) (l .result) (r .ensures)
+    shows (a .image .now) (area .result) (r .last .1 .1 .0) (a .out .now) (l .last .1 .1 .1 .0) (under (a .mode)) (r .result) (l .result) (r .ensures)
     (sym (area .ensures)) (l .ensures)
 
 pub listed-spec : {M : Type 1} → statement M

@@ -10,7 +10,7 @@ use Rattle.definition.specs.Image.{Unparsed, Placed, counts, treeOf}
 use Rattle.definition.specs.Check.{checkImage}
 use Rattle.definition.specs.Text.{Part}
 use Rattle.definition.specs.Component.{Component, each, startingValue, source, stage1, stage2}
-use Rattle.definition.specs.Run.{stages, run, ranOn}
+use Rattle.definition.specs.Run.{Choices, stages, run, ranOn}
 use Rattle.laws.specs.Results.{bind-ok, bind-assoc, need-ok, need-then}
 use Rattle.laws.specs.Tests.{and-iff, leb-iff}
 use Rattle.prepared.specs.Statement.{Bytes}
@@ -27,27 +27,27 @@ use Rattle.stages.proofs.token_tree.Trees.{every-grown}
 
 -- ---- the stages
 
-by-stages : (mode : ℕ) (a : Result (Option (Placed Part))) (b : Result (List (List (Placed Component))))
-    → (a >>= (λ init. b >>= λ cc. ok (record { init = init; cc = cc })) >>= stage2 >>= later mode)
-    ≡ (a >>= λ init. b >>= each secondStage 0 >>= λ cc. later mode (record { init = init; cc = cc }))
+by-stages : (how : Choices) (a : Result (Option (Placed Part))) (b : Result (List (List (Placed Component))))
+    → (a >>= (λ init. b >>= λ cc. ok (record { init = init; cc = cc })) >>= stage2 >>= later how)
+    ≡ (a >>= λ init. b >>= each secondStage 0 >>= λ cc. later how (record { init = init; cc = cc }))
 unfolding stage2
-by-stages mode (refused q) b = refl
-by-stages mode (ok init) (refused q) = refl
-by-stages mode (ok init) (ok v) = sym (bind-assoc (each secondStage 0 v) (λ cc. ok (record { init = init; cc = cc })) (later mode))
+by-stages how (refused q) b = refl
+by-stages how (ok init) (refused q) = refl
+by-stages how (ok init) (ok v) = sym (bind-assoc (each secondStage 0 v) (λ cc. ok (record { init = init; cc = cc })) (later how))
 
-pub stages-two : (mode : ℕ) (t : List (List (Placed Unparsed))) → stages mode t
-    ≡ (startingValue 0 (source t) >>= λ init. twoStages t >>= λ cc. later mode (record { init = init; cc = cc }))
+pub stages-two : (how : Choices) (t : List (List (Placed Unparsed))) → stages how t
+    ≡ (startingValue 0 (source t) >>= λ init. twoStages t >>= λ cc. later how (record { init = init; cc = cc }))
 unfolding stage1
-stages-two mode t = in-turn mode t ∙ by-stages mode (startingValue 0 (source t)) (each firstStage 0 t)
+stages-two how t = in-turn how t ∙ by-stages how (startingValue 0 (source t)) (each firstStage 0 t)
 
 -- ---- the checks before the stages
 
 -- the run is those checks, and then the stages
-run-after : (image : List ℕ) (mode area : ℕ) → run image mode area ≡ (admittedOf image mode area >>= λ _. bytesOf (stages mode (treeOf image)))
+run-after : (image : List ℕ) (how : Choices) (area : ℕ) → run image how area ≡ (admittedOf image how area >>= λ _. bytesOf (stages how (treeOf image)))
 unfolding admittedOf run
-run-after image mode area =
-    go (need (leb mode 2) mode-above-2) (checkImage image) (need (leb (areaNeeded ((counts image) .c) ((counts image) .n) ((counts image) .b)) area) short-area)
-    (bytesOf (stages mode (treeOf image)))
+run-after image how area =
+    go (need (leb (how .mode) 2) mode-above-2) (checkImage image) (need (leb (areaNeeded ((counts image) .c) ((counts image) .n) ((counts image) .b)) area) short-area)
+    (bytesOf (stages how (treeOf image)))
   where
     go : (a b c : Result Unit) (r : Result (List ℕ)) → (a >>= λ _. b >>= λ _. c >>= λ _. r) ≡ (a >>= (λ _. b >>= λ _. c) >>= λ _. r)
     go (ok u) (ok v) c r = refl
@@ -59,23 +59,23 @@ unfolding all
 all-bytes [] h = refl
 all-bytes (x ∷ s) h = (and-iff (ltb x 256) (all (λ b. ltb b 256) s)) .1 (lt-ltb x 256 (h 0), all-bytes s (λ i. h (suc i)))
 
-fits-after : (image : List ℕ) (mode area : ℕ) → ((i : ℕ) → getD image i 0 < 256) → admittedOf image mode area ≡ ok tt → RunFits image area
+fits-after : (image : List ℕ) (how : Choices) (area : ℕ) → ((i : ℕ) → getD image i 0 < 256) → admittedOf image how area ≡ ok tt → RunFits image area
 unfolding admittedOf
-fits-after image mode area bytes h =
-    let (t, g) = need-then (leb mode 2) mode-above-2 _ h in
+fits-after image how area bytes h =
+    let (t, g) = need-then (leb (how .mode) 2) mode-above-2 _ h in
     let (u, c, n) = bind-ok (checkImage image) _ g in
     record { grown = every-grown image (all-bytes image bytes) c; checked = c; room = (leb-iff _ _) .0 (need-ok _ short-area n) }
 
-module _ (image : List ℕ) (mode : ℕ) (area : List ℕ) (s : Checked) (said : resultOf s ≡ admittedOf image mode (length area)) where
+module _ (image : List ℕ) (how : Choices) (area : List ℕ) (s : Checked) (said : resultOf s ≡ admittedOf image how (length area)) where
   pub entered : ((i : ℕ) → getD image i 0 < 256) → s ≡ C.Passed → RunFits image (length area)
-  entered bytes p = fits-after image mode (length area) bytes (sym said ∙ ap resultOf p)
+  entered bytes p = fits-after image how (length area) bytes (sym said ∙ ap resultOf p)
 
-  pub whole-entered : s ≡ C.Passed → {r : Result ℕ × List ℕ} → r ≡ cameTo area (bytesOf (stages mode (treeOf image))) → r ≡ ranOn image mode area
+  pub whole-entered : s ≡ C.Passed → {r : Result ℕ × List ℕ} → r ≡ cameTo area (bytesOf (stages how (treeOf image))) → r ≡ ranOn image how area
   whole-entered p e =
-      let ran : run image mode (length area) ≡ bytesOf (stages mode (treeOf image)) = run-after image mode (length area) ∙ rw (← said, p) in
+      let ran : run image how (length area) ≡ bytesOf (stages how (treeOf image)) = run-after image how (length area) ∙ rw (← said, p) in
       e ∙ ap (cameTo area) (sym ran)
 
-  pub whole-refused : {q : Refusal} → s ≡ C.Refused q → (refusedAs q, area) ≡ ranOn image mode area
+  pub whole-refused : {q : Refusal} → s ≡ C.Refused q → (refusedAs q, area) ≡ ranOn image how area
   whole-refused {q} e =
-      let ran : run image mode (length area) ≡ refusedAs q = run-after image mode (length area) ∙ rw (← said, e) in
+      let ran : run image how (length area) ≡ refusedAs q = run-after image how (length area) ∙ rw (← said, e) in
       ap (cameTo area) (sym ran)

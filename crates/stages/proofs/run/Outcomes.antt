@@ -13,7 +13,7 @@ use Rattle.definition.specs.Component.{Component, startingValue, source}
 use Rattle.definition.specs.Concatenation.{Concatenation, stage3, merged}
 use Rattle.definition.specs.Overall.{stage4}
 use Rattle.definition.specs.Answer.{Answer, answerBytes}
-use Rattle.definition.specs.Run.{stages}
+use Rattle.definition.specs.Run.{Choices, stages}
 use Rattle.laws.specs.Results.{bind-ok, need-then, ok-same}
 use Rattle.laws.specs.Sets.{sets-front}
 use Rattle.laws.specs.Tests.{tested}
@@ -66,16 +66,16 @@ module _ {A : Type 0} (m : Result A) (q : Checked) (said : resultOf q ≡ verdic
 
 -- ---- the starting value
 
-module _ (image : List ℕ) (mode : ℕ) (before : List ℕ) where
-  pub staged-on : {t : Tables} {s : Start} → StartFits image t s → {r : Result ℕ × List ℕ} → r ≡ cameTo before (bytesOf (behindStart image mode s))
-      → r ≡ cameTo before (bytesOf (stages mode (treeOf image)))
+module _ (image : List ℕ) (how : Choices) (before : List ℕ) where
+  pub staged-on : {t : Tables} {s : Start} → StartFits image t s → {r : Result ℕ × List ℕ} → r ≡ cameTo before (bytesOf (behindStart image how s))
+      → r ≡ cameTo before (bytesOf (stages how (treeOf image)))
   staged-on {s = s} f h =
-      let e : stages mode (treeOf image) ≡ behindStart image mode s = stages-two mode (treeOf image) ∙ rw (f .is) in
+      let e : stages how (treeOf image) ≡ behindStart image how s = stages-two how (treeOf image) ∙ rw (f .is) in
       h ∙ ap (λ m. cameTo before (bytesOf m)) (sym e)
 
   pub staged-off : {e : Refusal} → startingValue 0 (source (treeOf image)) ≡ refusedAs e
-      → (refusedAs e, before) ≡ cameTo before (bytesOf (stages mode (treeOf image)))
-  staged-off {e} h = came-refused before (stages mode (treeOf image)) e (stages-two mode (treeOf image) ∙ rw h)
+      → (refusedAs e, before) ≡ cameTo before (bytesOf (stages how (treeOf image)))
+  staged-off {e} h = came-refused before (stages how (treeOf image)) e (stages-two how (treeOf image) ∙ rw h)
 
 -- ---- stages 1 and 2
 
@@ -85,14 +85,14 @@ module _ {image : List ℕ} {q : Checked} {words : List ℕ} (said : StagesAre i
       let (cc, r) = passed-ok (twoStages (treeOf image)) q (said .answer) p in
       record { count = ap (λ (x : Tables). x .c) (f .tables-are); text = f .text; is = f .is; cc = cc; read = r; kept = said .kept cc r; long = l }
 
-  module _ (mode : ℕ) (before : List ℕ) (s : Start) where
+  module _ (how : Choices) (before : List ℕ) (s : Start) where
     pub started-on : q ≡ C.Passed → {r : Result ℕ × List ℕ}
-        → ((cc : List (List (Placed Component))) → twoStages (treeOf image) ≡ ok cc → r ≡ cameTo before (bytesOf (laterOf image mode s cc)))
-        → r ≡ cameTo before (bytesOf (behindStart image mode s))
+        → ((cc : List (List (Placed Component))) → twoStages (treeOf image) ≡ ok cc → r ≡ cameTo before (bytesOf (laterOf image how s cc)))
+        → r ≡ cameTo before (bytesOf (behindStart image how s))
     started-on p h = let (cc, r) = passed-ok (twoStages (treeOf image)) q (said .answer) p in rw r (h cc r)
 
-    pub started-off : {e : Refusal} → q ≡ C.Refused e → (refusedAs e, before) ≡ cameTo before (bytesOf (behindStart image mode s))
-    started-off {e} p = came-refused before (behindStart image mode s) e (rw (refused-too (twoStages (treeOf image)) q (said .answer) e p))
+    pub started-off : {e : Refusal} → q ≡ C.Refused e → (refusedAs e, before) ≡ cameTo before (bytesOf (behindStart image how s))
+    started-off {e} p = came-refused before (behindStart image how s) e (rw (refused-too (twoStages (treeOf image)) q (said .answer) e p))
 
 -- ---- stage 3
 
@@ -115,18 +115,18 @@ module _ {image : List ℕ} {area : ℕ} (fits : RunFits image area) {c : ℕ} {
         let (ds, r) = passed-ok (stage3 0 (f .cc)) q (told .0) p in
         record { read = f; ds = ds; checked = r; heads-are = told .1 ds r; heads-long = fit }
 
-    module _ (mode : ℕ) (before : List ℕ) where
-      pub kept-on : q ≡ C.Passed → (o : Outcome) (after : List ℕ) → JudgedAs image mode c s heads words o before after → ReadAs image mode c s words o before after
+    module _ (how : Choices) (before : List ℕ) where
+      pub kept-on : q ≡ C.Passed → (o : Outcome) (after : List ℕ) → JudgedAs image how c s heads words o before after → ReadAs image how c s words o before after
       kept-on p o after h cc e =
           let (ds, r) = passed-ok (stage3 0 (f .cc)) q (told .0) p in
           let same : f .cc ≡ cc = ok-same (f .read) e in
           h cc ds e (rw (← same) r)
 
       pub kept-off : {e : Refusal} → q ≡ C.Refused e → (cc : List (List (Placed Component))) → twoStages (treeOf image) ≡ ok cc
-          → (refusedAs e, before) ≡ cameTo before (bytesOf (laterOf image mode s cc))
+          → (refusedAs e, before) ≡ cameTo before (bytesOf (laterOf image how s cc))
       kept-off {e} p cc r =
           let same : f .cc ≡ cc = ok-same (f .read) r in
-          came-refused before (laterOf image mode s cc) e (rw (← same, refused-too (stage3 0 (f .cc)) q (told .0) e p))
+          came-refused before (laterOf image how s cc) e (rw (← same, refused-too (stage3 0 (f .cc)) q (told .0) e p))
 
 -- ---- stages 4 and 5
 
@@ -161,29 +161,29 @@ module _ {image : List ℕ} (before : List ℕ) (fits : RunFits image (length be
       judged-is image words heads c (f .read .cc) (f .ds) (f .checked) (judged-counts .count) (judged-counts .few-components) (judged-counts .sizes)
       (f .read .kept) (f .heads-are)
 
-  module _ (mode : ℕ) (q : OverallResult)
-      (said : (ds : List Concatenation) → Judged image words heads c ds → answerOf q ≡ stage4 mode (not (eqb (s .after .0) 0)) ds) where
-    judged-later : laterOf image mode s (f .read .cc)
+  module _ (how : Choices) (q : OverallResult)
+      (said : (ds : List Concatenation) → Judged image words heads c ds → answerOf q ≡ stage4 (how .mode) (not (eqb (s .after .0) 0)) ds) where
+    judged-later : laterOf image how s (f .read .cc)
         ≡ (answerOf q >>= λ o. ok (record { init = initOf image s; overall = o; cc = map merged (f .ds) }))
     judged-later = rw (f .checked, given-is image s, said (f .ds) judged)
 
     pub judged-off : {e : Refusal} → q ≡ R.Refused e
         → (cc : List (List (Placed Component))) (ds : List Concatenation) → twoStages (treeOf image) ≡ ok cc → stage3 0 cc ≡ ok ds
-        → (refusedAs e, before) ≡ cameTo before (bytesOf (laterOf image mode s cc))
+        → (refusedAs e, before) ≡ cameTo before (bytesOf (laterOf image how s cc))
     judged-off {e} p cc ds r t =
         let same : f .read .cc ≡ cc = ok-same (f .read .read) r in
-        came-refused before (laterOf image mode s cc) e (rw (← same) (judged-later ∙ rw p))
+        came-refused before (laterOf image how s cc) e (rw (← same) (judged-later ∙ rw p))
 
     module _ {o : Overall} (is : q ≡ R.Ok o) where
       abbrev a : Answer
       a = answerFrom image (scannedBase image) s o (f .ds)
 
-      accepted : laterOf image mode s (f .read .cc) ≡ ok a
+      accepted : laterOf image how s (f .read .cc) ≡ ok a
       accepted = judged-later ∙ rw is
 
       fitting : Fitting c (length before) a
       fitting =
-          let g = answer-fits image (fits .checked) mode a (stages-two mode (treeOf image) ∙ rw (f .read .is, f .read .read) accepted) in
+          let g = answer-fits image (fits .checked) how a (stages-two how (treeOf image) ∙ rw (f .read .is, f .read .read) accepted) in
           let n = g .merged in
           let l = g .literals in
           let r = g .room in
@@ -214,8 +214,8 @@ module _ {image : List ℕ} (before : List ℕ) (fits : RunFits image (length be
 
       pub judged-on : (r : ℕ) (after : List ℕ) → Stage5Is image words heads c o s r before after
           → (cc : List (List (Placed Component))) (ds : List Concatenation) → twoStages (treeOf image) ≡ ok cc → stage3 0 cc ≡ ok ds
-          → (ok r, after) ≡ cameTo before (bytesOf (laterOf image mode s cc))
+          → (ok r, after) ≡ cameTo before (bytesOf (laterOf image how s cc))
       judged-on r after h cc ds e t =
           let same : f .read .cc ≡ cc = ok-same (f .read .read) e in
           let (x, y) = h (scannedBase image) (f .ds) answers in
-          came-accepted before after (laterOf image mode s cc) a r (rw (← same) accepted) (fitting .room) x y
+          came-accepted before after (laterOf image how s cc) a r (rw (← same) accepted) (fitting .room) x y

@@ -10,7 +10,7 @@ use Rattle.definition.specs.Text.{Part}
 use Rattle.definition.specs.Component.{Component, startingValue, source}
 use Rattle.definition.specs.Concatenation.{Concatenation, stage3}
 use Rattle.definition.specs.Answer.{Answer, answerBytes}
-use Rattle.definition.specs.Run.{stages, areaAfter}
+use Rattle.definition.specs.Run.{Choices, stages, areaAfter}
 use Rattle.answer_facts.specs.stages.Statement.{later}
 use Rattle.errors.specs.Refused.{outcomeOf}
 use Rattle.errors.specs.declared.Outcome.{Outcome}
@@ -40,8 +40,8 @@ pub record RunFits (image : List ℕ) (area : ℕ) : Type 0 where
 abbrev pub Came : Result Answer → Outcome → List ℕ → List ℕ → Type 0
 Came m o before after = (outcomeOf o, after) ≡ cameTo before (bytesOf m)
 
-abbrev pub StagesAs : List ℕ → ℕ → Outcome → List ℕ → List ℕ → Type 0
-StagesAs image mode o before after = Came (stages mode (treeOf image)) o before after
+abbrev pub StagesAs : List ℕ → Choices → Outcome → List ℕ → List ℕ → Type 0
+StagesAs image how o before after = Came (stages how (treeOf image)) o before after
 
 -- ---- behind the starting value
 
@@ -55,14 +55,14 @@ pub record StartFits (image : List ℕ) (t : Tables) (s : Start) : Type 0 where
   pub is : startingValue 0 (source (treeOf image)) ≡ ok (initOf image s)
 
 -- stages 3 to 5 of these components, and stages 1 to 5, with this starting value
-abbrev pub laterOf : List ℕ → ℕ → Start → List (List (Placed Component)) → Result Answer
-laterOf image mode s cc = later mode (record { init = initOf image s; cc = cc })
+abbrev pub laterOf : List ℕ → Choices → Start → List (List (Placed Component)) → Result Answer
+laterOf image how s cc = later how (record { init = initOf image s; cc = cc })
 
-abbrev pub behindStart : List ℕ → ℕ → Start → Result Answer
-behindStart image mode s = twoStages (treeOf image) >>= laterOf image mode s
+abbrev pub behindStart : List ℕ → Choices → Start → Result Answer
+behindStart image how s = twoStages (treeOf image) >>= laterOf image how s
 
-abbrev pub StartedAs : List ℕ → ℕ → Start → Outcome → List ℕ → List ℕ → Type 0
-StartedAs image mode s o before after = Came (behindStart image mode s) o before after
+abbrev pub StartedAs : List ℕ → Choices → Start → Outcome → List ℕ → List ℕ → Type 0
+StartedAs image how s o before after = Came (behindStart image how s) o before after
 
 -- ---- behind stages 1 and 2
 
@@ -75,9 +75,9 @@ pub record ReadFits (image : List ℕ) (c : ℕ) (s : Start) (words : List ℕ) 
   pub kept : KeptFrom image words 0 (joined cc)
   pub long : 11 * (counts image) .n ≤ length words
 
-abbrev pub ReadAs : List ℕ → ℕ → ℕ → Start → List ℕ → Outcome → List ℕ → List ℕ → Type 0
-ReadAs image mode c s words o before after =
-    (cc : List (List (Placed Component))) → twoStages (treeOf image) ≡ ok cc → Came (laterOf image mode s cc) o before after
+abbrev pub ReadAs : List ℕ → Choices → ℕ → Start → List ℕ → Outcome → List ℕ → List ℕ → Type 0
+ReadAs image how c s words o before after =
+    (cc : List (List (Placed Component))) → twoStages (treeOf image) ≡ ok cc → Came (laterOf image how s cc) o before after
 
 -- ---- behind stage 3
 
@@ -88,7 +88,7 @@ pub record JudgedFits (image : List ℕ) (c : ℕ) (s : Start) (heads words : Li
   pub heads-are : HeadsAre heads ds
   pub heads-long : 2 * c ≤ length heads
 
-abbrev pub JudgedAs : List ℕ → ℕ → ℕ → Start → List ℕ → List ℕ → Outcome → List ℕ → List ℕ → Type 0
-JudgedAs image mode c s heads words o before after =
+abbrev pub JudgedAs : List ℕ → Choices → ℕ → Start → List ℕ → List ℕ → Outcome → List ℕ → List ℕ → Type 0
+JudgedAs image how c s heads words o before after =
     (cc : List (List (Placed Component))) (ds : List Concatenation) → twoStages (treeOf image) ≡ ok cc → stage3 0 cc ≡ ok ds
-    → Came (laterOf image mode s cc) o before after
+    → Came (laterOf image how s cc) o before after

@@ -1,3 +1,4 @@
+use Rattle.definition.specs.Run.{under}
 use borrow.Author.Needs.{needs}
 use Rattle.stages.specs.component.Start.{scannedBase}
 use Rattle.stages.proofs.run.Outcomes.{judged-counts, judged-off, answers, judged-on}
@@ -17,7 +18,7 @@ stage5-requires c κs =
       scannedBase (s .args .image .now),
       f .ds,
       f .heads-long,
-      answers (s .args .area .now) (s .pre .0) f (s .args .mode) (q .result) (q .ensures) (c .before .before .o .given .1),
+      answers (s .args .area .now) (s .pre .0) f (under (s .args .mode)) (q .result) (q .ensures) (c .before .before .o .given .1),
     )
 
 returns : tie.Need-returns
@@ -25,14 +26,14 @@ returns c =
     let s = c .before .before .before .before .before .before .before .before .before .before .before .before .before in
     let q = c .before .before .before .before .before .before .before .stage4 in
     let w = c .before .before .stage5 in
-    judged-on (s .args .area .now) (s .pre .0) (s .pre .1) (s .args .mode) (q .result) (q .ensures)
+    judged-on (s .args .area .now) (s .pre .0) (s .pre .1) (under (s .args .mode)) (q .result) (q .ensures)
     (c .before .before .before .before .before .o .given .1) (w .result) (w .last .0) (w .ensures)
 
 returns-2 : tie.Need-returns-2
 returns-2 c =
     let s = c .before .before .before .before .before .before .before .before .before in
     let q = c .before .before .before .stage4 in
-    judged-off (s .args .area .now) (s .pre .0) (s .pre .1) (s .args .mode) (q .result) (q .ensures) (c .before .e .given .1)
+    judged-off (s .args .area .now) (s .pre .0) (s .pre .1) (under (s .args .mode)) (q .result) (q .ensures) (c .before .e .given .1)
 
 pub judged-spec : {M : Type 1} → statement M
 judged-spec =

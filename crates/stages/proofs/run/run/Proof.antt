@@ -1,3 +1,4 @@
+use Rattle.definition.specs.Run.{under}
 use borrow.Author.Needs.{needs}
 use Rattle.stages.proofs.run.Ordered.{entered, whole-entered, whole-refused}
 use Rattle.stages.proofs.run.run.Statement.{statement}
@@ -7,21 +8,21 @@ sized-requires : tie.Need-sized-requires
 sized-requires c κs =
     let a = c .before .before .before .before .before .before .args in
     let s = c .before .before .before .admitted in
-    entered (a .image .now) (a .mode) (a .area .now) (s .result) (s .ensures)
+    entered (a .image .now) (under (a .mode)) (a .area .now) (s .result) (s .ensures)
     (λ i. c .before .before .before .before .before .shared-slice-known .given i .fits) (c .before .enum-told .given .1)
 
 returns : tie.Need-returns
 returns c =
     let a = c .before .before .before .before .before .before .before .before .before .args in
     let s = c .before .before .before .before .before .before .admitted in
-    whole-entered (a .image .now) (a .mode) (a .area .now) (s .result) (s .ensures)
+    whole-entered (a .image .now) (under (a .mode)) (a .area .now) (s .result) (s .ensures)
     (c .before .before .before .before .enum-told .given .1) (c .before .before .sized .ensures)
 
 returns-2 : tie.Need-returns-2
 returns-2 c =
     let a = c .before .before .before .before .before .before .args in
     let s = c .before .before .before .admitted in
-    whole-refused (a .image .now) (a .mode) (a .area .now) (s .result) (s .ensures) (c .before .q .given .1)
+    whole-refused (a .image .now) (under (a .mode)) (a .area .now) (s .result) (s .ensures) (c .before .q .given .1)
 
 pub run-spec : {M : Type 1} → statement M
 run-spec =

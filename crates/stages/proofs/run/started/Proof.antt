@@ -2,6 +2,7 @@ use borrow.Author.Needs.{needs}
 use Prim.Native.Nat.{_*_, _≤_}
 use lib.ListN.{length}
 use Rattle.definition.specs.Image.{counts}
+use Rattle.definition.specs.Run.{under}
 use Rattle.stages.proofs.run.Starting.{start-after}
 use Rattle.stages.proofs.run.Outcomes.{read-fits, started-on, started-off}
 use Rattle.stages.proofs.run.started.Statement.{statement}
@@ -22,13 +23,13 @@ kept-requires c κs =
 returns : tie.Need-returns
 returns c =
     let a = c .before .before .before .before .before .before .before .before .before .before .before .before .before .before .args in
-    started-on (c .before .before .before .before .before .before .before .before .before .stage2 .ensures) (a .mode) (a .area .now) (a .s)
+    started-on (c .before .before .before .before .before .before .before .before .before .stage2 .ensures) (under (a .mode)) (a .area .now) (a .s)
     (c .before .before .before .before .before .enum-told .given .1) (c .before .before .kept .ensures)
 
 returns-2 : tie.Need-returns-2
 returns-2 c =
     let a = c .before .before .before .before .before .before .before .before .before .before .args in
-    started-off (c .before .before .before .before .before .stage2 .ensures) (a .mode) (a .area .now) (a .s) (c .before .e .given .1)
+    started-off (c .before .before .before .before .before .stage2 .ensures) (under (a .mode)) (a .area .now) (a .s) (c .before .e .given .1)
 
 pub started-spec : {M : Type 1} → statement M
 started-spec =
