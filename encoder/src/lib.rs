@@ -15,6 +15,7 @@ pub mod image;
 pub mod listing;
 pub mod show;
 
+mod cells;
 mod fault;
 mod lexer;
 mod line;
@@ -22,6 +23,6 @@ mod literal;
 mod quotes;
 
 pub use fault::Fault;
-pub use lexer::{Placed, Token, tokens};
+pub use lexer::{BYTE_ORDER_MARK, Placed, Token, tokens};
 pub use line::{Line, encode, literal_of, read_line, tree_of};
 pub use literal::read_literal;

@@ -2,6 +2,8 @@
 
 use std::ops::Range;
 
+use crate::cells::cells;
+
 /// A longer line is shown in part.
 const MOST_COLUMNS: usize = 100;
 /// Columns of such a line that are shown before the place.
@@ -34,10 +36,11 @@ pub fn printable(c: char) -> char {
 
 /// Control characters, and those of no width that pasted text brings along.
 pub fn is_invisible(c: char) -> bool {
-    let no_width = ['\u{ad}', '\u{feff}'].contains(&c)
+    let no_width = ['\u{ad}', '\u{61c}', '\u{feff}'].contains(&c)
         || ('\u{200b}'..='\u{200f}').contains(&c)
         || ('\u{2028}'..='\u{202e}').contains(&c)
-        || ('\u{2060}'..='\u{206f}').contains(&c);
+        || ('\u{2060}'..='\u{206f}').contains(&c)
+        || ('\u{e0000}'..='\u{e007f}').contains(&c);
     c.is_control() || no_width
 }
 
@@ -70,12 +73,13 @@ fn part(chars: &[char], window: &Range<usize>) -> String {
     format!("{before}{shown}{after}")
 }
 
-/// Carets below the spans; a tab stays a tab, so that they line up.
+/// Carets below the spans. A tab stays a tab, and a character has as many
+/// carets as it takes columns, so that they line up.
 fn carets(chars: &[char], window: &Range<usize>, spans: &[Range<usize>]) -> String {
     let below = |i: usize| match chars[i] {
-        '\t' => '\t',
-        _ if spans.iter().any(|span| span.contains(&i)) => '^',
-        _ => ' ',
+        '\t' => "\t".to_owned(),
+        c if spans.iter().any(|span| span.contains(&i)) => "^".repeat(cells(c)),
+        c => " ".repeat(cells(c)),
     };
     let before = if window.start > 0 { "   " } else { "" };
     let line = before.to_owned() + &window.clone().map(below).collect::<String>();
