@@ -140,7 +140,7 @@ fn hint(line: &Line, number: u32, named: Named) -> Option<&'static str> {
         17 => literal_hint(line, named)?,
         30 => "a filler of the literal's width may stand there, as in `..8`",
         40 => "a starting value and its colon begin the line, as in `zero: a, ..4`",
-        42 | 44 | 45 => "one more concatenation of a filler fixes the width, as in `; ..64`",
+        42..=45 => "one more concatenation of a filler fixes the width, as in `; ..64`",
         _ => return None,
     })
 }

@@ -21,6 +21,7 @@ mod lexer;
 mod line;
 mod literal;
 mod quotes;
+mod slips;
 
 pub use fault::Fault;
 pub use lexer::{BYTE_ORDER_MARK, Placed, Token, tokens};

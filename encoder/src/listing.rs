@@ -29,6 +29,15 @@ pub fn outcome(listing: &str) -> Outcome {
     }
 }
 
+/// For each concatenation, whether its width is known.
+pub fn known_widths(listing: &str) -> Vec<bool> {
+    let width = |line: &str| {
+        let mut fields = line.split(' ');
+        (fields.next() == Some("c")).then(|| fields.nth(2).is_some_and(|width| width != "-"))
+    };
+    listing.lines().filter_map(width).collect()
+}
+
 /// The texts of all bounds, in the listing's order, empty ones left out.
 pub fn bound_texts(listing: &str) -> Vec<&str> {
     let mut texts = vec![];
