@@ -24,6 +24,6 @@ mod quotes;
 mod slips;
 
 pub use fault::Fault;
-pub use lexer::{BYTE_ORDER_MARK, Placed, Token, tokens};
+pub use lexer::{Placed, Token, tokens};
 pub use line::{Line, encode, literal_of, read_line, tree_of};
 pub use literal::read_literal;

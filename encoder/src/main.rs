@@ -9,7 +9,7 @@ use std::{
 };
 
 use layout_line::{
-    BYTE_ORDER_MARK, Fault, explain,
+    Fault, explain,
     hints::{hints, hints_of_text},
     image::image_of,
     listing::{Outcome, outcome},
@@ -87,8 +87,7 @@ fn mode_of(word: &str) -> Result<u8, String> {
     word.parse().map_err(|_| format!("layout-line: `{word}` is no mode\n{USAGE}"))
 }
 
-/// All of standard input, which must be UTF-8, without the mark that some
-/// editors put first: nobody sees it, so no column counts it.
+/// All of standard input, which must be UTF-8.
 fn line_of_input() -> Result<String, String> {
     if io::stdin().is_terminal() {
         eprintln!("layout-line: type a line, then end it with Enter and Ctrl-D");
@@ -98,15 +97,14 @@ fn line_of_input() -> Result<String, String> {
         .lock()
         .read_to_end(&mut bytes)
         .map_err(|e| format!("layout-line: standard input: {e}"))?;
-    let text = String::from_utf8(bytes).map_err(|error| {
+    String::from_utf8(bytes).map_err(|error| {
         // up to the first wrong byte the lossy text is the same
         let at = error.utf8_error().valid_up_to();
         let text = String::from_utf8_lossy(error.as_bytes());
         let place = at..at + char::REPLACEMENT_CHARACTER.len_utf8();
         let words = format!("byte {} of the text is no UTF-8", at + 1);
         explain::fault(&text, &Fault::at(place, words))
-    })?;
-    Ok(text.strip_prefix(BYTE_ORDER_MARK).map(str::to_owned).unwrap_or(text))
+    })
 }
 
 /// What the program prints when it is given the input.

@@ -2,7 +2,7 @@
 
 use std::ops::Range;
 
-use crate::cells::cells;
+use crate::{cells::cells, lexer::BYTE_ORDER_MARK};
 
 /// A longer line is shown in part.
 const MOST_COLUMNS: usize = 100;
@@ -11,6 +11,8 @@ const BEFORE: usize = 20;
 
 /// Every line of the text that the places touch, with carets under them.
 pub fn show(text: &str, places: &[Range<usize>]) -> String {
+    let places: Vec<_> = places.iter().map(|place| seen(text, place).1).collect();
+    let (text, _) = seen(text, &(0..0));
     let gutter = text.split('\n').count().to_string().len();
     let mut shown = String::new();
     let mut start = 0;
@@ -26,6 +28,14 @@ pub fn show(text: &str, places: &[Range<usize>]) -> String {
         }
     }
     shown
+}
+
+/// A text and a place in it without the mark that some editors put first:
+/// nobody sees it, so no column counts it.
+fn seen<'a>(text: &'a str, place: &Range<usize>) -> (&'a str, Range<usize>) {
+    let rest = text.strip_prefix(BYTE_ORDER_MARK).unwrap_or(text);
+    let gone = text.len() - rest.len();
+    (rest, place.start.saturating_sub(gone)..place.end.saturating_sub(gone))
 }
 
 /// A character as it is shown: one that is not seen, or that would move the
@@ -88,6 +98,7 @@ fn carets(chars: &[char], window: &Range<usize>, spans: &[Range<usize>]) -> Stri
 
 /// A place in words, lines and columns (characters) counted from 1.
 pub fn describe(text: &str, place: &Range<usize>) -> String {
+    let (text, place) = seen(text, place);
     let last = text[place.clone()].char_indices().next_back().map_or(0, |(at, _)| at);
     let (line, column) = position(text, place.start);
     let (last_line, last_column) = position(text, place.start + last);
