@@ -14,7 +14,7 @@ const WIDE = /[\p{Script=Han}\p{Script=Hiragana}\p{Script=Katakana}\p{Script=Han
 /** How many characters' width a text takes in a font of one width. */
 function cells(text) {
   let sum = 0;
-  for (const c of text) sum += /\p{M}/u.test(c) ? 0 : WIDE.test(c) ? 2 : 1;
+  for (const c of text) sum += /[\p{M}\p{Cf}]/u.test(c) ? 0 : WIDE.test(c) ? 2 : 1;
   return sum;
 }
 

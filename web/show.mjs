@@ -3,7 +3,7 @@ import { ALIGNMENTS } from './answer.mjs';
 import { html, svg } from './elements.mjs';
 import { pictureOf } from './picture.mjs';
 import { rulerRows, spanWords } from './ruler.mjs';
-import { counted, shortened, shownBytes, shownConcatenation, shownLine } from './text.mjs';
+import { apart, counted, shortened, shownBytes, shownConcatenation, shownLine } from './text.mjs';
 
 /** Heights of the drawing: a box, the numbers under it, and what stands free below them. */
 const BOX = 46;
@@ -91,7 +91,7 @@ function table(ruler, i) {
   const heads = ['kind', 'field', 'from', 'to', 'width'].map((name, k) => html('th', { scope: 'col', class: k > 1 ? 'number' : '' }, name));
   const rows = rulerRows(ruler).map(([kind, label, ...numbers]) => {
     const cells = numbers.map((number) => html('td', { class: /[0-9]{9}/.test(number) ? 'number long' : 'number' }, number));
-    return html('tr', {}, html('td', {}, kind), html('th', { scope: 'row' }, html('bdi', {}, label)), ...cells);
+    return html('tr', {}, html('td', {}, kind), html('th', { scope: 'row' }, ...apart(label).map((part) => html('bdi', {}, part))), ...cells);
   });
   const caption = html('caption', {}, `Bits of ${shownConcatenation(i)}, the highest field first`);
   return html('table', {}, caption, html('thead', {}, html('tr', {}, ...heads)), html('tbody', {}, ...rows));

@@ -10,6 +10,20 @@ c 1 1 40 none D Z
 variable +0 +40 card
 `;
 
+/** An expression for the page: how far from the left the first such part of an element's text stands, or null. */
+const leftOf = (selector, part) => `(() => {
+  const texts = document.createTreeWalker(document.querySelector(${JSON.stringify(selector)}), NodeFilter.SHOW_TEXT);
+  while (texts.nextNode()) {
+    const at = texts.currentNode.data.indexOf(${JSON.stringify(part)});
+    if (at < 0) continue;
+    const range = document.createRange();
+    range.setStart(texts.currentNode, at);
+    range.setEnd(texts.currentNode, at + 1);
+    return range.getBoundingClientRect().left;
+  }
+  return null;
+})()`;
+
 export const CHECKS = {
   async 'the first lines'(page, expect) {
     expect('verdict', await page.verdict(), 'The same card: yes.');
@@ -89,6 +103,21 @@ export const CHECKS = {
     const made = "document.querySelectorAll('main img, main b, main i, main script').length";
     expect('elements made of it', await page.value(made), 0);
     expect('scripts run by it', await page.value('document.title'), 'Layout lines');
+  },
+
+  async 'names from right to left'(page, expect) {
+    const inOrder = async (selector, ...parts) => {
+      const left = [];
+      for (const part of parts) left.push(await page.value(leftOf(selector, part)));
+      return left.every((x, i) => x !== null && (i === 0 || x > left[i - 1]));
+    };
+    await page.type('one', 'x[..4], \u05d0\u05d1[3..7], y[\u05d0..8]; c');
+    expect('field', (await page.table('one', 0))[1][1], '\u05d0\u05d1[3..7]');
+    expect('its range in the table', await inOrder('#one-picture tr:nth-child(2) th', '\u05d0', '3', '7'), true);
+    expect('a bound', await inOrder('#one-picture tr:nth-child(3) th', 'y', '\u05d0', '8'), true);
+    expect('in the picture', await inOrder('#one-picture g:nth-child(2) .label', '\u05d0', '3', '7'), true);
+    await page.type('one', '\u05d0\u05d1[9..8], b; c');
+    expect('a refused line', await inOrder('#one-message .line', '\u05d0', 'b', 'c'), true);
   },
 
   async 'unknown widths'(page, expect) {
