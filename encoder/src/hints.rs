@@ -34,8 +34,13 @@ fn hints_but(text: &str, line: &Line, agreed: &[usize]) -> Vec<String> {
     let open = concatenations.filter(|(i, _)| !agreed.contains(i));
     sorts.push(open.flat_map(|(_, comps)| comps).filter_map(one_bit).collect());
     sorts.push(colons_elsewhere(line));
-    sorts.push(components().flat_map(|comp| look_alikes(&comp.items)).collect());
-    sorts.into_iter().filter_map(first_of).chain(invisible(text)).collect()
+    sorts.into_iter().filter_map(first_of).chain(hints_of_characters(text, line)).collect()
+}
+
+/// Those about single characters, which may be why a text is refused.
+pub fn hints_of_characters(text: &str, line: &Line) -> Vec<String> {
+    let others = line.tree.components().flat_map(|comp| look_alikes(&comp.items)).collect();
+    first_of(others).into_iter().chain(invisible(text)).collect()
 }
 
 /// The concatenations whose width is known and is that of one without single

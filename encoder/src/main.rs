@@ -10,7 +10,7 @@ use std::{
 
 use layout_line::{
     Fault, explain,
-    hints::{hints, hints_of_text},
+    hints::{hints, hints_of_characters, hints_of_text},
     image::image_of,
     listing::{Outcome, outcome},
     read_line,
@@ -68,9 +68,8 @@ fn run(program: &str, mode: &str) -> Result<u8, String> {
         Outcome::Refused { number, first, second } => {
             eprint!("{}", explain::refusal(&text, &line, number, first, second));
             // stage 4 is about widths
-            if number >= 41 {
-                say_hints(&hints_of_text(&text, &line));
-            }
+            let hints = if number >= 41 { hints_of_text } else { hints_of_characters };
+            say_hints(&hints(&text, &line));
             Ok(REFUSED)
         }
         Outcome::Unknown => Err(format!("layout-line: {program}: printed no listing")),
