@@ -4,7 +4,7 @@ use crate::{
     image::Comp,
     lexer::BYTE_ORDER_MARK,
     line::{Line, single_colon},
-    listing::{bound_texts, known_widths},
+    listing::{bound_texts, static_widths},
     show::is_invisible,
     slips::{SLIPS, look_alikes, one_bit, short, written},
 };
@@ -46,9 +46,9 @@ pub fn hints_of_characters(text: &str, line: &Line) -> Vec<String> {
 /// The concatenations whose width is known and is that of one without single
 /// bits: these were meant.
 fn agreed(line: &Line, listing: &str) -> Vec<usize> {
-    let known = known_widths(listing);
+    let widths = static_widths(listing);
     let all = 0..line.tree.concatenations.len();
-    let known: Vec<usize> = all.filter(|i| known.get(*i) == Some(&true)).collect();
+    let known: Vec<usize> = all.filter(|i| widths.get(*i).is_some_and(Option::is_some)).collect();
     let plain = |i: &usize| line.tree.concatenations[*i].iter().all(|comp| one_bit(comp).is_none());
     if known.iter().any(plain) { known } else { vec![] }
 }

@@ -29,13 +29,10 @@ pub fn outcome(listing: &str) -> Outcome {
     }
 }
 
-/// For each concatenation, whether its width is known.
-pub fn known_widths(listing: &str) -> Vec<bool> {
-    let width = |line: &str| {
-        let mut fields = line.split(' ');
-        (fields.next() == Some("c")).then(|| fields.nth(2).is_some_and(|width| width != "-"))
-    };
-    listing.lines().filter_map(width).collect()
+/// Each concatenation's static width, nothing where it is not known.
+pub fn static_widths(listing: &str) -> Vec<Option<&str>> {
+    let concatenations = listing.lines().filter_map(|line| line.strip_prefix("c "));
+    concatenations.map(|fields| fields.split(' ').nth(2).filter(|width| *width != "-")).collect()
 }
 
 /// The texts of all bounds, in the listing's order, empty ones left out.

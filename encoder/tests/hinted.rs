@@ -3,7 +3,7 @@
 
 use layout_line::{
     hints::{hints, hints_of_text},
-    listing::{Outcome, bound_texts, outcome},
+    listing::{Outcome, bound_texts, outcome, static_widths},
     read_line,
 };
 
@@ -24,6 +24,8 @@ fn listings_are_read() {
     }
     let listing = "variable n-5 - a\nfiller +0 -n+10\nliteral +0 +8 a5\nvariable +0 1_0+0 x+y\n";
     assert_eq!(bound_texts(listing), ["n", "-n", "1_0"]);
+    let listing = "layout 2 2 8 none D Z -\nc 0 1 - none D Z\nvariable +0 - c\nc 1 1 8 none D Z\n";
+    assert_eq!(static_widths(listing), [None, Some("8")]);
 }
 
 #[test]

@@ -68,6 +68,7 @@ export const CHECKS = {
     expect('30 in words', (await page.text('two-message')).includes('component 2 of 2 as written, in concatenation 1 (copied to)'), true);
     await page.type('two', 'x[..3], a[..8]; b[..9]');
     expect('41', [await page.listing('two'), await page.marks('two')], ['refused 41 0 1\n', ['x[..3], a[..8]', 'b[..9]']]);
+    expect('both widths', (await page.text('two-message')).includes('Their widths in bits are 11 and 9.'), true);
     await page.type('two', 'a, ..');
     expect('43', [await page.listing('two'), await page.marks('two')], ['refused 43 0 0\n', ['a, ..']]);
     await page.type('two', Array.from({ length: 17 }, (_, i) => `a${i}[..8]`).join('; '));
