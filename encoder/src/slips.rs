@@ -5,6 +5,7 @@ use crate::{
     image::{Comp, Item, Kind},
     lexer::is_word,
     line::single_colon,
+    literal::read_literal,
     show::printable,
 };
 
@@ -18,11 +19,15 @@ pub const SLIPS: [fn(&Comp) -> Option<String>; 6] = [
     side_by_side,
 ];
 
-/// `a(..8)`: a group with dots directly after a word.
+/// `a(..8)`: a group with dots, and no comma, directly after a word, in a
+/// component without a range.
 fn range_in_parentheses(comp: &Comp) -> Option<String> {
+    if matches!(comp.items.last()?, Item::Group(Kind::Bracket, _)) {
+        return None;
+    }
     let found = comp.items.windows(2).find(|pair| match pair {
         [word, Item::Group(Kind::Parenthesis | Kind::Brace, inside)] => {
-            begins_a_name(word) && has_dots(inside)
+            begins_a_name(word) && has_dots(inside) && !inside.iter().any(|item| is(item, ","))
         }
         _ => false,
     })?;
@@ -120,6 +125,16 @@ fn side_by_side(comp: &Comp) -> Option<String> {
     };
     let shown = names.or_else(pair)?;
     Some(format!("`{shown}` is one name: is a `,` missing in it?"))
+}
+
+/// `5u8 a`: whether a whole literal stands first, and more than its range after
+/// it.
+pub fn literal_and_more(comp: &Comp) -> bool {
+    let items = after_prefix(comp);
+    let minus = items.first().is_some_and(|item| is(item, "-"));
+    let [Item::Chars(digits), rest @ ..] = &items[usize::from(minus)..] else { return false };
+    let text = [if minus { "-" } else { "" }, &String::from_utf8_lossy(digits)].concat();
+    read_literal(&text).is_some() && !matches!(rest, [] | [Item::Group(Kind::Bracket, _)])
 }
 
 /// Words of the Rust's own that may stand beside a name.

@@ -132,6 +132,8 @@ fn right_lines_have_no_hint() {
         "a[i], a[n-1], a[n + 1], a[x::Y], 4..8, ..n, n::m; b",
         "&mut x, y as u8, f(z) as u16, 5 u8, if a { b } else { c }, self.a.0; r#type",
         "f(\"…, a b\"), g('–'); b",
+        "f(0..3)[..8], s { x: 1, ..d }, g(1..2, x); b",
+        "zero[..8]: a[..8]; b",
     ] {
         assert_eq!(of_text(text), [""; 0], "{text}");
     }
