@@ -36,8 +36,10 @@ function boxOf(field) {
     high: bits && field.to !== field.from ? String(field.to) : '',
     dashed: !known || field.left,
   };
+  box.labelWide = LABEL_CHARACTER * cells(box.label);
+  box.sizeWide = SMALL_CHARACTER * box.size.length;
   const edges = SMALL_CHARACTER * (box.low.length + box.high.length + (box.high ? 1 : 0));
-  box.least = Math.max(LEAST, LABEL_CHARACTER * cells(box.label), SMALL_CHARACTER * box.size.length, edges) + BESIDE;
+  box.least = Math.max(LEAST, box.labelWide, box.sizeWide, edges) + BESIDE;
   return box;
 }
 

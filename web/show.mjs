@@ -79,6 +79,9 @@ function drawnBox(box, y) {
   group.append(...['ground', 'pattern', 'edge'].map((part) => svg('rect', { ...place, class: part })));
   // an inner drawing cuts off what does not fit its box
   const inner = svg('svg', { ...place, height: BOX + NUMBERS });
+  // plates in the box's own colour, so that no dot of the pattern stands between the letters
+  inner.append(svg('rect', { x: 3, y: 5, width: box.sizeWide + 4, height: 13, class: 'plate' }));
+  inner.append(svg('rect', { x: (wide - box.labelWide) / 2 - 2, y: 23, width: box.labelWide + 4, height: 16, class: 'plate' }));
   inner.append(svg('text', { x: 5, y: 15, class: 'small inside' }, box.size));
   inner.append(svg('text', { x: wide / 2, y: 35, class: 'label inside' }, box.label));
   if (box.high) inner.append(svg('text', { x: 2, y: BOX + 13, class: 'small' }, box.high));

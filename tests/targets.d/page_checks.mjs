@@ -138,6 +138,12 @@ export const CHECKS = {
     await page.type('one', 'a[..8], .., b[n..(n+8)]; d[..64]');
     expect('what is left', (await page.table('one', 0))[1], ['filler', '..', '8', '55', '48 (what is left)']);
     expect('still dashed', await page.classes('one'), ['variable', 'filler dashed', 'variable', 'variable']);
+    const covered = `[...document.querySelectorAll('#one-picture .filler text.inside')].map((text) => {
+      const words = text.getBoundingClientRect();
+      return [...text.parentElement.querySelectorAll('.plate')].map((plate) => plate.getBoundingClientRect())
+        .some((plate) => plate.left <= words.left && plate.right >= words.right && plate.top < words.bottom && plate.bottom > words.top);
+    })`;
+    expect('no pattern behind its words', await page.value(covered), [true, true]);
   },
 
   async 'one bit in 4,096'(page, expect) {
