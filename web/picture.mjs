@@ -14,7 +14,7 @@ const WIDE = /[\p{Script=Han}\p{Script=Hiragana}\p{Script=Katakana}\p{Script=Han
 /** How many characters' width a text takes in a font of one width. */
 function cells(text) {
   let sum = 0;
-  for (const c of text) sum += /\p{M}/u.test(c) ? 0 : WIDE.test(c) ? 2 : 1;
+  for (const c of text) sum += /[\p{M}\p{Cf}]/u.test(c) ? 0 : WIDE.test(c) ? 2 : 1;
   return sum;
 }
 
@@ -36,8 +36,10 @@ function boxOf(field) {
     high: bits && field.to !== field.from ? String(field.to) : '',
     dashed: !known || field.left,
   };
+  box.labelWide = LABEL_CHARACTER * cells(box.label);
+  box.sizeWide = SMALL_CHARACTER * box.size.length;
   const edges = SMALL_CHARACTER * (box.low.length + box.high.length + (box.high ? 1 : 0));
-  box.least = Math.max(LEAST, LABEL_CHARACTER * cells(box.label), SMALL_CHARACTER * box.size.length, edges) + BESIDE;
+  box.least = Math.max(LEAST, box.labelWide, box.sizeWide, edges) + BESIDE;
   return box;
 }
 

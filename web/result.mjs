@@ -29,7 +29,19 @@ export function resultOf(library, mode, line, wordsOf) {
   }
   const { number, listing } = outcome;
   const words = wordsOf[number] ?? 'an unknown number';
-  return { state: 'refused', number, words, more: moreWords(outcome, concatenations), places: placesOf(outcome, concatenations), listing };
+  const more = [...moreWords(outcome, concatenations), ...widthWords(library, outcome, concatenations)];
+  return { state: 'refused', number, words, more, places: placesOf(outcome, concatenations), listing };
+}
+
+/** For two concatenations of different widths, how wide they are: each is run alone. */
+function widthWords(library, { number, concatenation, component }, concatenations) {
+  if (number !== 41) return [];
+  const [one, two] = [concatenation, component].map((i) => {
+    const image = imageOf([concatenations[i]]);
+    const alone = runImage(library, 0, image);
+    return alone.accepted ? readAnswer(alone.answer, image).width : null;
+  });
+  return one === null || two === null ? [] : [`their widths in bits are ${one} and ${two}`];
 }
 
 /** Why a line has no answer, in a few words; nothing where it has one. */

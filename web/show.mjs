@@ -3,7 +3,7 @@ import { ALIGNMENTS } from './answer.mjs';
 import { html, svg } from './elements.mjs';
 import { pictureOf } from './picture.mjs';
 import { rulerRows, spanWords } from './ruler.mjs';
-import { counted, shortened, shownBytes, shownConcatenation, shownLine } from './text.mjs';
+import { apart, counted, shortened, shownBytes, shownConcatenation, shownLine } from './text.mjs';
 
 /** Heights of the drawing: a box, the numbers under it, and what stands free below them. */
 const BOX = 46;
@@ -79,6 +79,9 @@ function drawnBox(box, y) {
   group.append(...['ground', 'pattern', 'edge'].map((part) => svg('rect', { ...place, class: part })));
   // an inner drawing cuts off what does not fit its box
   const inner = svg('svg', { ...place, height: BOX + NUMBERS });
+  // plates in the box's own colour, so that no dot of the pattern stands between the letters
+  inner.append(svg('rect', { x: 3, y: 5, width: box.sizeWide + 4, height: 13, class: 'plate' }));
+  inner.append(svg('rect', { x: (wide - box.labelWide) / 2 - 2, y: 23, width: box.labelWide + 4, height: 16, class: 'plate' }));
   inner.append(svg('text', { x: 5, y: 15, class: 'small inside' }, box.size));
   inner.append(svg('text', { x: wide / 2, y: 35, class: 'label inside' }, box.label));
   if (box.high) inner.append(svg('text', { x: 2, y: BOX + 13, class: 'small' }, box.high));
@@ -91,7 +94,7 @@ function table(ruler, i) {
   const heads = ['kind', 'field', 'from', 'to', 'width'].map((name, k) => html('th', { scope: 'col', class: k > 1 ? 'number' : '' }, name));
   const rows = rulerRows(ruler).map(([kind, label, ...numbers]) => {
     const cells = numbers.map((number) => html('td', { class: /[0-9]{9}/.test(number) ? 'number long' : 'number' }, number));
-    return html('tr', {}, html('td', {}, kind), html('th', { scope: 'row' }, html('bdi', {}, label)), ...cells);
+    return html('tr', {}, html('td', {}, kind), html('th', { scope: 'row' }, ...apart(label).map((part) => html('bdi', {}, part))), ...cells);
   });
   const caption = html('caption', {}, `Bits of ${shownConcatenation(i)}, the highest field first`);
   return html('table', {}, caption, html('thead', {}, html('tr', {}, ...heads)), html('tbody', {}, ...rows));

@@ -25,11 +25,26 @@ export function shownBytes(bytes) {
   }
 }
 
+/** After a name of a script that runs from right to left: what follows, a range or a number, is not turned round with it. */
+const LEFT_TO_RIGHT = '\u200e';
+const FROM_THE_RIGHT = /[\p{Script=Hebrew}\p{Script=Arabic}\p{Script=Syriac}\p{Script=Thaana}\p{Script=Nko}]/u;
+
+/** A name before a range or a number. */
+function shownName(bytes) {
+  const text = shownBytes(bytes);
+  return FROM_THE_RIGHT.test(text) ? text + LEFT_TO_RIGHT : text;
+}
+
+/** A text so made, in the parts that are to be kept apart; for who copies it, without the mark. */
+export function apart(text) {
+  return text.split(LEFT_TO_RIGHT);
+}
+
 /** A bound: its text and its number. */
 export function shownBound({ text, x }) {
   if (text.length === 0) return String(x);
-  if (x === 0n) return shownBytes(text);
-  return shownBytes(text) + (x < 0n ? '' : '+') + x;
+  if (x === 0n) return shownName(text);
+  return shownName(text) + (x < 0n ? '' : '+') + x;
 }
 
 /** A range as it could be written; nothing for the whole of a variable. */
@@ -48,7 +63,7 @@ function shownSpan(start, end) {
 export function shownComponent(component) {
   const { kind, start, end, literal, literalWidth, text } = component;
   if (kind === 'filler') return shownSpan(start, end);
-  if (kind === 'variable') return shownBytes(text) + shownRange(component);
+  if (kind === 'variable') return shownName(text) + shownRange(component);
   const whole = start.text.length === 0 && start.x === 0n && end?.text.length === 0 && end.x === BigInt(literalWidth);
   return '0x' + hexOf(literal).slice(-Math.ceil(literalWidth / 4)) + (whole ? '' : shownRange(component));
 }

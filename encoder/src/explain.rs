@@ -11,6 +11,7 @@ use crate::{
     },
     line::{Line, middle_text},
     show::{describe, show},
+    slips::literal_and_more,
 };
 
 /// What the two places of a refusal name.
@@ -140,16 +141,20 @@ fn hint(line: &Line, number: u32, named: Named) -> Option<&'static str> {
         17 => literal_hint(line, named)?,
         30 => "a filler of the literal's width may stand there, as in `..8`",
         40 => "a starting value and its colon begin the line, as in `zero: a, ..4`",
-        42 | 44 | 45 => "one more concatenation of a filler fixes the width, as in `; ..64`",
+        42..=45 => "one more concatenation of a filler fixes the width, as in `; ..64`",
         _ => return None,
     })
 }
 
-/// Number 17: whether the literal has a width at all.
+/// Number 17: whether the literal is one, and has a width at all.
 fn literal_hint(line: &Line, named: Named) -> Option<&'static str> {
     let Named::Component(i, k) = named else { return None };
     let comps = line.tree.concatenations.get(i)?;
-    let text = middle_text(&comps.get(k)?.items, i == 0 && k + 1 == comps.len());
+    let comp = comps.get(k)?;
+    if literal_and_more(comp) {
+        return Some("more follows the literal: is a `,` missing after it?");
+    }
+    let text = middle_text(&comp.items, i == 0 && k + 1 == comps.len());
     let width =
         text.as_deref().and_then(|text| text.rsplit_once(['u', 'i'])).map(|(_, width)| width);
     let has_width = width.is_some_and(|w| !w.is_empty() && w.bytes().all(|b| b.is_ascii_digit()));

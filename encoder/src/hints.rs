@@ -1,18 +1,19 @@
 //! Readings that are accepted and yet may not be what was meant.
 
 use crate::{
-    image::{Comp, Item, Kind},
+    image::Comp,
     lexer::BYTE_ORDER_MARK,
-    line::Line,
-    listing::bound_texts,
-    show::{is_invisible, printable},
+    line::{Line, single_colon},
+    listing::{bound_texts, static_widths},
+    show::is_invisible,
+    slips::{SLIPS, look_alikes, one_bit, short, written},
 };
 
 /// Hints about an accepted text, a sentence each: the first of each sort, and
 /// how many more there are.
 pub fn hints(text: &str, line: &Line, mode: u8, listing: &str) -> Vec<String> {
     let mut hints: Vec<_> = names_of_digits(listing).into_iter().filter_map(first_of).collect();
-    hints.extend(hints_of_text(text, line));
+    hints.extend(hints_but(text, line, &agreed(line, listing)));
     hints.extend(nothing_copied(line, mode));
     hints
 }
@@ -20,12 +21,36 @@ pub fn hints(text: &str, line: &Line, mode: u8, listing: &str) -> Vec<String> {
 /// Those for which no listing is needed. They also tell why widths are not as
 /// meant.
 pub fn hints_of_text(text: &str, line: &Line) -> Vec<String> {
-    let sorts: [fn(&Comp) -> Option<String>; 4] =
-        [range_in_parentheses, range_in_the_middle, one_bit, inclusive_without_end];
-    let of_sort = |hint: &fn(&Comp) -> Option<String>| {
-        first_of(line.tree.components().filter_map(hint).collect())
-    };
-    sorts.iter().filter_map(of_sort).chain(ellipsis(text)).chain(invisible(text)).collect()
+    hints_but(text, line, &[])
+}
+
+/// Those of the text, but nothing about single bits of the concatenations that
+/// are agreed.
+fn hints_but(text: &str, line: &Line, agreed: &[usize]) -> Vec<String> {
+    let components = || line.tree.components();
+    let of_sort = |slip: &fn(&Comp) -> Option<String>| components().filter_map(slip).collect();
+    let mut sorts: Vec<Vec<String>> = SLIPS.iter().map(of_sort).collect();
+    let concatenations = line.tree.concatenations.iter().enumerate();
+    let open = concatenations.filter(|(i, _)| !agreed.contains(i));
+    sorts.push(open.flat_map(|(_, comps)| comps).filter_map(one_bit).collect());
+    sorts.push(colons_elsewhere(line));
+    sorts.into_iter().filter_map(first_of).chain(hints_of_characters(text, line)).collect()
+}
+
+/// Those about single characters, which may be why a text is refused.
+pub fn hints_of_characters(text: &str, line: &Line) -> Vec<String> {
+    let others = line.tree.components().flat_map(|comp| look_alikes(&comp.items)).collect();
+    first_of(others).into_iter().chain(invisible(text)).collect()
+}
+
+/// The concatenations whose width is known and is that of one without single
+/// bits: these were meant.
+fn agreed(line: &Line, listing: &str) -> Vec<usize> {
+    let widths = static_widths(listing);
+    let all = 0..line.tree.concatenations.len();
+    let known: Vec<usize> = all.filter(|i| widths.get(*i).is_some_and(Option::is_some)).collect();
+    let plain = |i: &usize| line.tree.concatenations[*i].iter().all(|comp| one_bit(comp).is_none());
+    if known.iter().any(plain) { known } else { vec![] }
 }
 
 fn first_of(mut hints: Vec<String>) -> Option<String> {
@@ -80,57 +105,6 @@ fn why(text: &str) -> &'static str {
     }]
 }
 
-/// `a(..8)`: a group with dots directly after a word.
-fn range_in_parentheses(comp: &Comp) -> Option<String> {
-    let found = comp.items.windows(2).find(|pair| match pair {
-        [Item::Chars(word), Item::Group(Kind::Parenthesis | Kind::Brace, inside)] => {
-            word.first().is_some_and(|b| b.is_ascii_alphabetic() || *b == b'_' || *b > 127)
-                && has_dots(inside)
-        }
-        _ => false,
-    })?;
-    Some(format!("`{}` is a name: a range stands in square brackets", written(found)))
-}
-
-/// `a[..8] b`: a range that is not the component's last group.
-fn range_in_the_middle(comp: &Comp) -> Option<String> {
-    let (_, before_last) = comp.items.split_last()?;
-    let is_range =
-        |item: &&Item| matches!(item, Item::Group(Kind::Bracket, inside) if has_dots(inside));
-    let found = before_last.iter().find(is_range)?;
-    let group = written(std::slice::from_ref(found));
-    Some(format!("`{group}` is part of a name, for more follows it: is a `,` missing after it?"))
-}
-
-/// `a[8]`: bit 8 alone.
-fn one_bit(comp: &Comp) -> Option<String> {
-    let Some(Item::Group(Kind::Bracket, inside)) = comp.items.last() else { return None };
-    let [Item::Chars(number)] = &inside[..] else { return None };
-    let number: u32 = str::from_utf8(number).ok()?.parse().ok()?;
-    (number > 0)
-        .then(|| format!("`[{number}]` is one bit, bit {number}; {number} bits are `[..{number}]`"))
-}
-
-/// `a[5..=]`: from 5 with no end.
-fn inclusive_without_end(comp: &Comp) -> Option<String> {
-    let range = match comp.items.last()? {
-        Item::Group(Kind::Bracket, inside) => inside,
-        _ => &comp.items,
-    };
-    let is = |item: &Item, text: &[u8]| matches!(item, Item::Chars(chars) if chars == text);
-    match &range[..] {
-        [.., a, b, c] if is(a, b".") && is(b, b".") && is(c, b"=") => {
-            Some("`..=` with nothing after it is a range without an end".to_owned())
-        }
-        _ => None,
-    }
-}
-
-fn ellipsis(text: &str) -> Option<String> {
-    let said = "`…` is one character and part of a name: a range has two dots, `..`";
-    text.contains('…').then(|| said.to_owned())
-}
-
 /// A character that nobody sees and that is no white space.
 fn invisible(text: &str) -> Option<String> {
     let text = text.strip_prefix(BYTE_ORDER_MARK).unwrap_or(text);
@@ -141,6 +115,20 @@ fn invisible(text: &str) -> Option<String> {
     ))
 }
 
+/// `a, zero: b`: a colon in another component than the line's first.
+fn colons_elsewhere(line: &Line) -> Vec<String> {
+    let rest = line.tree.concatenations.iter().enumerate().flat_map(|(i, comps)| {
+        let first = usize::from(i == 0);
+        &comps[..comps.len() - first]
+    });
+    let said = |comp: &Comp| {
+        let at = single_colon(&comp.items)?;
+        let shown = written(&comp.items[..=at]);
+        Some(format!("`{shown}` is part of a name: a starting value and its colon begin the line"))
+    };
+    rest.filter_map(said).collect()
+}
+
 /// A comma where a semicolon was meant. With a return type one concatenation is
 /// the common case, and one component alone is hardly a slip.
 fn nothing_copied(line: &Line, mode: u8) -> Option<String> {
@@ -148,37 +136,4 @@ fn nothing_copied(line: &Line, mode: u8) -> Option<String> {
         "there is one concatenation, so nothing is copied: a `;` begins where it is copied to";
     let alone = line.tree.concatenations.len() == 1 && line.tree.components().count() > 1;
     (alone && mode == 0).then(|| said.to_owned())
-}
-
-/// Two neighbouring dots.
-fn has_dots(items: &[Item]) -> bool {
-    let dot = |item: &Item| matches!(item, Item::Chars(chars) if chars == b".");
-    items.windows(2).any(|pair| dot(&pair[0]) && dot(&pair[1]))
-}
-
-/// Items as a text, for people.
-fn written(items: &[Item]) -> String {
-    fn bytes(items: &[Item]) -> Vec<u8> {
-        let mut text = vec![];
-        for item in items {
-            match item {
-                Item::Chars(chars) => text.extend(chars),
-                Item::Group(kind, inside) => {
-                    let (open, close) = kind.delimiters();
-                    text.push(open);
-                    text.extend(bytes(inside));
-                    text.push(close);
-                }
-            }
-        }
-        text
-    }
-    short(&String::from_utf8_lossy(&bytes(items)))
-}
-
-/// At most forty characters of a text.
-fn short(text: &str) -> String {
-    let mut chars = text.chars().map(printable);
-    let start: String = chars.by_ref().take(40).collect();
-    if chars.next().is_some() { start + "..." } else { start }
 }

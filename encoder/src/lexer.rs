@@ -96,7 +96,7 @@ fn delimiter(first: char) -> Option<Token> {
     })
 }
 
-fn is_word(c: char) -> bool {
+pub fn is_word(c: char) -> bool {
     c.is_alphanumeric() || c == '_'
 }
 

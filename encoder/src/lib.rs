@@ -15,11 +15,13 @@ pub mod image;
 pub mod listing;
 pub mod show;
 
+mod cells;
 mod fault;
 mod lexer;
 mod line;
 mod literal;
 mod quotes;
+mod slips;
 
 pub use fault::Fault;
 pub use lexer::{Placed, Token, tokens};

@@ -235,7 +235,7 @@ pub fn middle_text(items: &[Item], may_have_prefix: bool) -> Option<String> {
 }
 
 /// The first lone colon; the two of `::` are passed over together.
-fn single_colon(items: &[Item]) -> Option<usize> {
+pub fn single_colon(items: &[Item]) -> Option<usize> {
     let is_colon = |i: usize| matches!(items.get(i), Some(Item::Chars(c)) if c == b":");
     let mut i = 0;
     while i < items.len() {

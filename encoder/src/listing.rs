@@ -29,6 +29,12 @@ pub fn outcome(listing: &str) -> Outcome {
     }
 }
 
+/// Each concatenation's static width, nothing where it is not known.
+pub fn static_widths(listing: &str) -> Vec<Option<&str>> {
+    let concatenations = listing.lines().filter_map(|line| line.strip_prefix("c "));
+    concatenations.map(|fields| fields.split(' ').nth(2).filter(|width| *width != "-")).collect()
+}
+
 /// The texts of all bounds, in the listing's order, empty ones left out.
 pub fn bound_texts(listing: &str) -> Vec<&str> {
     let mut texts = vec![];

@@ -9,10 +9,10 @@ use std::{
 };
 
 use layout_line::{
-    Fault, explain,
-    hints::{hints, hints_of_text},
-    image::image_of,
-    listing::{Outcome, outcome},
+    Fault, Line, explain,
+    hints::{hints, hints_of_characters, hints_of_text},
+    image::{Tree, image_of},
+    listing::{Outcome, outcome, static_widths},
     read_line,
 };
 
@@ -67,13 +67,29 @@ fn run(program: &str, mode: &str) -> Result<u8, String> {
         }
         Outcome::Refused { number, first, second } => {
             eprint!("{}", explain::refusal(&text, &line, number, first, second));
-            // stage 4 is about widths
-            if number >= 41 {
-                say_hints(&hints_of_text(&text, &line));
+            if number == 41 {
+                say_widths(program, &line, first, second);
             }
+            // stage 4 is about widths
+            let hints = if number >= 41 { hints_of_text } else { hints_of_characters };
+            say_hints(&hints(&text, &line));
             Ok(REFUSED)
         }
         Outcome::Unknown => Err(format!("layout-line: {program}: printed no listing")),
+    }
+}
+
+/// How wide two concatenations are, of which the program is asked one by one.
+fn say_widths(program: &str, line: &Line, first: usize, second: usize) {
+    let width = |i: usize| {
+        let concatenations = vec![line.tree.concatenations.get(i)?.clone()];
+        let image = image_of(&Tree { concatenations });
+        let output = output_of(program, [&[0], &image[..]].concat()).ok()?;
+        let listing = String::from_utf8_lossy(&output);
+        static_widths(&listing).first().copied().flatten().map(str::to_owned)
+    };
+    if let (Some(first), Some(second)) = (width(first), width(second)) {
+        eprintln!("their widths in bits are {first} and {second}");
     }
 }
 

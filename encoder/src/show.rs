@@ -2,6 +2,8 @@
 
 use std::ops::Range;
 
+use crate::{cells::cells, lexer::BYTE_ORDER_MARK};
+
 /// A longer line is shown in part.
 const MOST_COLUMNS: usize = 100;
 /// Columns of such a line that are shown before the place.
@@ -9,6 +11,8 @@ const BEFORE: usize = 20;
 
 /// Every line of the text that the places touch, with carets under them.
 pub fn show(text: &str, places: &[Range<usize>]) -> String {
+    let places: Vec<_> = places.iter().map(|place| seen(text, place).1).collect();
+    let (text, _) = seen(text, &(0..0));
     let gutter = text.split('\n').count().to_string().len();
     let mut shown = String::new();
     let mut start = 0;
@@ -26,6 +30,14 @@ pub fn show(text: &str, places: &[Range<usize>]) -> String {
     shown
 }
 
+/// A text and a place in it without the mark that some editors put first:
+/// nobody sees it, so no column counts it.
+fn seen<'a>(text: &'a str, place: &Range<usize>) -> (&'a str, Range<usize>) {
+    let rest = text.strip_prefix(BYTE_ORDER_MARK).unwrap_or(text);
+    let gone = text.len() - rest.len();
+    (rest, place.start.saturating_sub(gone)..place.end.saturating_sub(gone))
+}
+
 /// A character as it is shown: one that is not seen, or that would move the
 /// cursor or turn the text round, as a replacement. A tab stays.
 pub fn printable(c: char) -> char {
@@ -34,10 +46,11 @@ pub fn printable(c: char) -> char {
 
 /// Control characters, and those of no width that pasted text brings along.
 pub fn is_invisible(c: char) -> bool {
-    let no_width = ['\u{ad}', '\u{feff}'].contains(&c)
+    let no_width = ['\u{ad}', '\u{61c}', '\u{feff}'].contains(&c)
         || ('\u{200b}'..='\u{200f}').contains(&c)
         || ('\u{2028}'..='\u{202e}').contains(&c)
-        || ('\u{2060}'..='\u{206f}').contains(&c);
+        || ('\u{2060}'..='\u{206f}').contains(&c)
+        || ('\u{e0000}'..='\u{e007f}').contains(&c);
     c.is_control() || no_width
 }
 
@@ -70,12 +83,13 @@ fn part(chars: &[char], window: &Range<usize>) -> String {
     format!("{before}{shown}{after}")
 }
 
-/// Carets below the spans; a tab stays a tab, so that they line up.
+/// Carets below the spans. A tab stays a tab, and a character has as many
+/// carets as it takes columns, so that they line up.
 fn carets(chars: &[char], window: &Range<usize>, spans: &[Range<usize>]) -> String {
     let below = |i: usize| match chars[i] {
-        '\t' => '\t',
-        _ if spans.iter().any(|span| span.contains(&i)) => '^',
-        _ => ' ',
+        '\t' => "\t".to_owned(),
+        c if spans.iter().any(|span| span.contains(&i)) => "^".repeat(cells(c)),
+        c => " ".repeat(cells(c)),
     };
     let before = if window.start > 0 { "   " } else { "" };
     let line = before.to_owned() + &window.clone().map(below).collect::<String>();
@@ -84,6 +98,7 @@ fn carets(chars: &[char], window: &Range<usize>, spans: &[Range<usize>]) -> Stri
 
 /// A place in words, lines and columns (characters) counted from 1.
 pub fn describe(text: &str, place: &Range<usize>) -> String {
+    let (text, place) = seen(text, place);
     let last = text[place.clone()].char_indices().next_back().map_or(0, |(at, _)| at);
     let (line, column) = position(text, place.start);
     let (last_line, last_column) = position(text, place.start + last);

@@ -37,6 +37,15 @@ fn carets_stand_under_tabs_and_other_letters() {
     );
 }
 
+/// Two letters of two columns, and one that has none.
+#[test]
+fn carets_stand_under_wide_letters_and_marks() {
+    let text = "名前, e\u{301}[8], 😀, x";
+    assert_eq!(under(text, place(text, "名前")), format!("1 | {text}\n  | ^^^^\n"));
+    assert_eq!(under(text, place(text, "e\u{301}[8]")), format!("1 | {text}\n  |       ^^^^\n"));
+    assert_eq!(under(text, place(text, "x")), format!("1 | {text}\n  |                 ^\n"));
+}
+
 /// Only lines that the place touches, without the white space at their ends.
 #[test]
 fn a_place_over_several_lines() {

@@ -10,6 +10,20 @@ c 1 1 40 none D Z
 variable +0 +40 card
 `;
 
+/** An expression for the page: how far from the left the first such part of an element's text stands, or null. */
+const leftOf = (selector, part) => `(() => {
+  const texts = document.createTreeWalker(document.querySelector(${JSON.stringify(selector)}), NodeFilter.SHOW_TEXT);
+  while (texts.nextNode()) {
+    const at = texts.currentNode.data.indexOf(${JSON.stringify(part)});
+    if (at < 0) continue;
+    const range = document.createRange();
+    range.setStart(texts.currentNode, at);
+    range.setEnd(texts.currentNode, at + 1);
+    return range.getBoundingClientRect().left;
+  }
+  return null;
+})()`;
+
 export const CHECKS = {
   async 'the first lines'(page, expect) {
     expect('verdict', await page.verdict(), 'The same card: yes.');
@@ -54,6 +68,7 @@ export const CHECKS = {
     expect('30 in words', (await page.text('two-message')).includes('component 2 of 2 as written, in concatenation 1 (copied to)'), true);
     await page.type('two', 'x[..3], a[..8]; b[..9]');
     expect('41', [await page.listing('two'), await page.marks('two')], ['refused 41 0 1\n', ['x[..3], a[..8]', 'b[..9]']]);
+    expect('both widths', (await page.text('two-message')).includes('Their widths in bits are 11 and 9.'), true);
     await page.type('two', 'a, ..');
     expect('43', [await page.listing('two'), await page.marks('two')], ['refused 43 0 0\n', ['a, ..']]);
     await page.type('two', Array.from({ length: 17 }, (_, i) => `a${i}[..8]`).join('; '));
@@ -91,6 +106,21 @@ export const CHECKS = {
     expect('scripts run by it', await page.value('document.title'), 'Layout lines');
   },
 
+  async 'names from right to left'(page, expect) {
+    const inOrder = async (selector, ...parts) => {
+      const left = [];
+      for (const part of parts) left.push(await page.value(leftOf(selector, part)));
+      return left.every((x, i) => x !== null && (i === 0 || x > left[i - 1]));
+    };
+    await page.type('one', 'x[..4], \u05d0\u05d1[3..7], y[\u05d0..8]; c');
+    expect('field', (await page.table('one', 0))[1][1], '\u05d0\u05d1[3..7]');
+    expect('its range in the table', await inOrder('#one-picture tr:nth-child(2) th', '\u05d0', '3', '7'), true);
+    expect('a bound', await inOrder('#one-picture tr:nth-child(3) th', 'y', '\u05d0', '8'), true);
+    expect('in the picture', await inOrder('#one-picture g:nth-child(2) .label', '\u05d0', '3', '7'), true);
+    await page.type('one', '\u05d0\u05d1[9..8], b; c');
+    expect('a refused line', await inOrder('#one-message .line', '\u05d0', 'b', 'c'), true);
+  },
+
   async 'unknown widths'(page, expect) {
     await page.type('one', 'a[..8], b; c[x..y], ..; d[..64]');
     expect('boxes', await page.classes('one'), ['variable', 'variable dashed', 'variable dashed', 'filler dashed', 'variable']);
@@ -108,6 +138,12 @@ export const CHECKS = {
     await page.type('one', 'a[..8], .., b[n..(n+8)]; d[..64]');
     expect('what is left', (await page.table('one', 0))[1], ['filler', '..', '8', '55', '48 (what is left)']);
     expect('still dashed', await page.classes('one'), ['variable', 'filler dashed', 'variable', 'variable']);
+    const covered = `[...document.querySelectorAll('#one-picture .filler text.inside')].map((text) => {
+      const words = text.getBoundingClientRect();
+      return [...text.parentElement.querySelectorAll('.plate')].map((plate) => plate.getBoundingClientRect())
+        .some((plate) => plate.left <= words.left && plate.right >= words.right && plate.top < words.bottom && plate.bottom > words.top);
+    })`;
+    expect('no pattern behind its words', await page.value(covered), [true, true]);
   },
 
   async 'one bit in 4,096'(page, expect) {
