@@ -1,6 +1,7 @@
 /* The layout reader: three functions of the static library target/staticlib/liblayout_c.a, which `rt staticlib layout_c` proves and
  * writes (for x86-64 Linux). They take any bytes, allocate nothing, keep nothing between calls, and write nothing but what is lent to
- * be written. For C99, C11 and C++17. docs/FORMAT.md has the bytes of an image and of an answer.
+ * be written; so threads may call them at the same time. They call nothing but the C library's memset (`nm -u`). For C99, C11 and
+ * C++11 or later. docs/FORMAT.md has the bytes of an image and of an answer.
  *
  *     uint8_t area[LAYOUT_ANY_AREA];
  *     uint64_t outcome = layout_run(image, image_length, 0, area, sizeof area);
