@@ -159,7 +159,7 @@ enum layout_kind { LAYOUT_LITERAL = 1, LAYOUT_VARIABLE = 2, LAYOUT_FILLER = 3 };
 
 /* Where a concatenation's filler without an end stands, or what the concatenations say of it together. */
 enum layout_alignment {
-    LAYOUT_ALIGN_NONE = 0,    /* there is none */
+    LAYOUT_ALIGN_NONE = 0,    /* there is none; of a whole answer: some concatenation has none */
     LAYOUT_ALIGN_SINGLE = 1,  /* it is the only component */
     LAYOUT_ALIGN_LSB = 2,     /* it is the lowest component */
     LAYOUT_ALIGN_MSB = 3,     /* it is the highest component */
