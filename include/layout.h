@@ -1,6 +1,7 @@
 /* The layout reader: three functions of the static library target/staticlib/liblayout_c.a, which `rt staticlib layout_c` proves and
  * writes (for x86-64 Linux). They take any bytes, allocate nothing, keep nothing between calls, and write nothing but what is lent to
- * be written. For C99, C11 and C++17. docs/FORMAT.md has the bytes of an image and of an answer.
+ * be written; so threads may call them at the same time. The archive calls nothing but memset (`nm -u`). For C99, C11 and C++11
+ * or later. docs/FORMAT.md has the bytes of an image and of an answer.
  *
  *     uint8_t area[LAYOUT_ANY_AREA];
  *     uint64_t outcome = layout_run(image, image_length, 0, area, sizeof area);
@@ -65,8 +66,8 @@ uint32_t layout_check(const uint8_t *image, uint64_t image_length);
 /* The area that an image with so many concatenations, components and literal bytes asks for (a shorter one is number 8), and one that
  * is long enough for any image: 26,976 bytes. */
 #define LAYOUT_AREA(concatenations, components, literal_bytes)                                    \
-    ((size_t)LAYOUT_HEAD_SIZE + (size_t)LAYOUT_CONCATENATION_SIZE * (concatenations)              \
-     + (size_t)LAYOUT_COMPONENT_SIZE * (components) + (size_t)(literal_bytes))
+    ((size_t)LAYOUT_HEAD_SIZE + LAYOUT_CONCATENATION_SIZE * (size_t)(concatenations)              \
+     + LAYOUT_COMPONENT_SIZE * (size_t)(components) + (size_t)(literal_bytes))
 #define LAYOUT_ANY_AREA LAYOUT_AREA(16, 256, 8192)
 #define LAYOUT_ANY_LISTING 140577
 
@@ -158,7 +159,7 @@ enum layout_kind { LAYOUT_LITERAL = 1, LAYOUT_VARIABLE = 2, LAYOUT_FILLER = 3 };
 
 /* Where a concatenation's filler without an end stands, or what the concatenations say of it together. */
 enum layout_alignment {
-    LAYOUT_ALIGN_NONE = 0,    /* there is none */
+    LAYOUT_ALIGN_NONE = 0,    /* there is none; of a whole answer: some concatenation has none */
     LAYOUT_ALIGN_SINGLE = 1,  /* it is the only component */
     LAYOUT_ALIGN_LSB = 2,     /* it is the lowest component */
     LAYOUT_ALIGN_MSB = 3,     /* it is the highest component */

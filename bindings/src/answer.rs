@@ -192,8 +192,19 @@ impl PartialEq for Concatenation<'_> {
 
 impl Eq for Concatenation<'_> {}
 
+impl fmt::Debug for Concatenation<'_> {
+    fn fmt(&self, f: &mut fmt::Formatter<'_>) -> fmt::Result {
+        f.debug_struct("Concatenation")
+            .field("width", &self.width())
+            .field("alignment", &self.alignment())
+            .field("deterministic", &self.deterministic())
+            .field("nonzero", &self.nonzero())
+            .finish_non_exhaustive()
+    }
+}
+
 /// The concatenations of an answer.
-#[derive(Clone)]
+#[derive(Debug, Clone)]
 pub struct Concatenations<'a> {
     answer: Answer<'a>,
     indices: Range<usize>,
@@ -221,7 +232,7 @@ impl ExactSizeIterator for Concatenations<'_> {}
 impl FusedIterator for Concatenations<'_> {}
 
 /// The components of a concatenation or of a whole answer.
-#[derive(Clone)]
+#[derive(Debug, Clone)]
 pub struct Components<'a> {
     answer: Answer<'a>,
     indices: Range<usize>,

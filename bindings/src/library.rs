@@ -13,6 +13,8 @@ extern "C" {
     ) -> u64;
 
     fn layout_listing(input: *const u8, input_length: u64, out: *mut u8, out_length: u64) -> u64;
+
+    fn layout_check(image: *const u8, image_length: u64) -> u32;
 }
 
 /// Runs a prepared image in mode 0, 1 or 2 (any other is refused).
@@ -74,4 +76,14 @@ pub fn listing(input: &[u8], out: &mut [u8]) -> Option<usize> {
     let length =
         unsafe { layout_listing(input.as_ptr(), input_length, out.as_mut_ptr(), out_length) };
     (length > 0).then_some(length as usize)
+}
+
+/// The image check alone: nothing, or the refusal (numbers 2 to 7) that a run of
+/// this image gets in each of the three modes.
+pub fn check(image: &[u8]) -> Result<(), Refusal> {
+    // SAFETY: as in `run`, with the image read.
+    match unsafe { layout_check(image.as_ptr(), image.len() as u64) } {
+        0 => Ok(()),
+        number => Err(Refusal { number, concatenation: 0, component: 0 }),
+    }
 }

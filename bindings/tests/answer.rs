@@ -6,6 +6,9 @@ mod common;
 use common::cases;
 use layout_reader::{area_needed, Alignment, Answer, Bound, Kind};
 
+/// The C header, whose sizes the crate has too.
+const HEADER: &str = include_str!("../../include/layout.h");
+
 const LISTING: &str = "layout 2 2 8 none D Z -
 c 0 1 8 none D Z
 literal +0 +8 a5
@@ -71,6 +74,37 @@ fn every_byte_is_looked_at() {
     assert!(Answer::read(&[&answer[..], &[0]].concat(), &image).is_err(), "one byte more");
     for length in 0..image.len() {
         assert!(Answer::read(&answer, &image[..length]).is_err(), "image cut to {length}");
+    }
+}
+
+#[test]
+fn all_that_is_handed_out_can_be_shown() {
+    let (answer, image) = (worked_answer(), worked_image());
+    let answer = Answer::read(&answer, &image).expect("an answer");
+    let mut concatenations = answer.concatenations();
+    assert!(format!("{concatenations:?} {:?}", answer.components()).contains("0..2"));
+    let first = concatenations.next();
+    assert_ne!(first, concatenations.next());
+    let shown = "Some(Concatenation { width: Some(8), alignment: None, deterministic: true, \
+                 nonzero: true, .. })";
+    assert_eq!(format!("{first:?}"), shown);
+}
+
+/// The sizes are those of the header, which names a constant and its number on
+/// one line.
+#[test]
+fn sizes_of_the_header() {
+    for (name, size) in [
+        ("HEAD_SIZE", layout_reader::HEAD_SIZE),
+        ("CONCATENATION_SIZE", layout_reader::CONCATENATION_SIZE),
+        ("COMPONENT_SIZE", layout_reader::COMPONENT_SIZE),
+        ("ANY_LISTING", layout_reader::ANY_LISTING),
+        ("RUN_STACK", layout_reader::RUN_STACK),
+        ("LISTING_STACK", layout_reader::LISTING_STACK),
+        ("CHECK_STACK", layout_reader::CHECK_STACK),
+    ] {
+        let line = format!("#define LAYOUT_{name} {size}");
+        assert!(HEADER.lines().any(|header| header == line), "{line}");
     }
 }
 

@@ -2,7 +2,7 @@
 //! the area as lent after a refusal, empty slices.
 
 use layout_reader::{
-    area_needed, listing, run, Refusal, ANY_AREA, ANY_LISTING, CONCATENATION_SIZE, HEAD_SIZE,
+    area_needed, check, listing, run, Refusal, ANY_AREA, ANY_LISTING, CONCATENATION_SIZE, HEAD_SIZE,
 };
 
 /// A mode byte and an image each.
@@ -87,4 +87,16 @@ fn listings() {
     assert_eq!(out, *b"refused 2 0 0\n");
     assert_eq!(listing(&[], &mut out[..13]), None);
     assert_eq!(listing(&[], &mut []), None);
+}
+
+#[test]
+fn the_check_alone() {
+    let refused = |number| Err(Refusal { number, concatenation: 0, component: 0 });
+    assert_eq!(check(&WHOLE[1..]), Ok(()));
+    assert_eq!(check(&[]), refused(2));
+    assert_eq!(check(&WHOLE[2..]), refused(3));
+    assert_eq!(check(&WHOLE[1..WHOLE.len() - 1]), refused(4));
+    let mut sum = WHOLE[1..].to_vec();
+    sum[40] = 9;
+    assert_eq!(check(&sum), refused(5));
 }
