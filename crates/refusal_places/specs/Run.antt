@@ -1,6 +1,6 @@
 -- Every refusal of the whole run has a number of the table, and places within the limits of an image.
 use mathlib.Core.Path.{subst}
-use Rattle.definition.specs.Prelude.{ℕ, true, false, none, some, List, leb}
+use Rattle.definition.specs.Prelude.{ℕ, List, leb}
 use Rattle.definition.specs.Basics.{refused}
 use Rattle.definition.specs.Limits.{areaNeeded}
 use Rattle.definition.specs.Refusals.{mode-above-2, short-area}

@@ -4,7 +4,7 @@ use Prim.Native.Nat.{_≤_}
 use native.Mathlib.Nat.{le-refl, le-trans}
 use native.Mathlib.Omega.{arith}
 use lib.ListN.{length-append, length-map}
-use Rattle.definition.specs.Prelude.{ℕ, _+_, Bool, true, false, _&&_, none, some, List, [], _∷_, _++_, map, length}
+use Rattle.definition.specs.Prelude.{ℕ, _+_, Bool, true, false, _&&_, List, [], _∷_, _++_, map, length}
 use Rattle.definition.specs.Basics.{if_then_else_, sum, joined}
 use Rattle.definition.specs.Image.{Unparsed, Placed}
 use Rattle.definition.specs.Component.{Component}

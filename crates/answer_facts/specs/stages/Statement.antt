@@ -1,6 +1,6 @@
 -- The stages of a tree, with stages 1 and 2 of each component in one go, as the code reads them.
 use mathlib.Core.Path.{_≡_}
-use Rattle.definition.specs.Prelude.{ℕ, Bool, true, false, none, some, List, map}
+use Rattle.definition.specs.Prelude.{Bool, List, map}
 use Rattle.definition.specs.Basics.{Result, ok, _>>=_}
 use Rattle.definition.specs.Image.{Unparsed, Placed}
 use Rattle.definition.specs.Component.{Component, Parsed, keepBase, each, stage1Component, simplify, startingValue, source, stage1, stage2}

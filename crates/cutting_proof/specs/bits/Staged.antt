@@ -1,7 +1,7 @@
 -- The stages of a whole tree: every component after stage 2 is normal, and the answer's components are the merged concatenations'.
 use mathlib.Core.Path.{_≡_, ap, _∙_}
 use native.Mathlib.Nat.{le-refl}
-use Rattle.definition.specs.Prelude.{ℕ, true, false, none, some, List, [], _∷_, map}
+use Rattle.definition.specs.Prelude.{true, List, [], _∷_, map}
 use Rattle.definition.specs.Basics.{all, joined}
 use Rattle.definition.specs.Tree.{Node, Tree, soundNode, fits}
 use Rattle.definition.specs.Component.{Parsed}

@@ -1,7 +1,7 @@
 -- Stages 3 to 5 give the same answer for the literal and for its pieces.
 use mathlib.Core.Path.{_≡_}
 use Prim.Native.Nat.{_≤_}
-use Rattle.definition.specs.Prelude.{ℕ, Bool, true, false, Option, none, some, List, [], _∷_, _++_, map, length}
+use Rattle.definition.specs.Prelude.{ℕ, Bool, Option, List, [], _∷_, _++_, map, length}
 use Rattle.definition.specs.Basics.{Result, ok, _>>=_}
 use Rattle.definition.specs.Image.{Placed}
 use Rattle.definition.specs.Text.{Part}
