@@ -16,6 +16,7 @@ pub record Refusal : Type 0 where
   pub concatenation : ℕ
   pub component : ℕ
 
+-- of this number, with these places
 abbrev pub refusalOf : ℕ → ℕ → ℕ → Refusal
 refusalOf n i k = record { number = n; concatenation = i; component = k }
 

@@ -15,10 +15,11 @@ use Rattle.definition.specs.Answer.{Answer, answerBytes}
 pub record Choices : Type 0 where
   pub mode : ℕ
 
+-- a call that is told its mode alone
 abbrev pub under : ℕ → Choices
 under mode = record { mode = mode }
 
--- whether there is a starting value
+-- whether there is a starting value: that of the line
 abbrev pub hasStart : Choices → Option (Placed Part) → Bool
 hasStart how init = elim init [ none ↦ false | some p ↦ true ]
 
