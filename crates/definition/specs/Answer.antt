@@ -113,6 +113,10 @@ pub record Read : Type 0 where
   pub concats : List Concat
   pub fields : List Field
 
+-- whether a flag, 1, 2 or 4, is among flags
+abbrev pub isSet : ℕ → ℕ → Bool
+isSet flags n = eqb (flags / n % 2) 1
+
 -- a width of two halves, and the text that a start and a length name
 abbrev pub widthAt : List ℕ → ℕ → ℕ
 widthAt s at = u32At s at + 2 ^ 32 * u32At s (at + 4)

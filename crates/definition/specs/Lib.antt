@@ -1,5 +1,5 @@
 -- The definition of a run, from the bottom up: Prelude, Basics, Characters, Limits, Refusals, Numbers; the image (Image, Check, Tree); the stages (Text,
--- Ranges, Component, Concatenation, Overall); Answer, Run, Listing. Examples, Readings, Worked, Areas hold it to document 01's examples.
+-- Ranges, Component, Concatenation, Overall); Answer, Run, Listing. Examples, Readings, Worked, Areas hold it to document 01's examples, Defaults to document 02's L1.
 pub mod Answer
 pub mod Areas
 pub mod Basics
@@ -8,6 +8,7 @@ pub mod Check
 pub mod Component
 pub mod Compute
 pub mod Concatenation
+pub mod Defaults
 pub mod Examples
 pub mod Image
 pub mod Limits

@@ -4,7 +4,7 @@ use Rattle.definition.specs.Basics.{Result, ok, refused, if_then_else_, 
 use Rattle.definition.specs.Characters.{char}
 use Rattle.definition.specs.Limits.{areaNeeded, limits, maxInput}
 use Rattle.definition.specs.Refusals.{refuse, short-image}
-use Rattle.definition.specs.Answer.{Read, Concat, Field, Bound, readAnswer}
+use Rattle.definition.specs.Answer.{Read, Concat, Field, Bound, isSet, readAnswer}
 use Rattle.definition.specs.Run.{under, run}
 
 -- a number's decimal digits, at most as many as 128 bits need
@@ -60,9 +60,6 @@ alignWord a =
     else if eqb a 1 then ascii "single"
     else if eqb a 2 then ascii "lsb"
     else if eqb a 3 then ascii "msb" else if eqb a 4 then ascii "mid" else ascii "multiple"
-
-abbrev pub isSet : ℕ → ℕ → Bool
-isSet flags n = eqb (flags / n % 2) 1
 
 abbrev pub summaryWords : ℕ → ℕ → ℕ → List (List ℕ)
 summaryWords width align flags =

@@ -1,6 +1,7 @@
--- The whole run, and what a lent area holds after it (document 01, "How each operation refuses").
-use Rattle.definition.specs.Prelude.{ℕ, _+_, Bool, true, false, Option, none, some, List, _++_, map, length, drop, leb}
-use Rattle.definition.specs.Basics.{Result, ok, refused, _>>=_}
+-- The whole run, what a lent area holds after it (document 01, "How each operation refuses"), and the starting value in force
+-- (document 02, L1).
+use Rattle.definition.specs.Prelude.{ℕ, _+_, Bool, true, false, _||_, not, Option, none, some, List, [], _++_, map, length, drop, leb}
+use Rattle.definition.specs.Basics.{Result, ok, refused, _>>=_, if_then_else_, isEmpty}
 use Rattle.definition.specs.Limits.{areaNeeded}
 use Rattle.definition.specs.Refusals.{need, mode-above-2, short-area}
 use Rattle.definition.specs.Image.{Unparsed, Placed, counts, treeOf}
@@ -9,19 +10,25 @@ use Rattle.definition.specs.Text.{Part}
 use Rattle.definition.specs.Component.{stage1, stage2}
 use Rattle.definition.specs.Concatenation.{stage3, merged}
 use Rattle.definition.specs.Overall.{stage4}
-use Rattle.definition.specs.Answer.{Answer, answerBytes}
+use Rattle.definition.specs.Answer.{Answer, answerBytes, readAnswer, isSet}
 
--- What a call is told beside its image and its area. "Modes: 0 no return type, 1 return type, 2 return type and static width."
+-- What a call is told beside its image and its area. "Modes: 0 no return type, 1 return type, 2 return type and static width." L1: "The
+-- caller may lend a default text."
 pub record Choices : Type 0 where
   pub mode : ℕ
+  pub default : List ℕ
 
--- a call that is told its mode alone
+-- a call that is told its mode and lent a default
+abbrev pub withDefault : ℕ → List ℕ → Choices
+withDefault mode default = record { mode = mode; default = default }
+
+-- a call that is told its mode alone. L1: "An empty default means none."
 abbrev pub under : ℕ → Choices
-under mode = record { mode = mode }
+under mode = withDefault mode []
 
--- whether there is a starting value: that of the line
+-- whether there is a starting value: that of the line, or else the default. L1: "40 is not given under a non-empty default"
 abbrev pub hasStart : Choices → Option (Placed Part) → Bool
-hasStart how init = elim init [ none ↦ false | some p ↦ true ]
+hasStart how init = elim init [ none ↦ false | some p ↦ true ] || not (isEmpty (how .default))
 
 -- "then stages 1 to 5, each over the whole tree before the next"; "Stage 5 refuses nothing."
 unfoldable pub stages : Choices → List (List (Placed Unparsed)) → Result Answer
@@ -47,6 +54,14 @@ abbrev pub areaAfter : List ℕ → Result (List ℕ) → List ℕ
 areaAfter area (ok bytes) = bytes ++ drop (length bytes) area
 areaAfter area (refused q) = area
 
--- what a run on a lent area comes to, the answer's length or a refusal, and the area afterwards
-abbrev pub ranOn : List ℕ → Choices → List ℕ → Result ℕ × List ℕ
-ranOn image how area = let r = run image how (length area) in ((r >>= λ bytes. ok (length bytes)), areaAfter area r)
+-- L1: "the starting value in force .. the image's if the line has a prefix, even an empty one, else the default"; "a refused run hands
+-- back an empty part". "The answer area tells only the image's own prefix": so its flag and its text are read there.
+abbrev pub inForce : List ℕ → Choices → Result (List ℕ) → List ℕ
+inForce image how (ok bytes) = let r = readAnswer image bytes in if isSet (r .flags) 4 then r .init else how .default
+inForce image how (refused q) = []
+
+-- what a run on a lent area comes to: the answer's length or a refusal, the area afterwards, and the starting value in force
+abbrev pub ranOn : List ℕ → Choices → List ℕ → Result ℕ × List ℕ × List ℕ
+ranOn image how area =
+    let r = run image how (length area) in
+    ((r >>= λ bytes. ok (length bytes)), areaAfter area r, inForce image how r)

@@ -4,8 +4,8 @@ use borrow.Author.Tests.{eq-eqb, ne-eqb}
 use Rattle.definition.specs.Prelude.{ℕ, _/_, _%_, List, [], _∷_, _++_}
 use Rattle.definition.specs.Basics.{ascii}
 use Rattle.definition.specs.Image.{u32At}
-use Rattle.definition.specs.Answer.{widthAt, textAt}
-use Rattle.definition.specs.Listing.{line, decimal, shown, isSet, flagWord, summaryWords}
+use Rattle.definition.specs.Answer.{widthAt, textAt, isSet}
+use Rattle.definition.specs.Listing.{line, decimal, shown, flagWord, summaryWords}
 use Rattle.listing.specs.digits.Put.{Put, _⨾_, read-as}
 use Rattle.listing.specs.words.Spaced.{spaced, line-counted, line-last}
 use Rattle.listing.specs.Parts.{headLine}

@@ -7,7 +7,7 @@ use Rattle.definition.specs.Prelude.{ℕ, _+_, _*_, _/_, _%_, List, [], _∷_, 
 use Rattle.definition.specs.Basics.{Result, ok, refused, tab, ascii}
 use Rattle.definition.specs.Image.{u32At}
 use Rattle.definition.specs.Answer.{widthAt, textAt, concatAt, fieldAt, readAnswer}
-use Rattle.definition.specs.Listing.{line, decimal, shown, isSet, flagWord, summaryWords, concatLines, answerLines, listing}
+use Rattle.definition.specs.Listing.{line, decimal, shown, flagWord, summaryWords, concatLines, answerLines, listing}
 use Rattle.errors.specs.Refused.{refusedAs}
 use Rattle.errors.specs.declared.Refusal.{Refusal}
 use Rattle.listing.specs.digits.Put.{Put, _⨾_, read-as, put-front, put-whole, put-cut}

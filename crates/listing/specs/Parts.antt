@@ -5,8 +5,8 @@ use Rattle.definition.specs.Prelude.{ℕ, Bool, true, false, List, [], _∷_, _
 use Rattle.definition.specs.Basics.{if_then_else_, joined, tab, ascii}
 use Rattle.definition.specs.Image.{u32At, bytesAt, bytesFor}
 use Rattle.listing.specs.words.Spaced.{spaced, line-parts}
-use Rattle.definition.specs.Answer.{Field, Bound, widthAt, textAt, boundAt, concatAt, fieldAt, readAnswer}
-use Rattle.definition.specs.Listing.{line, decimal, hex, shown, boundWord, endWord, summaryWords, flagWord, isSet, fieldLine, concatLines, answerLines}
+use Rattle.definition.specs.Answer.{Field, Bound, widthAt, textAt, boundAt, concatAt, fieldAt, readAnswer, isSet}
+use Rattle.definition.specs.Listing.{line, decimal, hex, shown, boundWord, endWord, summaryWords, flagWord, fieldLine, concatLines, answerLines}
 
 -- the end of the component at a place
 abbrev pub endAt : List ℕ → List ℕ → ℕ → Option Bound

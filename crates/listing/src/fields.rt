@@ -4,11 +4,11 @@ use crate::digits::put_byte;
 use crate::digits::put_bytes;
 use crate::text::put_number;
 use crate::text::put_text;
+use image::token_tree::text_place;
 use image::token_tree::u32_at;
 ghost use mathlib.Core.Path.{_≡_};
 ghost use mathlib.Core.List.{[], _∷_};
 ghost use Prim.Native.Nat.{_+_, _^_, _<_};
-ghost use Rattle.definition.specs.Image.{tables};
 ghost use Rattle.definition.specs.Answer.{widthAt, textAt, boundAt, fieldAt};
 ghost use Rattle.definition.specs.Listing.{shown, boundWord, endWord, fieldLine};
 ghost use Rattle.listing.specs.digits.Put.{Put};
@@ -21,16 +21,6 @@ pub(crate) fn width_at(s: &[u8], at: usize) -> u64
     ensures { λ r. ⌜ r ≡ widthAt (now (s .entry)) at ⌝ }
 {
     (u32_at(s, at) as u64) + 0x1_0000_0000 * (u32_at(s, at + 4) as u64)
-}
-
-// Where the image's text begins. With the bound no sum after it can wrap.
-fn text_place(image: &[u8]) -> usize
-    ensures { λ p. ⌜ (p ≡ (tables (now (image .entry))) .text) × (p < 2 ^ 40) ⌝ }
-{
-    40
-        + 4 * (u32_at(image, 0) as usize)
-        + 8 * (u32_at(image, 4) as usize)
-        + 12 * (u32_at(image, 8) as usize)
 }
 
 // The text whose start and length stand at a place.

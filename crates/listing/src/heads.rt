@@ -9,8 +9,8 @@ use image::token_tree::u32_at;
 ghost use mathlib.Core.Path.{_≡_};
 ghost use mathlib.Core.List.{_∷_};
 ghost use Rattle.definition.specs.Image.{u32At};
-ghost use Rattle.definition.specs.Answer.{textAt};
-ghost use Rattle.definition.specs.Listing.{shown, flagWord, isSet};
+ghost use Rattle.definition.specs.Answer.{textAt, isSet};
+ghost use Rattle.definition.specs.Listing.{shown, flagWord};
 ghost use Rattle.listing.specs.digits.Put.{Put};
 ghost use Rattle.listing.specs.Parts.{headLine};
 

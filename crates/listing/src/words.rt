@@ -5,7 +5,7 @@ use crate::digits::put_bytes;
 ghost use mathlib.Core.Path.{_≡_};
 ghost use mathlib.Core.List.{[], _∷_};
 ghost use Prim.Native.Nat.{_≤_};
-ghost use Rattle.definition.specs.Listing.{decimal, widthWord, alignWord, flagWord, isSet, summaryWords};
+ghost use Rattle.definition.specs.Listing.{decimal, widthWord, alignWord, flagWord, summaryWords};
 ghost use Rattle.listing.specs.digits.Put.{Put};
 ghost use Rattle.listing.specs.words.Spaced.{spaced};
 

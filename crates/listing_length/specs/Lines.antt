@@ -9,8 +9,8 @@ use lib.ListN.{length-append}
 use Rattle.definition.specs.Prelude.{ℕ, zero, suc, _+_, _*_, Bool, true, false, List, [], _∷_, _++_, map, reverse, length, take, drop, eqb}
 use Rattle.definition.specs.Basics.{ok, Refusal, refused, if_then_else_, joined, sum, tab, ascii}
 use Rattle.definition.specs.Image.{padded}
-use Rattle.definition.specs.Answer.{Bound, Field, Concat, Read, readAnswer}
-use Rattle.definition.specs.Listing.{decimal, hex, shown, boundWord, endWord, widthWord, alignWord, flagWord, isSet, summaryWords, line, fieldLine, concatLines, answerLines, listing}
+use Rattle.definition.specs.Answer.{Bound, Field, Concat, Read, readAnswer, isSet}
+use Rattle.definition.specs.Listing.{decimal, hex, shown, boundWord, endWord, widthWord, alignWord, flagWord, summaryWords, line, fieldLine, concatLines, answerLines, listing}
 use Rattle.listing_length.specs.Words.{decimal-most, shown-most, hex-most, bound-most, endText, end-most, width-most, flag-most, align-most, reverse-length}
 
 -- each word has a space or the newline after it

@@ -6,7 +6,8 @@ use Prim.Native.Nat.{_≤_}
 use borrow.Author.Tests.{eq-eqb, ne-eqb}
 use Rattle.definition.specs.Prelude.{ℕ, _+_, _*_, _^_, Bool, true, false, List, [], _∷_, _++_}
 use Rattle.definition.specs.Basics.{ascii}
-use Rattle.definition.specs.Listing.{decimal, widthWord, alignWord, flagWord, isSet, summaryWords}
+use Rattle.definition.specs.Answer.{isSet}
+use Rattle.definition.specs.Listing.{decimal, widthWord, alignWord, flagWord, summaryWords}
 use Rattle.listing.specs.digits.Put.{Put, _⨾_, read-as}
 use Rattle.listing.specs.words.Spaced.{spaced}
 
