@@ -7,6 +7,7 @@ pub mod Fields
 pub mod Items
 pub mod Placement
 pub mod ReadAnswer
+pub mod Start
 pub mod Statement
 pub mod Texts
 pub mod Trees

@@ -85,6 +85,38 @@ length-text base p = go (isEmpty (p .bytes))
     go true = refl
     go false = refl
 
+-- the two numbers of a text that is not empty, whose bytes lie in the text around it
+module _ (txt : List ℕ) (small : length txt < 2 ^ 32) (s : List ℕ) (i base at : ℕ) (m : List ℕ) (some : 0 < length m) (st : Holds (drop base txt) at m)
+    (h : Holds s i (u32 (base + at) ++ u32 (length m))) where
+  text-within : Holds txt (base + at) m
+  text-within = rw (drop-drop at base txt) at st
+
+  text-ends : base + at + length m ≤ length txt
+  text-ends = holds-bound txt (base + at) m text-within some
+
+  start-number : u32At s i ≡ base + at
+  start-number = let e = text-ends in u32At-holds s i (base + at) (holds-left s i (u32 (base + at)) (u32 (length m)) h) (omega arith)
+
+  length-number : u32At s (i + 4) ≡ length m
+  length-number = let e = text-ends in u32At-holds s (i + 4) (length m) (holds-right s i (u32 (base + at)) (u32 (length m)) h) (omega arith)
+
+-- the numbers of a text name a part of the text around it
+pub text-lies : (txt : List ℕ) → length txt < 2 ^ 32 → (s : List ℕ) (i base : ℕ) (p : Part) → Stands (drop base txt) p → Holds s i (textBytes base p)
+    → u32At s i + u32At s (i + 4) ≤ length txt
+text-lies txt small s i base p st h = go (p .bytes) st h
+  where
+    go : (bytes : List ℕ) → Holds (drop base txt) (p .at) bytes → Holds s i (textBytes base (record { at = p .at; bytes = bytes }))
+        → u32At s i + u32At s (i + 4) ≤ length txt
+    go [] st h =
+        let first : u32At s i ≡ 0 = u32At-holds s i 0 (holds-left s i (u32 0) (u32 0) h) (omega arith) in
+        let second : u32At s (i + 4) ≡ 0 = u32At-holds s (i + 4) 0 (holds-right s i (u32 0) (u32 0) h) (omega arith) in
+        omega (arith, first, second)
+    go (b ∷ bytes) st h =
+        let first = start-number txt small s i base (p .at) (b ∷ bytes) (omega arith) st h in
+        let second = length-number txt small s i base (p .at) (b ∷ bytes) (omega arith) st h in
+        let ends = text-ends txt small s i base (p .at) (b ∷ bytes) (omega arith) st h in
+        omega (arith, first, second, ends)
+
 module _ (image txt : List ℕ) (read : bytesAt image ((tables image) .text) (length txt) ≡ txt) (small : length txt < 2 ^ 32) (s : List ℕ) where
   pub text-read : (i base : ℕ) (p : Part) → Stands (drop base txt) p → Holds s i (textBytes base p) → textAt image s i ≡ p .bytes
   unfolding padded
@@ -94,11 +126,9 @@ module _ (image txt : List ℕ) (read : bytesAt image ((tables image) .text) (le
       go [] st h = rw (u32At-in s i (u32 0 ++ u32 0) 4 (i + 4) h refl (omega arith))
       go (b ∷ bytes) st h =
           let m : List ℕ = b ∷ bytes in
-          let within : Holds txt (base + p .at) m = rw (drop-drop (p .at) base txt) at st in
-          let bnd : base + p .at + length m ≤ length txt = holds-bound txt (base + p .at) m within (omega arith) in
-          let first : u32At s i ≡ base + p .at = u32At-holds s i (base + p .at) (holds-left s i (u32 (base + p .at)) (u32 (length m)) h) (omega arith) in
-          let second : u32At s (i + 4) ≡ length m = u32At-holds s (i + 4) (length m) (holds-right s i (u32 (base + p .at)) (u32 (length m)) h) (omega arith) in
-          ap₂ (λ a n. bytesAt image ((tables image) .text + a) n) first second ∙ bytes-in image ((tables image) .text) txt read (base + p .at) m within (omega arith)
+          ap₂ (λ a n. bytesAt image ((tables image) .text + a) n) (start-number txt small s i base (p .at) m (omega arith) st h)
+          (length-number txt small s i base (p .at) m (omega arith) st h)
+          ∙ bytes-in image ((tables image) .text) txt read (base + p .at) m (text-within txt small s i base (p .at) m (omega arith) st h) (omega arith)
 
   pub bound-read : (i base : ℕ) (u : Usb) → Stands (drop base txt) (u .s) → Holds s i (usbBytes base u) → boundAt image s i ≡ shownBound u
   bound-read i base u st h =

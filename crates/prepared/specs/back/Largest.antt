@@ -15,16 +15,21 @@ use Rattle.prepared.specs.back.Every.{all-tested, counts-say, offsets-sa
 pub max-input : maxInput ≡ 51306
 max-input = refl
 
+-- an image ends where its last table ends
+pub image-ends : (image : List ℕ) → checkImage image ≡ ok tt → length image ≡ (tables image) .stop
+image-ends image passes =
+    let at = tables image in
+    let o = offsets-say (u32At image 20) (u32At image 24) (u32At image 28) (u32At image 32) (u32At image 36) (length image)
+    (at .concatenations) (at .components) (at .records) (at .text) (at .literals) (at .stop) ((all-tested image passes) .placed) in
+    o .1
+
 pub image-most : (image : List ℕ) → checkImage image ≡ ok tt → length image ≤ maxImage
 image-most image passes =
     let k = all-tested image passes in
     let h = counts image in
-    let at = tables image in
-    let o = offsets-say (u32At image 20) (u32At image 24) (u32At image 28) (u32At image 32) (u32At image 36) (length image)
-    (at .concatenations) (at .components) (at .records) (at .text) (at .literals) (at .stop) (k .placed) in
     let q = counts-say (h .c) (h .n) (h .r) (h .t) (h .b)
     (limits .concatenations) (limits .components) (limits .records) (limits .text) (limits .literal-bytes) (k .counted) in
-    most (h .c) (h .n) (h .r) (h .t) (h .b) (q .0 .0 .0 .0 .1) (q .0 .0 .0 .1 .1) (q .0 .0 .1 .1) (q .0 .1 .1) (q .1) (o .1)
+    most (h .c) (h .n) (h .r) (h .t) (h .b) (q .0 .0 .0 .0 .1) (q .0 .0 .0 .1 .1) (q .0 .0 .1 .1) (q .0 .1 .1) (q .1) (image-ends image passes)
   where
     most : (c n r t b : ℕ) → c ≤ limits .concatenations → n ≤ limits .components → r ≤ limits .records → t ≤ limits .text → b ≤ limits .literal-bytes
         → length image ≡ 40 + 4 * c + 8 * n + 12 * r + t + b → length image ≤ maxImage
