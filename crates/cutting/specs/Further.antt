@@ -5,7 +5,7 @@ use Rattle.definition.specs.Basics.{ascii}
 use Rattle.definition.specs.Image.{kinds}
 use Rattle.definition.specs.Tree.{end, word, group}
 use Rattle.definition.specs.Readings.{tokens, parenthesised}
-use Rattle.definition.specs.Run.{under}
+use Rattle.definition.specs.Run.{under, withDefault}
 use Rattle.cutting.specs.Statement.{Given, Premises, _⊕_}
 use Rattle.cutting.specs.Witnesses.{found, claimed, meets, exampleIn, example, byte, plain, sink, opened}
 
@@ -29,6 +29,13 @@ returned =
     ((plain (word (ascii "b") (group (kinds .bracket) (tokens ("." ∷ "." ∷ "64" ∷ [])) end)) ∷ []) ∷ []) 0 8 4 []
     (tokens ("." ∷ "." ∷ "4" ∷ []) ∷ tokens ("4" ∷ "." ∷ "." ∷ []) ∷ [])
 
+-- mode 1, `165u8, ..` under the default `umax`: without it both runs refuse with 40
+unfoldable pub defaulted : Given
+defaulted =
+    exampleIn (withDefault 1 (ascii "umax")) [] (plain (tokens ("." ∷ "." ∷ [])) ∷ []) (byte (tokens ("165u8" ∷ []))) []
+    ((plain (word (ascii "b") (group (kinds .bracket) (tokens ("." ∷ "." ∷ "64" ∷ [])) end)) ∷ []) ∷ []) 0 8 4 []
+    (tokens ("." ∷ "." ∷ "4" ∷ []) ∷ tokens ("4" ∷ "." ∷ "." ∷ []) ∷ [])
+
 -- mode 2: the worked example's width is known
 unfoldable pub static : Given
 static =
@@ -47,10 +54,20 @@ pub returned-right : found returned ≡ claimed returned
 unfolding opened returned
 returned-right = refl
 
+pub defaulted-right : found defaulted ≡ claimed defaulted
+unfolding opened defaulted
+defaulted-right = refl
+
 pub static-right : found static ≡ claimed static
 unfolding opened static
 static-right = refl
 
--- the premises of the claim can be met, under every mode
-pub met : Premises three × Premises between × Premises returned × Premises static
-met = (meets three three-right, meets between between-right, meets returned returned-right, meets static static-right)
+-- the premises of the claim can be met, under every mode, and under a default where 40 would be given without it
+pub met : Premises three × Premises between × Premises returned × Premises defaulted × Premises static
+met = (
+  meets three three-right,
+  meets between between-right,
+  meets returned returned-right,
+  meets defaulted defaulted-right,
+  meets static static-right,
+)

@@ -15,7 +15,7 @@ use Rattle.definition.specs.Ranges.{Usb, Usbr, parseRange, singleBit, staticVal
 use Rattle.definition.specs.Component.{Component, literal, variable, filler, stage1Component, stage1, stage2, simplifyUsb, theEnd}
 use Rattle.definition.specs.Concatenation.{isStaticLiteral, merge}
 use Rattle.definition.specs.Answer.{Read, Field, readAnswer}
-use Rattle.definition.specs.Run.{Choices, run, areaAfter}
+use Rattle.definition.specs.Run.{Choices, run, areaAfter, inForce}
 
 -- ── The parts of a component ──
 
@@ -177,7 +177,7 @@ bitIn r p =
 
 -- all that is given
 pub record Given : Type 0 where
-  -- an image, choices (the mode) and an area on which the run accepts
+  -- an image, choices (the mode and the default) and an area on which the run accepts
   pub how : Choices
   pub area : List ℕ
   pub answer : List ℕ
@@ -244,6 +244,8 @@ pub record Same (g : Given) : Type 0 where
   pub new-answer : List ℕ
   pub new-accepted : run (newImage g) (g .how) (length (g .new-area)) ≡ ok new-answer
   pub fields-equal : readNew g new-answer ≡ readOld g
+  -- document 02, L1: "the cutting statement keeps the default", and so the starting value in force
+  pub start-kept : inForce (newImage g) (g .how) (ok new-answer) ≡ inForce (image g) (g .how) (ok (g .answer))
   pub bits-kept : (i : ℕ) → g .a ≤ i → i < g .b → BitKept g new-answer i
 
 abbrev pub Cutting : Type 0

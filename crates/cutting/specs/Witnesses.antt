@@ -1,5 +1,5 @@
 -- Closed examples that meet every premise of the cutting claim, with the claim computed on each: no premise is empty. Others,
--- also under modes 1 and 2, stand in Further.
+-- also under modes 1 and 2 and under a default, stand in Further.
 use mathlib.Core.Path.{_≡_, refl, sym, ap, subst}
 use lib.ListN.{replicate}
 use lib.Dec.{T, leb→le}
@@ -10,7 +10,7 @@ use Rattle.definition.specs.Image.{kinds}
 use Rattle.definition.specs.Tree.{Forest, end, word, group, Node, Tree, imageOf, fits, literalsOf}
 use Rattle.definition.specs.Readings.{tokens, parenthesised}
 use Rattle.definition.specs.Answer.{Read}
-use Rattle.definition.specs.Run.{Choices, under, run}
+use Rattle.definition.specs.Run.{Choices, under, run, inForce}
 use Rattle.definition.specs.Compute.{computed}
 use Rattle.cutting.specs.Statement.{Given, Premises, BitPlace, _⊕_, unranged, atColon, rising, piecesOf, pieces, runEnd, pieceAt, treeWith, newTree, scanned, fixedLiteral, readsAs, image, newImage, readOld, readNew, placeOf, componentsOf, bitIn}
 
@@ -42,6 +42,7 @@ pub record Facts : Type 0 where
   pub room : Bool
   pub new-accepted : Result (List ℕ)
   pub fields : Read
+  pub start : List ℕ
   pub places : List BitPlace
   pub old-bits : List (Option ℕ)
   pub new-bits : List (Option ℕ)
@@ -61,6 +62,7 @@ found g =
       room = leb (room g) (length (g .new-area));
       new-accepted = run (newImage g) (g .how) (length (g .new-area));
       fields = readNew g (newAnswer g);
+      start = inForce (newImage g) (g .how) (run (newImage g) (g .how) (length (g .new-area)));
       places = newPlaces g;
       old-bits = map (bitIn (readOld g)) (oldPlaces g);
       new-bits = map (bitIn (readNew g (newAnswer g))) (newPlaces g);
@@ -78,6 +80,7 @@ claimed g =
       room = true;
       new-accepted = ok (newAnswer g);
       fields = readOld g;
+      start = inForce (image g) (g .how) (ok (g .answer));
       places = oldPlaces g;
       old-bits = tab (λ i. some (getD (g .node .bits) i 0)) (g .a) (g .b - g .a);
       new-bits = tab (λ i. some (getD (g .node .bits) i 0)) (g .a) (g .b - g .a);
@@ -96,7 +99,7 @@ meets g h =
       long-enough = leb→le (room g) (length (g .new-area)) (subst T (sym (ap (λ f. f .room) h)) tt);
     }
 
--- a literal in its place, its bounds, places and brackets, under a mode, with areas that hold other bytes
+-- a literal in its place, its bounds, places and brackets, under a call's choices, with areas that hold other bytes
 abbrev pub exampleIn : Choices → Tree → List Node → Node → List Node → Tree → ℕ → ℕ → ℕ → List ℕ → List Forest → Given
 exampleIn how cb below node above ca a b place places brackets =
     record {

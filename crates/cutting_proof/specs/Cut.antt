@@ -2,14 +2,15 @@
 use mathlib.Core.Path.{_≡_, refl, sym, _∙_, ap}
 use Prim.Native.Nat.{_≤_, _<_}
 use native.Mathlib.Omega.{arith}
+use mathlib.Core.List.{append-nil}
 use Rattle.definition.specs.Prelude.{ℕ, _+_, _-_, Bool, true, false, _&&_, Option, none, some, List, [], _∷_, _++_, map, length, drop, getD, leb, ltb}
-use Rattle.definition.specs.Basics.{Result, ok, refused, _>>=_, joined, all}
+use Rattle.definition.specs.Basics.{Result, ok, refused, _>>=_, if_then_else_, joined, all}
 use Rattle.definition.specs.Limits.{areaNeeded}
 use Rattle.definition.specs.Image.{Unparsed, Placed, counts, treeOf}
 use Rattle.definition.specs.Tree.{Node, Tree, imageOf, fits, literalsOf, soundNode}
 use Rattle.definition.specs.Component.{Component, Parsed, stage1, stage2}
-use Rattle.definition.specs.Answer.{Answer, answerBytes, readAnswer, Read}
-use Rattle.definition.specs.Run.{Choices, run, stages, areaAfter}
+use Rattle.definition.specs.Answer.{Answer, answerBytes, readAnswer, Read, isSet}
+use Rattle.definition.specs.Run.{Choices, run, stages, inForce}
 use Rattle.laws.specs.Results.{bind-ok}
 use Rattle.laws.specs.Tests.{leb-iff, and-iff}
 use Rattle.laws.specs.Lists.{all-append, all-joined}
@@ -132,13 +133,27 @@ module _ (in-turn : InTurn) (cut-early : CutEarly) (cut-later : CutLater) where
     new-run : run (newImage g) (g .how) (length (g .new-area)) ≡ ok newAnswer
     new-run = run-of (newTree g) (pr .within-limits) (g .how) (length (g .new-area)) (new .0) (accepts .mode-right) (new .1) (pr .long-enough)
 
-    old-read : readOld g ≡ shown (eraseAnswer (accepts .said))
-    old-read =
-        ap (λ s. readAnswer (image g) (s ++ drop (length s) (g .area))) (sym (accepts .bytes))
-        ∙ reads-answer old (pr .a-tree) (g .how) (accepts .said) old-placed _
+    -- whatever follows them, the two answers say the same
+    old-read : (rest : List ℕ) → readAnswer (image g) (g .answer ++ rest) ≡ shown (eraseAnswer (accepts .said))
+    old-read rest =
+        ap (λ s. readAnswer (image g) (s ++ rest)) (sym (accepts .bytes))
+        ∙ reads-answer old (pr .a-tree) (g .how) (accepts .said) old-placed rest
 
-    new-read : readNew g newAnswer ≡ shown (eraseAnswer (accepts .said))
-    new-read = reads-answer (newTree g) (pr .within-limits) (g .how) (new .0) (new .1) _ ∙ ap shown (new .2)
+    new-read : (rest : List ℕ) → readAnswer (newImage g) (newAnswer ++ rest) ≡ shown (eraseAnswer (accepts .said))
+    new-read rest = reads-answer (newTree g) (pr .within-limits) (g .how) (new .0) (new .1) rest ∙ ap shown (new .2)
+
+    abbrev oldRest : List ℕ
+    oldRest = drop (length (g .answer)) (g .area)
+
+    abbrev newRest : List ℕ
+    newRest = drop (length newAnswer) (g .new-area)
+
+    -- so do the answers alone
+    start-kept : inForce (newImage g) (g .how) (ok newAnswer) ≡ inForce (image g) (g .how) (ok (g .answer))
+    start-kept =
+        let same : readAnswer (newImage g) newAnswer ≡ readAnswer (image g) (g .answer) =
+        ap (readAnswer (newImage g)) (sym (append-nil newAnswer)) ∙ new-read [] ∙ sym (old-read []) ∙ ap (readAnswer (image g)) (append-nil (g .answer)) in
+        ap (λ (r : Read). if isSet (r .flags) 4 then r .init else g .how .default) same
 
     bit-kept : (i : ℕ) → g .a ≤ i → i < g .b → BitKept g newAnswer i
     bit-kept i lo hi =
@@ -159,8 +174,8 @@ module _ (in-turn : InTurn) (cut-early : CutEarly) (cut-later : CutLater) where
               ∙ (λ x. let p = pieceAt (g .a) places i in placeOf newComponents ((sym (cut .same-concatenations)) x) ((sym (cut .same-components)) x + p .index) (i - p .start))
               ∙ same-place (cut .concatenations-below) (cut .below) (cut .above) (cut .concatenations-above) (g .node .bits) (g .a) places (g .b)
               (pr .rises) (cut .within-width) (sound .width) i lo hi;
-          old-value = ap (λ r. bitIn r here) (old-read) ∙ value;
-          new-value = ap (λ r. bitIn r here) (new-read) ∙ value;
+          old-value = ap (λ r. bitIn r here) (old-read oldRest) ∙ value;
+          new-value = ap (λ r. bitIn r here) (new-read newRest) ∙ value;
         }
 
   pub cutting : Cutting
@@ -168,6 +183,7 @@ module _ (in-turn : InTurn) (cut-early : CutEarly) (cut-later : CutLater) where
       record {
         new-answer = newAnswer g pr;
         new-accepted = new-run g pr;
-        fields-equal = new-read g pr ∙ sym (old-read g pr);
+        fields-equal = new-read g pr (newRest g pr) ∙ sym (old-read g pr (oldRest g pr));
+        start-kept = start-kept g pr;
         bits-kept = bit-kept g pr;
       }
