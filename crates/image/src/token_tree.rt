@@ -4,9 +4,9 @@ pub use crate::words::byte_at;
 use crate::words::four_at;
 pub use crate::words::join4;
 ghost use mathlib.Core.Path.{_≡_};
-ghost use Prim.Native.Nat.{_+_};
+ghost use Prim.Native.Nat.{_+_, _^_, _<_};
 ghost use lib.ListN.{getD};
-ghost use Rattle.definition.specs.Image.{u32At, tablesFor};
+ghost use Rattle.definition.specs.Image.{u32At, tables, tablesFor};
 ghost use Rattle.image.specs.token_tree.Tables.{tablesOf};
 
 // C, N, R, T and B of document 01's header.
@@ -60,6 +60,16 @@ pub fn u32_at(s: &[u8], at: usize) -> u32
         return short_at(s, at);
     }
     four_at(s, at)
+}
+
+// Where the image's text begins. With the bound no sum after it can wrap.
+pub fn text_place(image: &[u8]) -> usize
+    ensures { λ p. ⌜ (p ≡ (tables (now (image .entry))) .text) × (p < 2 ^ 40) ⌝ }
+{
+    40
+        + 4 * (u32_at(image, 0) as usize)
+        + 8 * (u32_at(image, 4) as usize)
+        + 12 * (u32_at(image, 8) as usize)
 }
 
 pub(crate) fn tables_for(h: Counts) -> Tables

@@ -3,3 +3,4 @@ pub mod Lengths
 pub mod Ordered
 pub mod Outcomes
 pub mod Starting
+pub mod Force

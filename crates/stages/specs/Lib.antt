@@ -4,6 +4,7 @@ pub mod admission
 pub mod answer
 pub mod component
 pub mod concatenation
+pub mod in_force
 pub mod ranges
 pub mod run
 pub mod token_tree

@@ -4,6 +4,7 @@ mod admission;
 mod answer;
 mod component;
 mod concatenation;
+pub mod in_force;
 mod ranges;
 pub mod run;
 mod token_tree;

@@ -10,7 +10,7 @@ use Rattle.definition.specs.Image.{Unparsed, Placed, counts, treeOf}
 use Rattle.definition.specs.Check.{checkImage}
 use Rattle.definition.specs.Text.{Part}
 use Rattle.definition.specs.Component.{Component, each, startingValue, source, stage1, stage2}
-use Rattle.definition.specs.Run.{Choices, stages, run, ranOn}
+use Rattle.definition.specs.Run.{Choices, under, stages, run}
 use Rattle.laws.specs.Results.{bind-ok, bind-assoc, need-ok, need-then}
 use Rattle.laws.specs.Tests.{and-iff, leb-iff}
 use Rattle.prepared.specs.Statement.{Bytes}
@@ -22,7 +22,8 @@ use Rattle.errors.specs.declared.Checked.the-variants as C
 use Rattle.errors.specs.declared.Refusal.{Refusal}
 use Rattle.stages.specs.admission.Asked.{admittedOf}
 use Rattle.stages.specs.component.Read.{firstStage, secondStage, twoStages}
-use Rattle.stages.specs.run.Run.{cameTo, bytesOf, RunFits}
+use Rattle.stages.specs.run.Run.{StandsFor, cameTo, bytesOf, RunFits}
+use Rattle.stages.specs.declared.run.Choices.{Choices as Told}
 use Rattle.stages.proofs.token_tree.Trees.{every-grown}
 
 -- ---- the stages
@@ -42,8 +43,8 @@ stages-two how t = in-turn how t ∙ by-stages how (startingValue 0 (source t)) 
 
 -- ---- the checks before the stages
 
--- the run is those checks, and then the stages
-run-after : (image : List ℕ) (how : Choices) (area : ℕ) → run image how area ≡ (admittedOf image how area >>= λ _. bytesOf (stages how (treeOf image)))
+-- the run is those checks, which ask for the mode alone, and then the stages
+run-after : (image : List ℕ) (how : Choices) (area : ℕ) → run image how area ≡ (admittedOf image (under (how .mode)) area >>= λ _. bytesOf (stages how (treeOf image)))
 unfolding admittedOf run
 run-after image how area =
     go (need (leb (how .mode) 2) mode-above-2) (checkImage image) (need (leb (areaNeeded ((counts image) .c) ((counts image) .n) ((counts image) .b)) area) short-area)
@@ -54,7 +55,7 @@ run-after image how area =
     go (ok u) (refused q) c r = refl
     go (refused q) b c r = refl
 
-all-bytes : (s : List ℕ) → ((i : ℕ) → getD s i 0 < 256) → Bytes s
+pub all-bytes : (s : List ℕ) → ((i : ℕ) → getD s i 0 < 256) → Bytes s
 unfolding all
 all-bytes [] h = refl
 all-bytes (x ∷ s) h = (and-iff (ltb x 256) (all (λ b. ltb b 256) s)) .1 (lt-ltb x 256 (h 0), all-bytes s (λ i. h (suc i)))
@@ -66,16 +67,21 @@ fits-after image how area bytes h =
     let (u, c, n) = bind-ok (checkImage image) _ g in
     record { grown = every-grown image (all-bytes image bytes) c; checked = c; room = (leb-iff _ _) .0 (need-ok _ short-area n) }
 
-module _ (image : List ℕ) (how : Choices) (area : List ℕ) (s : Checked) (said : resultOf s ≡ admittedOf image how (length area)) where
+module _ (image : List ℕ) (told : Told) (area : List ℕ) (s : Checked) (said : resultOf s ≡ admittedOf image (under (told .mode)) (length area)) where
   pub entered : ((i : ℕ) → getD image i 0 < 256) → s ≡ C.Passed → RunFits image (length area)
-  entered bytes p = fits-after image how (length area) bytes (sym said ∙ ap resultOf p)
+  entered bytes p = fits-after image (under (told .mode)) (length area) bytes (sym said ∙ ap resultOf p)
 
-  pub whole-entered : s ≡ C.Passed → {r : Result ℕ × List ℕ} → r ≡ cameTo area (bytesOf (stages how (treeOf image))) → r ≡ ranOn image how area
-  whole-entered p e =
-      let ran : run image how (length area) ≡ bytesOf (stages how (treeOf image)) = run-after image how (length area) ∙ rw (← said, p) in
-      e ∙ ap (cameTo area) (sym ran)
+  module _ (how : Choices) (st : StandsFor told how) where
+    asked : resultOf s ≡ admittedOf image (under (how .mode)) (length area)
+    asked = said ∙ ap (λ m. admittedOf image (under m) (length area)) (sym (st .mode))
 
-  pub whole-refused : {q : Refusal} → s ≡ C.Refused q → (refusedAs q, area) ≡ ranOn image how area
-  whole-refused {q} e =
-      let ran : run image how (length area) ≡ refusedAs q = run-after image how (length area) ∙ rw (← said, e) in
-      ap (cameTo area) (sym ran)
+    pub whole-entered : s ≡ C.Passed → {r : Result ℕ × List ℕ} → r ≡ cameTo area (bytesOf (stages how (treeOf image)))
+        → r ≡ cameTo area (run image how (length area))
+    whole-entered p e =
+        let ran : run image how (length area) ≡ bytesOf (stages how (treeOf image)) = run-after image how (length area) ∙ rw (← asked, p) in
+        e ∙ ap (cameTo area) (sym ran)
+
+    pub whole-refused : {q : Refusal} → s ≡ C.Refused q → (refusedAs q, area) ≡ cameTo area (run image how (length area))
+    whole-refused {q} e =
+        let ran : run image how (length area) ≡ refusedAs q = run-after image how (length area) ∙ rw (← asked, e) in
+        ap (cameTo area) (sym ran)

@@ -3,8 +3,8 @@ use mathlib.Core.Path.{_≡_, refl, sym, ap, ap₂, _∙_}
 use Prim.Native.Nat.{_≤_}
 use native.Mathlib.Omega.{arith}
 use lib.Seq.{sets}
-use Rattle.definition.specs.Prelude.{ℕ, _*_, _&&_, Bool, true, false, not, none, some, List, map, length, eqb, leb}
-use Rattle.definition.specs.Basics.{Result, ok, refused, _>>=_, if_then_else_, within}
+use Rattle.definition.specs.Prelude.{ℕ, _*_, _&&_, _||_, Bool, true, false, not, none, some, List, [], _∷_, map, length, eqb, leb}
+use Rattle.definition.specs.Basics.{Result, ok, refused, _>>=_, if_then_else_, isEmpty, within}
 use Rattle.definition.specs.Refusals.{short-image, bad-count}
 use Rattle.definition.specs.Image.{Placed, counts, treeOf}
 use Rattle.definition.specs.Check.{countsRight, checkImage}
@@ -30,9 +30,10 @@ use Rattle.stages.specs.component.Read.{verdict, twoStages, StagesAre}
 use Rattle.stages.specs.concatenation.Heads.{HeadsAre, CountsFit, Stage3Is, Judged}
 use Rattle.stages.specs.concatenation.Overall.{answerOf}
 use Rattle.stages.specs.answer.Stage5.{compsOf, answerFrom, Fitting, Answers, Stage5Is}
-use Rattle.stages.specs.run.Run.{cameTo, bytesOf, RunFits, initOf, laterOf, StartFits, behindStart, ReadFits, ReadAs, JudgedFits, JudgedAs}
+use Rattle.stages.specs.run.Run.{StandsFor, cameTo, bytesOf, RunFits, initOf, laterOf, StartFits, behindStart, ReadFits, ReadAs, JudgedFits, JudgedAs}
 use Rattle.stages.specs.declared.token_tree.types.Tables.{Tables}
 use Rattle.stages.specs.declared.component.start.Start.{Start}
+use Rattle.stages.specs.declared.run.Choices.{Choices as Told}
 use Rattle.stages.specs.declared.concatenation.overall.Overall.{Overall}
 use Rattle.stages.specs.declared.concatenation.overall.OverallResult.{OverallResult}
 use Rattle.stages.specs.declared.concatenation.overall.OverallResult.the-variants as R
@@ -115,13 +116,14 @@ module _ {image : List ℕ} {area : ℕ} (fits : RunFits image area) {c : ℕ} {
         let (ds, r) = passed-ok (stage3 0 (f .cc)) q (told .0) p in
         record { read = f; ds = ds; checked = r; heads-are = told .1 ds r; heads-long = fit }
 
-    module _ (how : Choices) (before : List ℕ) where
-      pub kept-on : q ≡ C.Passed → (o : Outcome) (after : List ℕ) → JudgedAs image how c s heads words o before after → ReadAs image how c s words o before after
-      kept-on p o after h cc e =
-          let (ds, r) = passed-ok (stage3 0 (f .cc)) q (told .0) p in
-          let same : f .cc ≡ cc = ok-same (f .read) e in
-          h cc ds e (rw (← same) r)
+    pub kept-on : (how : Told) (before : List ℕ) → q ≡ C.Passed → (o : Outcome) (after : List ℕ) → JudgedAs image how c s heads words o before after
+        → ReadAs image how c s words o before after
+    kept-on how before p o after h call st cc e =
+        let (ds, r) = passed-ok (stage3 0 (f .cc)) q (told .0) p in
+        let same : f .cc ≡ cc = ok-same (f .read) e in
+        h call st cc ds e (rw (← same) r)
 
+    module _ (how : Choices) (before : List ℕ) where
       pub kept-off : {e : Refusal} → q ≡ C.Refused e → (cc : List (List (Placed Component))) → twoStages (treeOf image) ≡ ok cc
           → (refusedAs e, before) ≡ cameTo before (bytesOf (laterOf image how s cc))
       kept-off {e} p cc r =
@@ -148,6 +150,18 @@ given-is image s = go (eqb (s .after .0) 0) (record { base = scannedBase image; 
     go true p = refl
     go false p = refl
 
+-- the stages' own choices stand for those of some call
+some-choices : (told : Told) → (how : Choices) × StandsFor told how
+some-choices told = (record { mode = told .mode; default = bytes (told .held) }, record { mode = refl; held = is (told .held) })
+  where
+    bytes : Bool → List ℕ
+    bytes true = 0 ∷ []
+    bytes false = []
+
+    is : (b : Bool) → not (isEmpty (bytes b)) ≡ b
+    is true = refl
+    is false = refl
+
 module _ {image : List ℕ} (before : List ℕ) (fits : RunFits image (length before)) {c : ℕ} {s : Start} {heads words : List ℕ}
     (f : JudgedFits image c s heads words) where
   pub judged-counts : CountsFit image (f .read .cc) c (length words) (length heads)
@@ -161,29 +175,30 @@ module _ {image : List ℕ} (before : List ℕ) (fits : RunFits image (length be
       judged-is image words heads c (f .read .cc) (f .ds) (f .checked) (judged-counts .count) (judged-counts .few-components) (judged-counts .sizes)
       (f .read .kept) (f .heads-are)
 
-  module _ (how : Choices) (q : OverallResult)
-      (said : (ds : List Concatenation) → Judged image words heads c ds → answerOf q ≡ stage4 (how .mode) (not (eqb (s .after .0) 0)) ds) where
-    judged-later : laterOf image how s (f .read .cc)
+  module _ (told : Told) (start : Bool) (has : start ≡ (not (eqb (s .after .0) 0) || told .held)) (q : OverallResult)
+      (said : (ds : List Concatenation) → Judged image words heads c ds → answerOf q ≡ stage4 (told .mode) start ds) where
+    judged-later : (how : Choices) → StandsFor told how → laterOf image how s (f .read .cc)
         ≡ (answerOf q >>= λ o. ok (record { init = initOf image s; overall = o; cc = map merged (f .ds) }))
-    judged-later = rw (f .checked, given-is image s, said (f .ds) judged)
+    judged-later how st = rw (f .checked, given-is image s, st .held, st .mode, ← has, said (f .ds) judged)
 
-    pub judged-off : {e : Refusal} → q ≡ R.Refused e
+    pub judged-off : {e : Refusal} → q ≡ R.Refused e → (how : Choices) → StandsFor told how
         → (cc : List (List (Placed Component))) (ds : List Concatenation) → twoStages (treeOf image) ≡ ok cc → stage3 0 cc ≡ ok ds
         → (refusedAs e, before) ≡ cameTo before (bytesOf (laterOf image how s cc))
-    judged-off {e} p cc ds r t =
+    judged-off {e} p how st cc ds r t =
         let same : f .read .cc ≡ cc = ok-same (f .read .read) r in
-        came-refused before (laterOf image how s cc) e (rw (← same) (judged-later ∙ rw p))
+        came-refused before (laterOf image how s cc) e (rw (← same) (judged-later how st ∙ rw p))
 
     module _ {o : Overall} (is : q ≡ R.Ok o) where
       abbrev a : Answer
       a = answerFrom image (scannedBase image) s o (f .ds)
 
-      accepted : laterOf image how s (f .read .cc) ≡ ok a
-      accepted = judged-later ∙ rw is
+      accepted : (how : Choices) → StandsFor told how → laterOf image how s (f .read .cc) ≡ ok a
+      accepted how st = judged-later how st ∙ rw is
 
       fitting : Fitting c (length before) a
       fitting =
-          let g = answer-fits image (fits .checked) how a (stages-two how (treeOf image) ∙ rw (f .read .is, f .read .read) accepted) in
+          let (how, st) = some-choices told in
+          let g = answer-fits image (fits .checked) how a (stages-two how (treeOf image) ∙ rw (f .read .is, f .read .read) (accepted how st)) in
           let n = g .merged in
           let l = g .literals in
           let r = g .room in
@@ -212,10 +227,10 @@ module _ {image : List ℕ} (before : List ℕ) (fits : RunFits image (length be
             fitting = fitting;
           }
 
-      pub judged-on : (r : ℕ) (after : List ℕ) → Stage5Is image words heads c o s r before after
+      pub judged-on : (r : ℕ) (after : List ℕ) → Stage5Is image words heads c o s r before after → (how : Choices) → StandsFor told how
           → (cc : List (List (Placed Component))) (ds : List Concatenation) → twoStages (treeOf image) ≡ ok cc → stage3 0 cc ≡ ok ds
           → (ok r, after) ≡ cameTo before (bytesOf (laterOf image how s cc))
-      judged-on r after h cc ds e t =
+      judged-on r after h how st cc ds e t =
           let same : f .read .cc ≡ cc = ok-same (f .read .read) e in
           let (x, y) = h (scannedBase image) (f .ds) answers in
-          came-accepted before after (laterOf image how s cc) a r (rw (← same) accepted) (fitting .room) x y
+          came-accepted before after (laterOf image how s cc) a r (rw (← same) (accepted how st)) (fitting .room) x y

@@ -1,8 +1,8 @@
 -- The whole run in code: the outcome and the lent area, as the definition's; and each function above the stages, by what is left to do.
 use mathlib.Core.Path.{_≡_}
 use Prim.Native.Nat.{_≤_}
-use Rattle.definition.specs.Prelude.{ℕ, _*_, Option, List, length}
-use Rattle.definition.specs.Basics.{Result, ok, _>>=_, joined}
+use Rattle.definition.specs.Prelude.{ℕ, _*_, not, Option, List, length}
+use Rattle.definition.specs.Basics.{Result, ok, _>>=_, isEmpty, joined}
 use Rattle.definition.specs.Limits.{areaNeeded}
 use Rattle.definition.specs.Image.{Placed, counts, treeOf}
 use Rattle.definition.specs.Check.{checkImage}
@@ -10,7 +10,7 @@ use Rattle.definition.specs.Text.{Part}
 use Rattle.definition.specs.Component.{Component, startingValue, source}
 use Rattle.definition.specs.Concatenation.{Concatenation, stage3}
 use Rattle.definition.specs.Answer.{Answer, answerBytes}
-use Rattle.definition.specs.Run.{Choices, stages, areaAfter}
+use Rattle.definition.specs.Run.{Choices, stages, run, areaAfter}
 use Rattle.answer_facts.specs.stages.Statement.{later}
 use Rattle.errors.specs.Refused.{outcomeOf}
 use Rattle.errors.specs.declared.Outcome.{Outcome}
@@ -22,6 +22,12 @@ use Rattle.stages.specs.component.Read.{twoStages}
 use Rattle.stages.specs.concatenation.Heads.{HeadsAre}
 use Rattle.stages.specs.declared.token_tree.types.Tables.{Tables}
 use Rattle.stages.specs.declared.component.start.Start.{Start}
+use Rattle.stages.specs.declared.run.Choices.{Choices as Told}
+
+-- the choices of a call that the stages' own stand for
+pub record StandsFor (told : Told) (how : Choices) : Type 0 where
+  pub mode : how .mode ≡ told .mode
+  pub held : not (isEmpty (how .default)) ≡ told .held
 
 -- what a run on a lent area comes to, and the area afterwards
 abbrev pub cameTo : List ℕ → Result (List ℕ) → Result ℕ × List ℕ
@@ -40,8 +46,13 @@ pub record RunFits (image : List ℕ) (area : ℕ) : Type 0 where
 abbrev pub Came : Result Answer → Outcome → List ℕ → List ℕ → Type 0
 Came m o before after = (outcomeOf o, after) ≡ cameTo before (bytesOf m)
 
-abbrev pub StagesAs : List ℕ → Choices → Outcome → List ℕ → List ℕ → Type 0
-StagesAs image how o before after = Came (stages how (treeOf image)) o before after
+abbrev pub StagesAs : List ℕ → Told → Outcome → List ℕ → List ℕ → Type 0
+StagesAs image told o before after = (how : Choices) → StandsFor told how → Came (stages how (treeOf image)) o before after
+
+-- the outcome and the area are those of the whole run
+abbrev pub AnsweredAs : List ℕ → Told → Outcome → List ℕ → List ℕ → Type 0
+AnsweredAs image told o before after =
+    (how : Choices) → StandsFor told how → (outcomeOf o, after) ≡ cameTo before (run image how (length before))
 
 -- ---- behind the starting value
 
@@ -61,8 +72,8 @@ laterOf image how s cc = later how (record { init = initOf image s; cc = cc })
 abbrev pub behindStart : List ℕ → Choices → Start → Result Answer
 behindStart image how s = twoStages (treeOf image) >>= laterOf image how s
 
-abbrev pub StartedAs : List ℕ → Choices → Start → Outcome → List ℕ → List ℕ → Type 0
-StartedAs image how s o before after = Came (behindStart image how s) o before after
+abbrev pub StartedAs : List ℕ → Told → Start → Outcome → List ℕ → List ℕ → Type 0
+StartedAs image told s o before after = (how : Choices) → StandsFor told how → Came (behindStart image how s) o before after
 
 -- ---- behind stages 1 and 2
 
@@ -75,9 +86,9 @@ pub record ReadFits (image : List ℕ) (c : ℕ) (s : Start) (words : List ℕ) 
   pub kept : KeptFrom image words 0 (joined cc)
   pub long : 11 * (counts image) .n ≤ length words
 
-abbrev pub ReadAs : List ℕ → Choices → ℕ → Start → List ℕ → Outcome → List ℕ → List ℕ → Type 0
-ReadAs image how c s words o before after =
-    (cc : List (List (Placed Component))) → twoStages (treeOf image) ≡ ok cc → Came (laterOf image how s cc) o before after
+abbrev pub ReadAs : List ℕ → Told → ℕ → Start → List ℕ → Outcome → List ℕ → List ℕ → Type 0
+ReadAs image told c s words o before after =
+    (how : Choices) → StandsFor told how → (cc : List (List (Placed Component))) → twoStages (treeOf image) ≡ ok cc → Came (laterOf image how s cc) o before after
 
 -- ---- behind stage 3
 
@@ -88,7 +99,7 @@ pub record JudgedFits (image : List ℕ) (c : ℕ) (s : Start) (heads words : Li
   pub heads-are : HeadsAre heads ds
   pub heads-long : 2 * c ≤ length heads
 
-abbrev pub JudgedAs : List ℕ → Choices → ℕ → Start → List ℕ → List ℕ → Outcome → List ℕ → List ℕ → Type 0
-JudgedAs image how c s heads words o before after =
-    (cc : List (List (Placed Component))) (ds : List Concatenation) → twoStages (treeOf image) ≡ ok cc → stage3 0 cc ≡ ok ds
+abbrev pub JudgedAs : List ℕ → Told → ℕ → Start → List ℕ → List ℕ → Outcome → List ℕ → List ℕ → Type 0
+JudgedAs image told c s heads words o before after =
+    (how : Choices) → StandsFor told how → (cc : List (List (Placed Component))) (ds : List Concatenation) → twoStages (treeOf image) ≡ ok cc → stage3 0 cc ≡ ok ds
     → Came (laterOf image how s cc) o before after

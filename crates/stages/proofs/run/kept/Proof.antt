@@ -1,4 +1,3 @@
-use Rattle.definition.specs.Run.{under}
 use borrow.Author.Needs.{needs}
 use Rattle.stages.proofs.run.Outcomes.{read-counts, few-heads, judged-fits, kept-on, kept-off}
 use Rattle.stages.proofs.run.kept.Statement.{statement}
@@ -20,14 +19,14 @@ returns c =
     let s = c .before .before .before .before .before .before .before .before .before .before .before .before .before in
     let q = c .before .before .before .before .before .before .before .before .stage3 in
     let j = c .before .before .judged in
-    kept-on (s .pre .0) (s .pre .1) (q .last .0) (q .kept .0) (q .result) (q .ensures) (under (s .args .mode)) (s .args .area .now)
+    kept-on (s .pre .0) (s .pre .1) (q .last .0) (q .kept .0) (q .result) (q .ensures) (s .args .how) (s .args .area .now)
     (c .before .before .before .before .before .enum-told .given .1) (j .result) (j .last .0) (j .ensures)
 
 returns-2 : tie.Need-returns-2
-returns-2 c =
+returns-2 c how st =
     let s = c .before .before .before .before .before .before .before .before .before in
     let q = c .before .before .before .before .stage3 in
-    kept-off (s .pre .0) (s .pre .1) (q .last .0) (q .kept .0) (q .result) (q .ensures) (under (s .args .mode)) (s .args .area .now)
+    kept-off (s .pre .0) (s .pre .1) (q .last .0) (q .kept .0) (q .result) (q .ensures) how (s .args .area .now)
     (c .before .e .given .1)
 
 pub kept-spec : {M : Type 1} → statement M

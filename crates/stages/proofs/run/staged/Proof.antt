@@ -1,4 +1,3 @@
-use Rattle.definition.specs.Run.{under}
 use borrow.Author.Needs.{needs}
 use Rattle.stages.proofs.run.Starting.{start-fits, start-refused}
 use Rattle.stages.proofs.run.Outcomes.{staged-on, staged-off}
@@ -13,19 +12,19 @@ started-requires c κs =
     (fits, start-fits (q .ensures) (fits .grown) (t .ensures) (c .before .before .before .s .given .1), room)
 
 returns : tie.Need-returns
-returns c =
+returns c how st =
     let s = c .before .before .before .before .before .before .before .before .before .before .before .before .before .before .before in
     let t = c .before .before .before .before .before .before .before .before .before .before .before .tables-of in
     let q = c .before .before .before .before .before .before .before .before .before .before .starting-value in
-    staged-on (s .args .image .now) (under (s .args .mode)) (s .args .area .now)
+    staged-on (s .args .image .now) how (s .args .area .now)
     (start-fits {q = q .result} (q .ensures) (s .pre .0 .grown) (t .ensures) (c .before .before .before .before .before .before .before .before .s .given .1))
-    (c .before .before .before .before .started .ensures)
+    (c .before .before .before .before .started .ensures how st)
 
 returns-2 : tie.Need-returns-2
-returns-2 c =
+returns-2 c how st =
     let s = c .before .before .before .before .before .before .before .before in
     let q = c .before .before .before .starting-value in
-    staged-off (s .args .image .now) (under (s .args .mode)) (s .args .area .now) (start-refused {q = q .result} (q .ensures) (s .pre .0 .grown) (c .before .e .given .1))
+    staged-off (s .args .image .now) how (s .args .area .now) (start-refused {q = q .result} (q .ensures) (s .pre .0 .grown) (c .before .e .given .1))
 
 pub staged-spec : {M : Type 1} → statement M
 staged-spec =
