@@ -9,18 +9,29 @@ use Rattle.errors.specs.Refused.{outcomeOf}
 use Rattle.listing.specs.Outcomes.{filled, writtenAs}
 use Rattle.listing.specs.declared.Written.{Written}
 use Rattle.listing.specs.declared.Written.the-variants.{Whole, Cut}
-use Rattle.definition.specs.Run.{Choices, ranOn}
+use Rattle.definition.specs.Run.{Choices, run, ranOn}
 use Rattle.layout_c.specs.outcome.Code.{codeOf}
-use Rattle.layout_c.specs.Code.{codedOn, listedIn}
+use Rattle.layout_c.specs.Code.{codedOn, codedWith, listedIn}
+use Rattle.stages.specs.in_force.InForce.{placeIn}
+use Rattle.stages.specs.declared.in_force.InForce.{InForce}
+use Rattle.layout_c.specs.start.Told.{numberAt}
 use Rattle.layout_c.specs.Split.{codeOn, code-small}
 
-pub run-coded : (image area after : List ℕ) (how : Choices) (o : Outcome) → (outcomeOf o, after) ≡ ranOn image how area
+pub run-coded : (image area after start : List ℕ) (how : Choices) (o : Outcome) → (outcomeOf o, after, start) ≡ ranOn image how area
     → (n : ℕ) → n ≡ codeOf (outcomeOf o) % 2 ^ 64 → _≡_ {A = ℕ × List ℕ} (n, after) (codedOn image how area)
-run-coded image area after how o e n is =
-    let code : codeOf (outcomeOf o) ≡ codeOn image how (length area) = ap (λ (p : Result ℕ × List ℕ). codeOf (p .0)) e in
+run-coded image area after start how o e n is =
+    let code : codeOf (outcomeOf o) ≡ codeOn image how (length area) = ap (λ (p : Result ℕ × List ℕ × List ℕ). codeOf (p .0)) e in
     let small = code-small image how (length area) in
     let same : n ≡ codeOf (outcomeOf o) = omega (arith, is, code, small) in
-    ap (λ (m : ℕ). (m, after)) same ∙ ap (λ (p : Result ℕ × List ℕ). (codeOf (p .0), p .1)) e
+    ap (λ (m : ℕ). (m, after)) same ∙ ap (λ (p : Result ℕ × List ℕ × List ℕ). (codeOf (p .0), p .1)) e
+
+-- with where the starting value in force stands
+pub run-told : (image area after start : List ℕ) (how : Choices) (o : Outcome) → (outcomeOf o, after, start) ≡ ranOn image how area
+    → (n : ℕ) → n ≡ codeOf (outcomeOf o) % 2 ^ 64 → (f : InForce) → f ≡ placeIn image (run image how (length area)) → (t : ℕ) → t ≡ numberAt f
+    → _≡_ {A = ℕ × List ℕ × ℕ} (n, after, t) (codedWith image how area)
+run-told image area after start how o e n is f at t told =
+    let coded = run-coded image area after start how o e n is in
+    λ i. (coded i .0, coded i .1, (told ∙ ap numberAt at) i)
 
 -- what `answer` says of its buffer, as one number
 module _ (input out out' : List ℕ) (w : Written) (shows : out' ≡ filled out (output input)) (says : w ≡ writtenAs (length (output input)) (length out)) where

@@ -2,3 +2,4 @@
 pub mod Code
 pub mod Split
 pub mod outcome
+pub mod start

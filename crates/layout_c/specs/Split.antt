@@ -1,24 +1,31 @@
 -- The number that a caller in C gets says all of the outcome: below 2^32 it is the answer's length, and from 2^32 on it is a refusal,
 -- whose parts the header takes out again (include/layout.h).
-use mathlib.Core.Path.{_≡_, refl, ap}
+use mathlib.Core.Path.{_≡_, refl, ap, _∙_}
 use Prim.Native.Nat.{_≤_, _<_}
 use native.Mathlib.Omega.{arith}
-use Rattle.definition.specs.Prelude.{ℕ, _+_, _*_, _/_, _%_, _^_, List, [], _∷_, length}
-use Rattle.definition.specs.Basics.{Refusal, Result, ok, refused, _>>=_}
+use Rattle.definition.specs.Prelude.{ℕ, _+_, _*_, _/_, _%_, _^_, true, false, List, [], _∷_, length, take, drop, leb, eqb}
+use Rattle.definition.specs.Basics.{Refusal, Result, ok, refused, _>>=_, if_then_else_, ascii}
 use Rattle.definition.specs.Image.{treeOf}
 use Rattle.definition.specs.Check.{checkImage}
-use Rattle.definition.specs.Tree.{imageOf}
+use Rattle.definition.specs.Tree.{Node, imageOf}
+use Rattle.definition.specs.Readings.{tokens}
 use Rattle.definition.specs.Answer.{Answer, answerBytes}
 use Rattle.definition.specs.Listing.{programArea}
-use Rattle.definition.specs.Run.{Choices, under, run, stages}
+use Rattle.definition.specs.Run.{Choices, withDefault, under, run, stages, inForce}
 use Rattle.definition.specs.Compute.{computed}
-use Rattle.laws.specs.Tests.{tested}
+use Rattle.laws.specs.Tests.{tested, by-test, leb-iff, eqb-iff, eqb-false}
+use Rattle.prepared.specs.Statement.{Bytes}
 use Rattle.prepared.specs.back.Every.{all-tested}
 use Rattle.answer_facts.specs.fits.Accepts.{run-accepts}
 use Rattle.answer_facts.specs.fits.Proved.{answer-fits}
 use Rattle.refusal_places.specs.Run.{refusal-places}
 use Rattle.refusal_places.specs.Witness.{variable, literal}
+use Rattle.stages.specs.in_force.InForce.{partAt, partIn, Lies, placeIn}
+use Rattle.stages.specs.declared.in_force.InForce.{InForce}
+use Rattle.stages.specs.declared.in_force.InForce.the-variants.{Nothing, Image, Default}
+use Rattle.stages.proofs.run.Force.{placed}
 use Rattle.layout_c.specs.outcome.Code.{codeOf}
+use Rattle.layout_c.specs.start.Told.{numberAt, toldPart}
 
 -- the header's macros
 abbrev pub numberIn : ℕ → ℕ
@@ -82,10 +89,66 @@ code-small image how area = go (run image how area) refl
         let code : codeOn image how area ≡ codeOf (refused q) = ap (λ (r : Result (List ℕ)). codeOf (r >>= λ b. ok (length b))) e in
         omega (arith, code)
 
--- ---- closed examples of both
+-- ---- where the starting value in force stands
+
+-- the number for a run, which layout_run_with leaves
+abbrev pub toldOn : List ℕ → Choices → ℕ → ℕ
+toldOn image how area = numberAt (placeIn image (run image how area))
+
+-- a number that names a part of the image lies in it
+pub data Names (image : List ℕ) (n : ℕ) : Type 0 where
+  names-nothing : n ≡ 0 → Names image n
+  names-default : n ≡ 2 ^ 63 → Names image n
+  names-part : n / 2 ^ 32 + n % 2 ^ 32 ≤ length image → n < 2 ^ 63 → Names image n
+
+-- of any place that lies in the image
+place-split : (image default : List ℕ) (f : InForce) → Lies image f → (toldPart image default (numberAt f) ≡ partIn image default f) × Names image (numberAt f)
+place-split image default Nothing l = (refl, names-nothing refl)
+place-split image default Default l = (refl, names-default refl)
+place-split image default (Image at n) (inside, small) = go (at * 2 ^ 32 + n) refl
+  where
+    go : (t : ℕ) → t ≡ at * 2 ^ 32 + n → (toldPart image default t ≡ partAt image at n) × Names image t
+    go t is =
+        let low : t % 2 ^ 32 ≡ n = omega (arith, is, small) in
+        let high : t / 2 ^ 32 ≡ at = omega (arith, is, small) in
+        (rw ((leb-iff (at + n) (length image)) .1 inside) (by-test (eqb t 0) (none low) (some low high)), names-part (rw (low, high) inside) (omega (arith, is, small)))
+      where
+        none : t % 2 ^ 32 ≡ n → eqb t 0 ≡ true → toldPart image default t ≡ take n (drop at image)
+        none low z = let e = (eqb-iff t 0) .0 z in let l : n ≡ 0 = omega (arith, e, low) in rw (z, l) refl
+
+        some : t % 2 ^ 32 ≡ n → t / 2 ^ 32 ≡ at → eqb t 0 ≡ false → toldPart image default t ≡ take n (drop at image)
+        some low high z =
+            let other : eqb t (2 ^ 63) ≡ false = eqb-false t (2 ^ 63) (λ e. omega (arith, e, is, small)) in
+            rw (z, other, low, high) refl
+
+-- the header finds the starting value in force, within the image or as the default
+pub told-split : (image : List ℕ) → Bytes image → (how : Choices) (area : ℕ)
+    → (toldPart image (how .default) (toldOn image how area) ≡ inForce image how (run image how area)) × Names image (toldOn image how area)
+told-split image bytes how area =
+    let (part, lies) = placed image bytes how area (run image how area) refl in
+    let (same, names) = place-split image (how .default) (placeIn image (run image how area)) lies in
+    (same ∙ part, names)
+
+-- ---- closed examples of all three
 
 pub codes :
     codeOn [] (under 0) 0 ∷ codeOn (imageOf ((variable ∷ []) ∷ (variable ∷ literal ∷ []) ∷ [])) (under 0) 1000 ∷ codeOn (imageOf ((variable ∷ []) ∷ [])) (under 0) 1000 ∷ []
     ≡ 8589934592 ∷ 128849084417 ∷ 124 ∷ []
 unfolding computed
 codes = refl
+
+-- a line with a prefix, a line without one, and no image at all, under a default
+abbrev prefixed : Node
+prefixed = record { forest = tokens ("z" ∷ ":" ∷ "a" ∷ []); bits = [] }
+
+abbrev told : List ℕ → ℕ
+told image = toldOn image (withDefault 0 (ascii "umax")) 1000
+
+pub tolds :
+    told (imageOf ((prefixed ∷ []) ∷ [])) ∷ told (imageOf ((variable ∷ []) ∷ [])) ∷ told [] ∷ [] ≡ (88 * 2 ^ 32 + 1) ∷ (2 ^ 63) ∷ 0 ∷ []
+unfolding computed tokens
+tolds = refl
+
+told-met : Bytes (imageOf ((prefixed ∷ []) ∷ []))
+unfolding computed tokens
+told-met = refl

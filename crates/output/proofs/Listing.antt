@@ -27,9 +27,9 @@ result-of area after (Refused q) (ok bytes) e a = let z : _≡_ {A = ℕ} 0 1 = 
 result-of area after (Refused q) (refused w) e a =
     let same : refusalOf (q .number) (q .concatenation) (q .component) ≡ w = cc in rw same refl
 
-pub listing-of : (image area after : List ℕ) (how : Choices) (o : Outcome)
-    → (outcomeOf o, after) ≡ ranOn image how area → listingOf image after o ≡ listing image (run image how (length area))
-listing-of image area after how o e =
+pub listing-of : (image area after start : List ℕ) (how : Choices) (o : Outcome)
+    → (outcomeOf o, after, start) ≡ ranOn image how area → listingOf image after o ≡ listing image (run image how (length area))
+listing-of image area after start how o e =
     ap (listing image) (result-of area after o (run image how (length area)) (ap (λ p. p .0) e) (ap (λ p. p .1) e))
 
 pub empty-input : (input : List ℕ) → length input ≡ 0 → output [] ≡ output input
@@ -69,9 +69,9 @@ read-judged input stop h e part p =
 pub shown-as : (out L L' out' : List ℕ) (w : Written) → L ≡ L' → Shown out L out' w → Shown out L' out' w
 shown-as out L L' out' w e s = subst (λ (M : List ℕ). Shown out M out' w) e s
 
-pub shows : (image area after out out' : List ℕ) (how : Choices) (o : Outcome) (w : Written)
-    → (outcomeOf o, after) ≡ ranOn image how area → length area ≡ programArea → Shown out (listingOf image after o) out' w
+pub shows : (image area after start out out' : List ℕ) (how : Choices) (o : Outcome) (w : Written)
+    → (outcomeOf o, after, start) ≡ ranOn image how area → length area ≡ programArea → Shown out (listingOf image after o) out' w
     → Shown out (listing image (run image how programArea)) out' w
-shows image area after out out' how o w e n s =
+shows image area after start out out' how o w e n s =
     shown-as out (listingOf image after o) (listing image (run image how programArea)) out' w
-    (listing-of image area after how o e ∙ ap (λ (m : ℕ). listing image (run image how m)) n) s
+    (listing-of image area after start how o e ∙ ap (λ (m : ℕ). listing image (run image how m)) n) s

@@ -17,12 +17,13 @@ fn area() -> [u8; limits::ANY_AREA]
     [0; limits::ANY_AREA]
 }
 
-// The listing of one run.
+// The listing of one run, which has no default.
 fn listed(image: &[u8], mode: u32, out: &mut [u8]) -> Written
     ensures { λ w. ⌜ Shown (now (out .entry)) (listing (now (image .entry)) (run (now (image .entry)) (under mode) programArea)) (now (out .exit)) w ⌝ }
 {
     let mut space = area();
-    let outcome = stages::run::run(image, mode, &mut space);
+    let ran = stages::run::run(image, mode, b"", &mut space);
+    let outcome = ran.outcome;
     listing::write_listing(image, &space, outcome, out)
 }
 

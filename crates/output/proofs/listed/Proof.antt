@@ -8,14 +8,14 @@ use Rattle.output.proofs.listed.Tie as tie
 
 returns : tie.Need-returns
 returns c =
-    let a = c .before .before .before .before .before .before .before .before .before .before .before .args in
-    let area = c .before .before .before .before .before .before .before .before .area in
+    let a = c .before .before .before .before .before .before .before .before .before .before .before .before .args in
+    let area = c .before .before .before .before .before .before .before .before .before .area in
     let r = c .before .before .before .before .before .before .run in
     let l = c .before .before .write-listing in
-    shows (a .image .now) (area .result) (r .last .1 .1 .0) (a .out .now) (l .last .1 .1 .1 .0) (under (a .mode)) (r .result) (l .result) (r .ensures)
-    (sym (area .ensures)) (l .ensures)
+    shows (a .image .now) (area .result) (r .last .1 .1 .1 .0) _ (a .out .now) (l .last .1 .1 .1 .0) (under (a .mode)) (r .result .outcome) (l .result)
+    (r .ensures .0) (sym (area .ensures)) (l .ensures)
 
 pub listed-spec : {M : Type 1} → statement M
 listed-spec =
     tie.close
-    (tie.spec (λ c κs. search needs) (λ c. search needs) (λ c κs. search needs) (λ c. search needs) (λ c κs. search needs) (λ c. search needs) returns)
+    (tie.spec (λ c κs. search needs) (λ c. search needs) (λ c. search needs) (λ c κs. search needs) (λ c. search needs) (λ c κs. search needs) (λ c. search needs) returns)
