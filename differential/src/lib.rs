@@ -35,6 +35,7 @@ pub mod replay;
 pub mod run;
 pub mod stats;
 pub mod text;
+pub mod with_default;
 
 /// The tree of an image and its writer, which the encoder of lines shares.
 pub use layout_line::image;

@@ -1,6 +1,7 @@
-//! Two data files for the whole run in code: inputs with the listing that the
-//! unchanged stages give them, and pairs of inputs, the second with a fixed
-//! literal cut in pieces, with the listing of both. README.md has their layout.
+//! Three data files for the whole run in code: inputs with the listing that the
+//! unchanged stages give them; pairs of inputs, the second with a fixed literal
+//! cut in pieces, with the listing of both; inputs with a default, the listing
+//! and the starting value in force. README.md has their layout.
 
 use std::{
     collections::{BTreeMap, HashSet},
@@ -10,7 +11,7 @@ use std::{
 
 use crate::{
     area_needed,
-    generate::{CutPair, Rng, cases, cut_pair},
+    generate::{Class, CutPair, Rng, cases, class_cases, cut_pair, default_readings},
     image::{
         MAX_COMPONENTS, MAX_CONCATENATIONS, MAX_LITERAL_BYTES, MAX_RECORDS, MAX_TEXT, MAX_WIDTH,
     },
@@ -18,6 +19,7 @@ use crate::{
     run::{Outcome, run},
     stats::outcome_of,
     text::encode,
+    with_default::{Told, told},
 };
 
 /// An area that is long enough for any image.
@@ -109,16 +111,45 @@ pub fn cuts(count: usize, seed: u64) -> Vec<(CutPair, String)> {
     all
 }
 
+/// A run under a default, and what the unchanged stages tell of it.
+pub struct Lent {
+    pub input: Vec<u8>,
+    pub default: Vec<u8>,
+    pub told: Told,
+}
+
+/// Of the drawn ones only those are kept that have no more bytes.
+const SHORT: usize = 1_200;
+
+/// Runs under a default, none twice: the readings, then cases of the class.
+/// The area is long enough for any image.
+pub fn defaults(count: usize, seed: u64) -> Vec<Lent> {
+    let readings =
+        default_readings().into_iter().map(|reading| (reading.input, reading.default.to_vec()));
+    let drawn = class_cases(Class::Default, seed)
+        .map(|pair| (pair.case.input, pair.default.unwrap_or_default()))
+        .filter(|(input, default)| !input.is_empty() && input.len() + default.len() <= SHORT);
+    let mut seen = HashSet::new();
+    let new = |case: &(Vec<u8>, Vec<u8>)| seen.insert(case.clone());
+    let lent = |(input, default): (Vec<u8>, Vec<u8>)| {
+        let told = told(&input, &default)?;
+        assert!(["layout ", "refused "].iter().any(|word| told.listing.starts_with(word)));
+        Some(Lent { input, default, told })
+    };
+    readings.chain(drawn).filter(new).filter_map(lent).take(count).collect()
+}
+
 /// Lengths in 4 bytes each, then the parts.
-fn push_entry(file: &mut Vec<u8>, lengths: [usize; 3], parts: &[&[u8]]) {
+fn push_entry<const N: usize>(file: &mut Vec<u8>, lengths: [usize; N], parts: &[&[u8]]) {
     for length in lengths {
         file.extend(u32::try_from(length).expect("parts are short").to_le_bytes());
     }
     file.extend(parts.concat());
 }
 
-/// Writes both files and tells how often each outcome occurs, in the lines
-/// that `run_replay` prints where nothing differs.
+/// Writes the files and tells how often each outcome of `runs` occurs, and how
+/// many entries the others have, in the lines that `run_replay` prints where
+/// nothing differs.
 pub fn write(count: usize, seed: u64, folder: &Path) -> io::Result<String> {
     let (mut file, mut outcomes) = (vec![], BTreeMap::new());
     for Run { input, area, listing } in runs(count, seed) {
@@ -132,9 +163,16 @@ pub fn write(count: usize, seed: u64, folder: &Path) -> io::Result<String> {
         push_entry(&mut file, lengths, &[whole, cut, listing.as_bytes()]);
     }
     fs::write(folder.join("cuts"), file)?;
-    let mut told = String::new();
-    for (outcome, count) in outcomes {
-        told += &format!("{}: {count}\n", outcome.replace("  ", " "));
+    let (mut file, defaults) = (vec![], defaults(count / 6, seed));
+    for Lent { input, default, told } in &defaults {
+        let parts = [input, default, told.listing.as_bytes(), told.value(default)];
+        push_entry(&mut file, parts.map(<[u8]>::len), &parts);
     }
-    Ok(told + &format!("cut pairs equal: {}\ndifferent: 0\n", cuts.len()))
+    fs::write(folder.join("defaults"), file)?;
+    let mut lines = String::new();
+    for (outcome, count) in outcomes {
+        lines += &format!("{}: {count}\n", outcome.replace("  ", " "));
+    }
+    lines += &format!("cut pairs equal: {}\n", cuts.len());
+    Ok(lines + &format!("under a default equal: {}\ndifferent: 0\n", defaults.len()))
 }

@@ -11,6 +11,7 @@ use crate::{
     Ast, CCMacroError,
     ast::{OwnFault, answer_literals, ast_of},
     check::check,
+    image::Tree,
     refusal::{Refusal, refusal_of},
     stage1, stage2, stage3, stage4, stage5,
 };
@@ -42,19 +43,45 @@ pub fn run(input: &[u8]) -> Outcome {
     if !tree.is_utf8() {
         return Outcome::Outside;
     }
-    let mut ast = ast_of(&tree);
-    answer_literals(&tree, &ast);
-    for stage in 1..=5 {
-        match run_stage(stage, mode, &mut ast) {
-            Ok(Ok(())) => (),
-            Ok(Err(error)) => return Outcome::Refused(refusal_of(stage, &error, &ast)),
-            Err(Panic) if stage == 3 => {
-                return Outcome::Refused(Refusal { number: 34, places: (panicked(&ast), 0) });
-            }
-            Err(Panic) => return Outcome::Panicked(stage),
+    let (ast, ended) = stages(mode, &tree);
+    Outcome::of(ast, ended)
+}
+
+impl Outcome {
+    /// What the stages came to.
+    pub fn of(ast: Ast, ended: Result<(), Stopped>) -> Self {
+        match ended {
+            Ok(()) => Outcome::Accepted(Box::new(ast)),
+            Err(Stopped::Refused(refusal)) => Outcome::Refused(refusal),
+            Err(Stopped::Panicked(stage)) => Outcome::Panicked(stage),
         }
     }
-    Outcome::Accepted(Box::new(ast))
+}
+
+/// Why the stages did not come to their end.
+pub enum Stopped {
+    Refused(Refusal),
+    /// The sources panicked in this stage, and it is not number 34.
+    Panicked(u8),
+}
+
+/// The stages in turn over a tree whose texts are UTF-8, of any size; also how
+/// they left it.
+pub fn stages(mode: u8, tree: &Tree) -> (Ast, Result<(), Stopped>) {
+    let mut ast = ast_of(tree);
+    answer_literals(tree, &ast);
+    for stage in 1..=5 {
+        let stopped = match run_stage(stage, mode, &mut ast) {
+            Ok(Ok(())) => continue,
+            Ok(Err(error)) => Stopped::Refused(refusal_of(stage, &error, &ast)),
+            Err(Panic) if stage == 3 => {
+                Stopped::Refused(Refusal { number: 34, places: (panicked(&ast), 0) })
+            }
+            Err(Panic) => Stopped::Panicked(stage),
+        };
+        return (ast, Err(stopped));
+    }
+    (ast, Ok(()))
 }
 
 /// The sources panicked.

@@ -66,7 +66,7 @@ fn damaged_and_limits() {
 #[test]
 fn cut_pairs_are_accepted_with_one_listing() {
     for pair in class_cases(Class::Cut, 1).take(300) {
-        let cut = pair.cut.expect("a pair");
+        let cut = pair.cut.expect("a pair").input;
         let both = [&pair.case.input, &cut].map(|input| listing(&run(input)));
         assert!(both[0] == both[1] && both[0].starts_with("layout"), "{both:?}");
         assert!(check(&cut[1..]).is_ok() && pair.case.input != cut);

@@ -1,10 +1,14 @@
 //! The files of `replay` hold what the replay of the run must show.
 
-use std::collections::{BTreeMap, BTreeSet};
+use std::{
+    collections::{BTreeMap, BTreeSet},
+    env, fs,
+    path::Path,
+};
 
 use layout_rust::{
     listing::listing,
-    replay::{any_area, cuts, runs},
+    replay::{any_area, cuts, defaults, runs, write},
     run::run,
     stats::outcome_of,
     text::decode,
@@ -52,4 +56,43 @@ fn cut_pairs_differ_in_their_images_only() {
         assert!(decode(&pair.cut).is_ok());
     }
     assert!(pieces.len() >= 8 && *pieces.first().unwrap() == 2, "{pieces:?}");
+}
+
+#[test]
+fn defaults_hold_what_they_must() {
+    let (mut lifted, mut values) = (BTreeMap::new(), BTreeMap::new());
+    let all = defaults(400, 1);
+    assert_eq!(all.len(), 400);
+    for lent in &all {
+        let value = lent.told.value(&lent.default);
+        let kind = (lent.default.is_empty(), value.is_empty(), value == lent.default);
+        *values.entry(kind).or_insert(0) += 1;
+        if lent.told.lifted {
+            *lifted.entry(outcome_of(&lent.told.listing)).or_insert(0) += 1;
+        }
+    }
+    assert!(lifted["accepted"] >= 40, "{lifted:?}");
+    assert!((41..=45).all(|number| lifted[&format!("refused {number}")] >= 15), "{lifted:?}");
+    // the default, a prefix under it, a prefix without one, nothing
+    for kind in [(false, false, true), (false, false, false), (true, false, false)] {
+        assert!(values[&kind] >= 5, "{values:?}");
+    }
+    assert!(all.iter().any(|lent| lent.default.len() > 65_535));
+}
+
+/// The replayed files are those that README.md's command writes, and what is
+/// printed for them is what it says.
+#[test]
+fn the_replayed_files_are_these() {
+    let replay = Path::new(env!("CARGO_MANIFEST_DIR")).join("../crates/run_replay");
+    let folder = env::temp_dir().join(format!("layout-replay-{}", std::process::id()));
+    fs::create_dir(&folder).unwrap();
+    let told = write(2_400, 1, &folder).unwrap();
+    let same = |name: &str| {
+        fs::read(folder.join(name)).unwrap() == fs::read(replay.join("data").join(name)).unwrap()
+    };
+    let all = ["runs", "cuts", "defaults"].map(same);
+    fs::remove_dir_all(&folder).unwrap();
+    assert_eq!(all, [true; 3]);
+    assert_eq!(told, fs::read_to_string(replay.join("stdout")).unwrap());
 }

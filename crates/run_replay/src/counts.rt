@@ -1,10 +1,11 @@
 // How often each outcome occurred, and its print.
 use crate::CUT_PAIR;
 use crate::DIFFERENT;
+use crate::UNDER_DEFAULT;
 use libc::STDOUT_FILENO;
 
-pub(crate) fn count(counts: &mut [u64; 48], at: usize) {
-    if at < 48 {
+pub(crate) fn count(counts: &mut [u64; 49], at: usize) {
+    if at < 49 {
         let n = counts[at];
         if n < 1_000_000 {
             counts[at] = n + 1;
@@ -27,7 +28,7 @@ fn print_refused(number: usize, n: u64) {
     print_count(b": ", n);
 }
 
-pub(crate) fn print_counts(counts: &[u64; 48]) {
+pub(crate) fn print_counts(counts: &[u64; 49]) {
     print_count(b"accepted: ", counts[0]);
     let mut number = 1;
     while number < 46 {
@@ -35,5 +36,6 @@ pub(crate) fn print_counts(counts: &[u64; 48]) {
         number += 1;
     }
     print_count(b"cut pairs equal: ", counts[CUT_PAIR]);
+    print_count(b"under a default equal: ", counts[UNDER_DEFAULT]);
     print_count(b"different: ", counts[DIFFERENT]);
 }

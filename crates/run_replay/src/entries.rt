@@ -39,7 +39,7 @@ fn filled(fd: i32, buf: &mut [u8]) -> bool {
 }
 
 // The first n bytes of a buffer, read from the file; whether they were there.
-fn read_part(fd: i32, buf: &mut [u8], n: usize) -> bool {
+pub(crate) fn read_part(fd: i32, buf: &mut [u8], n: usize) -> bool {
     if buf.len() < n {
         return false;
     }

@@ -1,10 +1,11 @@
 // Replays what the Rust answered. data/ holds what `target/release/layout-rust replay 2400 1 ../crates/run_replay/data` writes in
-// differential/ (its README.md, "The files of `replay`"): inputs with the listing that the unchanged stages give them, and pairs of
-// inputs, the second with a fixed literal cut in pieces, with the listing of both. Each input is run over an area filled with a known
-// pattern, and its listing is compared byte by byte; the area must hold the pattern beyond the answer, and everywhere after a refusal.
-// An entry that is cut off or too long counts as different.
+// differential/ (its README.md, "The files of `replay`"): inputs with the listing that the unchanged stages give them; pairs of inputs,
+// the second with a fixed literal cut in pieces, with the listing of both; and inputs under a default, with the starting value in force.
+// Each input is run over an area filled with a known pattern, and its listing is compared byte by byte; the area must hold the pattern
+// beyond the answer, and everywhere after a refusal. An entry that is cut off or too long counts as different.
 mod compare;
 mod counts;
+mod defaults;
 mod entries;
 
 use counts::count;
@@ -18,7 +19,9 @@ const DIFFERENT: usize = 46;
 
 const CUT_PAIR: usize = 47;
 
-const END: usize = 48;
+const UNDER_DEFAULT: usize = 48;
+
+const END: usize = 49;
 
 // Some bytes more than any image asks for: they are never lent.
 fn area_buffer() -> [u8; 27100]
@@ -34,7 +37,8 @@ fn judge(image: &[u8], mode: u32, lent: usize, told: &[u8]) -> usize {
         return DIFFERENT;
     }
     compare::fill(&mut area);
-    let outcome = stages::run::run(image, mode, &mut area[..lent]);
+    let ran = stages::run::run(image, mode, b"", &mut area[..lent]);
+    let outcome = ran.outcome;
     compare::compared(image, &area, outcome, told)
 }
 
@@ -77,8 +81,8 @@ fn cut_pair(buf: &[u8], n: u32, k: u32, m: u32) -> usize {
     CUT_PAIR
 }
 
-// The next entry of a file. One of `runs`: an input of n bytes, the area's length, a listing of m.
-fn entry(fd: i32, cuts: bool, buf: &mut [u8]) -> usize {
+// The next entry of `runs`, an input of n bytes, the area's length, a listing of m; or of `cuts`.
+fn plain_entry(fd: i32, cuts: bool, buf: &mut [u8]) -> usize {
     match entries::read_entry(fd, cuts, buf) {
         Entry::Read(n, k, m) => {
             if cuts {
@@ -91,12 +95,27 @@ fn entry(fd: i32, cuts: bool, buf: &mut [u8]) -> usize {
     }
 }
 
+// The files of data/.
+enum File {
+    Runs,
+    Cuts,
+    Defaults,
+}
+
+fn entry(fd: i32, file: File, buf: &mut [u8]) -> usize {
+    match file {
+        File::Runs => plain_entry(fd, false, buf),
+        File::Cuts => plain_entry(fd, true, buf),
+        File::Defaults => defaults::entry(fd, buf),
+    }
+}
+
 // All entries of a file. Nothing says that a file ends, so the turns are counted down from a number that no run uses up.
-fn replay(fd: i32, cuts: bool, counts: &mut [u64; 48]) {
+fn replay(fd: i32, file: File, counts: &mut [u64; 49]) {
     let mut buf = entries::entry_buffer();
     let mut turns: u64 = 1_000_000;
     while 0 < turns {
-        let at = entry(fd, cuts, &mut buf);
+        let at = entry(fd, file, &mut buf);
         if at == END {
             return;
         }
@@ -105,20 +124,21 @@ fn replay(fd: i32, cuts: bool, counts: &mut [u64; 48]) {
     }
 }
 
-fn replay_file(path: &[u8], cuts: bool, counts: &mut [u64; 48]) {
+fn replay_file(path: &[u8], file: File, counts: &mut [u64; 49]) {
     let fd = os::open_read(path);
     if fd < 0 {
         os::fail(path);
         count(counts, DIFFERENT);
         return;
     }
-    replay(fd, cuts, counts);
+    replay(fd, file, counts);
     libc::close(fd);
 }
 
 fn main() {
-    let mut counts = [0u64; 48];
-    replay_file(b"runs", false, &mut counts);
-    replay_file(b"cuts", true, &mut counts);
+    let mut counts = [0u64; 49];
+    replay_file(b"runs", File::Runs, &mut counts);
+    replay_file(b"cuts", File::Cuts, &mut counts);
+    replay_file(b"defaults", File::Defaults, &mut counts);
     counts::print_counts(&counts);
 }

@@ -1,5 +1,5 @@
-//! An image and an area between guard bytes, lent to our run, and what is
-//! found in them afterwards.
+//! An image, an area and a default between guard bytes, lent to our run, and
+//! what is found in them afterwards.
 
 use layout_rust::{
     area_needed,
@@ -11,8 +11,12 @@ use crate::ours;
 /// Guard bytes on each side.
 const GUARD: usize = 64;
 
-/// As long as any image or area that is lent, with its guards.
+/// As long as any image, area or default that is lent, with its guards.
 const LONGEST: usize = 1 << 17;
+
+/// Stands where something is to be told, and on each side of it. No run tells
+/// this number: no image has so many bytes.
+const UNTOLD: u64 = 0x5ac3_96e1_5a3c_691e;
 
 /// An area that is long enough for every image.
 pub fn largest_area() -> usize {
@@ -57,17 +61,20 @@ impl Guarded {
     }
 }
 
-/// Lends images and areas, again and again the same bytes.
+/// Lends images, areas and defaults, again and again the same bytes.
 pub struct Lender {
     pattern: Vec<u8>,
     image: Guarded,
     area: Guarded,
+    default: Guarded,
 }
 
-/// What our run did: its code, and the answer where it wrote one.
+/// What our run did: its code, the answer where it wrote one, and what a run
+/// under a default told.
 pub struct Done<'a> {
     pub code: u64,
     pub answer: &'a [u8],
+    pub told: Option<u64>,
 }
 
 impl Default for Lender {
@@ -76,19 +83,32 @@ impl Default for Lender {
         let byte = |i: usize| ((i * i * 31 + i * 167 + 89) >> 3) as u8;
         let pattern: Vec<u8> = (0..LONGEST).map(byte).collect();
         let guarded = || Guarded { bytes: pattern.clone(), middle: 0 };
-        Self { image: guarded(), area: guarded(), pattern }
+        Self { image: guarded(), area: guarded(), default: guarded(), pattern }
     }
 }
 
 impl Lender {
-    /// Runs ours on an image and an area of this length. An error names what
-    /// was changed and should be as lent: the image, a guard, the area after a
-    /// refusal, the bytes beyond an answer.
-    pub fn run(&mut self, image: &[u8], mode: u32, area: usize) -> Result<Done<'_>, &'static str> {
-        let Self { pattern, image: lent, area: into } = self;
-        lent.take(pattern, image.len()).copy_from_slice(image);
-        into.take(pattern, area);
-        let code = ours::coded(lent.middle(), mode, into.middle_mut());
+    /// Runs ours on an image, an area of this length, and a default if one is
+    /// given. An error names what was changed and should be as lent: the image,
+    /// the default, a guard, the area after a refusal, the bytes beyond an
+    /// answer.
+    pub fn run(
+        &mut self,
+        image: &[u8],
+        mode: u32,
+        default: Option<&[u8]>,
+        area: usize,
+    ) -> Result<Done<'_>, &'static str> {
+        self.image.take(&self.pattern, image.len()).copy_from_slice(image);
+        self.area.take(&self.pattern, area);
+        let (code, told) = match default {
+            None => (ours::coded(self.image.middle(), mode, self.area.middle_mut()), None),
+            Some(default) => {
+                let (code, told) = self.under(mode, default)?;
+                (code, Some(told))
+            }
+        };
+        let Self { pattern, image: lent, area: into, .. } = self;
         let written = ours::decoded(code).unwrap_or(0);
         if lent.middle() != image || !lent.as_lent_from(pattern, image.len()) {
             return Err("the image or its guards were changed");
@@ -99,6 +119,23 @@ impl Lender {
         if !into.as_lent_from(pattern, written) {
             return Err("the area beyond the answer, or its guards, were changed");
         }
-        Ok(Done { code, answer: &into.middle()[..written] })
+        Ok(Done { code, answer: &into.middle()[..written], told })
+    }
+
+    /// The run under a default: its code, and what it told.
+    fn under(&mut self, mode: u32, default: &[u8]) -> Result<(u64, u64), &'static str> {
+        let Self { pattern, image, area, default: lent } = self;
+        lent.take(pattern, default.len()).copy_from_slice(default);
+        let mut told = [UNTOLD; 3];
+        let code =
+            ours::coded_with(image.middle(), mode, lent.middle(), area.middle_mut(), &mut told[1]);
+        if lent.middle() != default || !lent.as_lent_from(pattern, default.len()) {
+            return Err("the default or its guards were changed");
+        }
+        match told {
+            [_, UNTOLD, _] => Err("nothing was told"),
+            [UNTOLD, told, UNTOLD] => Ok((code, told)),
+            _ => Err("more than one number was told"),
+        }
     }
 }

@@ -3,6 +3,7 @@
 mod compare;
 mod driver;
 mod tally;
+mod under;
 
 use std::{env, io, path::Path, process::ExitCode};
 
@@ -39,8 +40,11 @@ fn command(words: &[&str]) -> io::Result<bool> {
         ["show", seed, class, index] => {
             let index = number(index)?.try_into().map_err(io::Error::other)?;
             let pair = class_cases(named(class)?, number(seed)?).nth(index).expect("no end");
-            let cut = pair.cut.unwrap_or_default();
+            let cut = pair.cut.map_or(vec![], |cut| cut.input);
             io::Write::write_all(&mut io::stdout(), &[pair.case.input, cut].concat())?;
+            if let Some(default) = pair.default {
+                eprintln!("under {} bytes: {:02x?}", default.len(), default);
+            }
             Ok(true)
         }
         _ => {

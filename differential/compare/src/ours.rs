@@ -1,5 +1,7 @@
 //! Our run, as crates/layout_c exports it.
 
+use std::ptr;
+
 use layout_rust::refusal::Refusal;
 
 unsafe extern "C" {
@@ -12,11 +14,40 @@ unsafe extern "C" {
         area: *mut u8,
         area_len: usize,
     ) -> u64;
+
+    /// The same under a default. What is told: 0 after a refusal, 2^63 where
+    /// the whole default is in force, else place·2^32 + length in the image.
+    safe fn layout_run_with(
+        image: *const u8,
+        image_len: usize,
+        mode: u32,
+        start: *const u8,
+        start_len: usize,
+        area: *mut u8,
+        area_len: usize,
+        told: *mut u64,
+    ) -> u64;
 }
 
 /// The whole run, its answer still as one number.
 pub fn coded(image: &[u8], mode: u32, area: &mut [u8]) -> u64 {
     layout_run(image.as_ptr(), image.len(), mode, area.as_mut_ptr(), area.len())
+}
+
+/// The run under a default. An empty one is lent by a null pointer, which must
+/// not be looked at.
+pub fn coded_with(image: &[u8], mode: u32, default: &[u8], area: &mut [u8], told: &mut u64) -> u64 {
+    let start = if default.is_empty() { ptr::null() } else { default.as_ptr() };
+    layout_run_with(
+        image.as_ptr(),
+        image.len(),
+        mode,
+        start,
+        default.len(),
+        area.as_mut_ptr(),
+        area.len(),
+        told,
+    )
 }
 
 /// The answer's length or the refusal that a number stands for.

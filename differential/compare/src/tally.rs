@@ -8,7 +8,7 @@ use std::{
 
 use layout_rust::{generate::Class, stats::outcome_of};
 
-use crate::compare::Call;
+use crate::compare::{Call, Expected};
 
 /// How many differences are told in full.
 const TOLD: usize = 5;
@@ -19,6 +19,8 @@ pub struct Tally {
     /// The place of the case in its class and seed.
     index: u64,
     outcomes: BTreeMap<String, u64>,
+    /// What else the cases are counted as.
+    counted: BTreeMap<String, u64>,
     cases: u64,
     outside: u64,
     printed: u64,
@@ -32,6 +34,18 @@ fn hex(bytes: &[u8]) -> String {
     bytes.iter().map(|byte| format!("{byte:02x}")).collect()
 }
 
+/// How much of a default is told; `show` has all of it.
+const SHOWN: usize = 64;
+
+/// A call in words.
+fn told(Call { mode, area, default }: Call) -> String {
+    let default = default.map_or(String::new(), |default| {
+        let from_front = hex(&default[..default.len().min(SHOWN)]);
+        format!(", default of {} bytes {from_front}", default.len())
+    });
+    format!("mode {mode}, area {area}{default}")
+}
+
 impl Tally {
     pub fn new(class: Class, seed: u64) -> Self {
         Self {
@@ -39,6 +53,7 @@ impl Tally {
             seed,
             index: 0,
             outcomes: BTreeMap::new(),
+            counted: BTreeMap::new(),
             cases: 0,
             outside: 0,
             printed: 0,
@@ -57,14 +72,23 @@ impl Tally {
     }
 
     /// A case that the Rust answered.
-    pub fn outcome(&mut self, name: &str, input: &[u8], call: Call, rust: &str, ours: &str) {
+    pub fn outcome(
+        &mut self,
+        name: &str,
+        input: &[u8],
+        call: Call,
+        expected: &Expected,
+        ours: &str,
+    ) {
+        let Expected { listing: rust, counted } = expected;
         *self.outcomes.entry(outcome_of(rust)).or_insert(0) += 1;
+        for what in counted {
+            *self.counted.entry(what.clone()).or_insert(0) += 1;
+        }
         if rust != ours {
-            let Call { mode, area } = call;
-            self.differs(format!(
-                "{name}, mode {mode}, area {area}, input {}\nthe Rust:\n{rust}ours:\n{ours}",
-                hex(input)
-            ));
+            let (call, input) = (told(call), hex(input));
+            let both = format!("the Rust:\n{rust}ours:\n{ours}");
+            self.differs(format!("{name}, {call}, input {input}\n{both}"));
         }
     }
 
@@ -73,9 +97,8 @@ impl Tally {
     pub fn outside(&mut self, name: &str, input: &[u8], call: Call, ours: &str) {
         self.outside += 1;
         if ours.starts_with("fault") {
-            let Call { mode, area } = call;
-            let input = hex(input);
-            self.differs(format!("{name}, mode {mode}, area {area}, input {input}\n{ours}"));
+            let (call, input) = (told(call), hex(input));
+            self.differs(format!("{name}, {call}, input {input}\n{ours}"));
         }
     }
 
@@ -108,6 +131,9 @@ impl Tally {
     pub fn print(&self, to: &mut impl Write) -> io::Result<bool> {
         for (outcome, count) in &self.outcomes {
             writeln!(to, "{outcome}: {count}")?;
+        }
+        for (what, count) in &self.counted {
+            writeln!(to, "{what}: {count}")?;
         }
         if self.outside > 0 {
             writeln!(to, "outside the Rust's domain, run for the guard bytes: {}", self.outside)?;

@@ -1,8 +1,9 @@
 //! Cases by class, without end, for the comparison of the whole run.
 
 use super::{
-    Aim, Case, Recipe, accepted_recipes, cases, cut_pair, faults, flips, free_recipes, limits,
-    numerals, refused_recipes, rng::Rng,
+    Aim, Case, CutPair, Recipe, accepted_recipes, cases, cut_pair, default_readings,
+    defaults::default, faults, flips, free_recipes, lifted, limits, numerals, refused_recipes,
+    rng::Rng,
 };
 use crate::run::{Outcome, run};
 
@@ -22,10 +23,12 @@ pub enum Class {
     Numbers,
     /// Pairs of images, one with a literal written as pieces.
     Cut,
+    /// Runs under a default.
+    Default,
 }
 
 impl Class {
-    pub const NAMES: [(&str, Class); 11] = [
+    pub const NAMES: [(&str, Class); 12] = [
         ("mixed", Class::Mixed),
         ("accepted", Class::Accepted),
         ("stage1", Class::Stage(1)),
@@ -37,6 +40,7 @@ impl Class {
         ("limits", Class::Limits),
         ("numbers", Class::Numbers),
         ("cut", Class::Cut),
+        ("default", Class::Default),
     ];
 
     pub fn named(name: &str) -> Option<Self> {
@@ -48,7 +52,7 @@ impl Class {
         match self {
             Class::Limits => 30,
             Class::Order => 10,
-            Class::Mixed | Class::Damaged => 3,
+            Class::Mixed | Class::Damaged | Class::Default => 3,
             _ => 0,
         }
     }
@@ -69,7 +73,7 @@ impl Class {
             }
             Class::Limits => limits::RECIPES.iter().collect(),
             Class::Numbers => numerals::RECIPES.iter().collect(),
-            Class::Mixed | Class::Cut => vec![],
+            Class::Mixed | Class::Cut | Class::Default => vec![],
         }
     }
 }
@@ -77,10 +81,16 @@ impl Class {
 /// Whose turn it is in the mixed class: `g` the generator's own mixture.
 const TURNS: &[u8; 24] = b"gagoggdgnglg1g2g3g4gfodn";
 
-/// An input, and in the class of cut pairs the same with its literal cut.
+/// And in the class of runs under a default: `l`ifted and `o`ther recipes, the
+/// `m`ixed class, `c`ut pairs, `r`eadings.
+const UNDER_DEFAULT: &[u8; 24] = b"lolmlolmlolclolmlolmlolr";
+
+/// A case; in a cut pair the same with its literal cut, in the class of runs
+/// under a default what is lent.
 pub struct Pair {
     pub case: Case,
-    pub cut: Option<Vec<u8>>,
+    pub cut: Option<Case>,
+    pub default: Option<Vec<u8>>,
 }
 
 /// The cases of a class and seed, in order and without end.
@@ -88,12 +98,13 @@ pub fn class_cases(class: Class, seed: u64) -> Box<dyn Iterator<Item = Pair>> {
     match class {
         Class::Mixed => Box::new(mixed(seed)),
         Class::Cut => Box::new(cut_pairs(seed)),
+        Class::Default => Box::new(under_default(seed)),
         _ => Box::new(in_turn(class.recipes(), seed).map(single)),
     }
 }
 
 fn single(case: Case) -> Pair {
-    Pair { case, cut: None }
+    Pair { case, cut: None, default: None }
 }
 
 fn in_turn(recipes: Vec<&'static Recipe>, seed: u64) -> impl Iterator<Item = Case> {
@@ -129,14 +140,49 @@ fn mixed(seed: u64) -> impl Iterator<Item = Pair> {
     (0..).map_while(next).map(single)
 }
 
+/// The two cases of a cut pair.
+fn both(pair: CutPair) -> (Case, Option<Case>) {
+    let case = |name: &str, input| Case { name: name.to_owned(), input };
+    (case("cut pair", pair.whole), Some(case("cut pair, in pieces", pair.cut)))
+}
+
 /// Pairs whose uncut image the Rust accepts: the promise is of those.
 fn cut_pairs(seed: u64) -> impl Iterator<Item = Pair> {
     let rng = Rng::new(seed);
     let pair = move || {
-        let pair = cut_pair(&rng);
-        let case = Case { name: "cut pair".to_owned(), input: pair.whole };
-        Pair { case, cut: Some(pair.cut) }
+        let (case, cut) = both(cut_pair(&rng));
+        Pair { case, cut, default: None }
     };
     std::iter::repeat_with(pair)
         .filter(|pair| matches!(run(&pair.case.input), Outcome::Accepted(_)))
+}
+
+/// Each list has numbers of its own here too, and the defaults have.
+fn under_default(seed: u64) -> impl Iterator<Item = Pair> {
+    let mut lifted = in_turn(lifted::LIFTED.iter().collect(), seed ^ 101 << 32);
+    let mut others = in_turn(lifted::OTHERS.iter().collect(), seed ^ 102 << 32);
+    let mut mixed = mixed(seed).map(|pair| pair.case);
+    let rng = Rng::new(seed ^ 103 << 32);
+    let readings = default_readings();
+    let next = move |i: usize| {
+        let case = match UNDER_DEFAULT[i % UNDER_DEFAULT.len()] {
+            b'l' => lifted.next(),
+            b'o' => others.next(),
+            b'm' => mixed.next(),
+            b'c' => {
+                let (pair, default) = lifted::cut_pair_under(&rng);
+                let (case, cut) = both(pair);
+                return Some(Pair { case, cut, default: Some(default) });
+            }
+            _ => {
+                let reading = &readings[i / UNDER_DEFAULT.len() % readings.len()];
+                let (name, input) = (format!("reading: {}", reading.line), reading.input.clone());
+                let default = Some(reading.default.to_vec());
+                return Some(Pair { case: Case { name, input }, cut: None, default });
+            }
+        }?;
+        let default = Some(default(&rng, &case.input));
+        Some(Pair { case, cut: None, default })
+    };
+    (0..).map_while(next)
 }

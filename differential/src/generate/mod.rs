@@ -7,9 +7,12 @@ mod accepted_texts;
 mod classes;
 mod cut_pairs;
 mod damage;
+mod default_readings;
+mod defaults;
 mod edit;
 mod faults;
 mod flips;
+mod lifted;
 mod limits;
 mod line;
 mod numerals;
@@ -23,6 +26,8 @@ mod words;
 
 pub use classes::{Class, Pair, class_cases};
 pub use cut_pairs::{CutPair, cut_pair};
+pub use default_readings::{DefaultReading, Part, default_readings};
+pub use lifted::LIFTED;
 pub use readings::{Reading, readings};
 pub use rng::Rng;
 
