@@ -1,4 +1,4 @@
-/* The layout reader: three functions of the static library target/staticlib/liblayout_c.a, which `rt staticlib layout_c` proves and
+/* The layout reader: four functions of the static library target/staticlib/liblayout_c.a, which `rt staticlib layout_c` proves and
  * writes (for x86-64 Linux). They take any bytes, allocate nothing, keep nothing between calls, and write nothing but what is lent to
  * be written; so threads may call them at the same time. The archive calls nothing but memset (`nm -u`). For C99, C11 and C++11
  * or later. docs/FORMAT.md has the bytes of an image and of an answer.
@@ -15,6 +15,12 @@
  *         printf("refused %u %u %u: %s\n", layout_number(outcome), layout_concatenation(outcome), layout_component(outcome),
  *                layout_words(layout_number(outcome)));
  *     }
+ *
+ * The same under a default, a starting value that the shop sets once:
+ *
+ *     uint64_t told;
+ *     outcome = layout_run_with(image, image_length, 1, start, start_length, area, sizeof area, &told);
+ *     struct layout_bytes value = layout_in_force(told, image, start, start_length);
  */
 #ifndef LAYOUT_H
 #define LAYOUT_H
@@ -28,11 +34,11 @@ extern "C" {
 
 /* The version of this header, of the library beside it and of the Rust crate in bindings/. */
 #define LAYOUT_VERSION_MAJOR 0
-#define LAYOUT_VERSION_MINOR 1
+#define LAYOUT_VERSION_MINOR 2
 #define LAYOUT_VERSION_PATCH 0
-#define LAYOUT_VERSION "0.1.0"
+#define LAYOUT_VERSION "0.2.0"
 
-/* The three functions. Lengths are uint64_t and not size_t: the compiled library takes 64-bit lengths on every target, on a 32-bit one
+/* The four functions. Lengths are uint64_t and not size_t: the compiled library takes 64-bit lengths on every target, on a 32-bit one
  * too. On x86-64 it is the same call. */
 
 /* Runs a prepared image: modes 0 no return type, 1 return type, 2 return type and static width (any other is refused).
@@ -43,6 +49,23 @@ extern "C" {
  * image and area are image_length and area_length bytes that do not overlap; where a length is 0 the pointer may be null. */
 uint64_t layout_run(const uint8_t *image, uint64_t image_length, uint32_t mode, uint8_t *area, uint64_t area_length);
 
+/* The same run under a default: any bytes, of any length, which are the starting value of a line that has no prefix of its own. They are
+ * never parsed, copied or written. An empty default means none: the run is then that of layout_run. Under any other, number 40 is not
+ * given and the next test answers; nothing else in outcome and area depends on it. The answer, its listing and number 8 speak only of
+ * the line's own prefix.
+ *
+ * *told is written by every call, in every mode. It says where the starting value in force stands (layout_in_force hands it out):
+ *     0                         after a refusal: there is none
+ *     LAYOUT_DEFAULT_IN_FORCE   the line has no prefix: it is the whole default, which may be empty
+ *     place * 2^32 + length     the line's own prefix, even an empty one: bytes of the image, the place counted from its first
+ *
+ * image, start and area are bytes of the lengths beside them; where a length is 0 the pointer may be null. area and *told overlap
+ * neither each other nor what is read. */
+uint64_t layout_run_with(const uint8_t *image, uint64_t image_length, uint32_t mode, const uint8_t *start, uint64_t start_length,
+                         uint8_t *area, uint64_t area_length, uint64_t *told);
+
+#define LAYOUT_DEFAULT_IN_FORCE 0x8000000000000000u /* 2^63 */
+
 /* The text that the program `layout` prints, for an input of one mode byte and an image: its length. Where the text is longer than
  * out, the answer is 0, and out has its first part; LAYOUT_ANY_LISTING bytes are enough for any. The bytes after the text are as lent.
  * It keeps an area of LAYOUT_ANY_AREA bytes on the stack. */
@@ -51,9 +74,10 @@ uint64_t layout_listing(const uint8_t *input, uint64_t input_length, uint8_t *ou
 /* The image check alone: 0 for an image that passes it, else the number that refuses it, 2 to 7. */
 uint32_t layout_check(const uint8_t *image, uint64_t image_length);
 
-/* The stack that a call takes below its caller's frame, in bytes: measured, not proved, and rounded up. On x86-64 the most that 25,000
- * generated cases took is 28,640 for layout_run, 55,696 for layout_listing, 6,016 for layout_check; on a Cortex-M3, built with -Os, the
- * most over all recorded inputs is 26,820, 53,892 and 4,140 (docs/PERFORMANCE.md). */
+/* The stack that a call takes below its caller's frame, in bytes: measured, not proved, and rounded up. On x86-64 the most that 3,826
+ * recorded inputs took is 28,688 for layout_run, 28,720 for layout_run_with (which LAYOUT_RUN_STACK is for too), 55,760 for
+ * layout_listing, 6,016 for layout_check; on a Cortex-M3, built with -Os, the most is 26,900 for layout_run,
+ * 53,956 for layout_listing and 4,140 for layout_check (docs/PERFORMANCE.md). */
 #define LAYOUT_RUN_STACK 32768
 #define LAYOUT_LISTING_STACK 65536
 #define LAYOUT_CHECK_STACK 8192
@@ -71,7 +95,7 @@ uint32_t layout_check(const uint8_t *image, uint64_t image_length);
 #define LAYOUT_ANY_AREA LAYOUT_AREA(16, 256, 8192)
 #define LAYOUT_ANY_LISTING 140577
 
-/* What an outcome of layout_run says. */
+/* What an outcome of layout_run and layout_run_with says. */
 static inline int layout_accepted(uint64_t outcome) { return outcome >> 32 == 0; }
 
 /* accepted: the answer's length */
@@ -132,7 +156,7 @@ static inline const char *layout_words(unsigned number) {
 #define LAYOUT_HEAD_WIDTH 8      /* common width, 0 for none */
 #define LAYOUT_HEAD_FLAGS 16
 #define LAYOUT_HEAD_ALIGNMENT 20
-#define LAYOUT_HEAD_VALUE 24     /* the starting value's text */
+#define LAYOUT_HEAD_VALUE 24     /* the text of the line's own starting value */
 
 #define LAYOUT_CONCATENATION_COMPONENTS 0
 #define LAYOUT_CONCATENATION_ALIGNMENT 4
@@ -167,9 +191,9 @@ enum layout_alignment {
     LAYOUT_ALIGN_MULTIPLE = 5 /* the concatenations differ: no accepted answer has it */
 };
 
-/* Readers of an answer. They take for granted that the bytes are an answer which layout_run accepted and left, and that the image is
- * the one it was run on: nothing is checked again. They read byte by byte, whatever the alignment and the machine, and allocate
- * nothing; what they point to are bytes of the image and of the answer. */
+/* Readers of an answer. They take for granted that the bytes are an answer which a run accepted and left, and that the image is the one
+ * it was run on: nothing is checked again. They read byte by byte, whatever the alignment and the machine, and allocate nothing; what
+ * they point to are bytes of the image and of the answer. */
 struct layout_bytes {
     const uint8_t *bytes; /* null where there is nothing at all, as a starting value that is not given */
     size_t length;
@@ -195,7 +219,7 @@ static inline struct layout_bytes layout_text(const uint8_t *at, const uint8_t *
 }
 
 /* The whole answer: its concatenations, its components after merging, the common width (0 for none), flags, alignment, and the
- * starting value's text (null bytes where none is given). */
+ * starting value's text: the line's own prefix (null bytes where it has none). */
 static inline uint32_t layout_answer_concatenations(const uint8_t *answer) { return layout_u32(answer + LAYOUT_HEAD_CONCATENATIONS); }
 static inline uint32_t layout_answer_components(const uint8_t *answer) { return layout_u32(answer + LAYOUT_HEAD_COMPONENTS); }
 static inline uint64_t layout_answer_width(const uint8_t *answer) { return layout_u64(answer + LAYOUT_HEAD_WIDTH); }
@@ -208,6 +232,20 @@ static inline enum layout_alignment layout_answer_alignment(const uint8_t *answe
 static inline struct layout_bytes layout_answer_value(const uint8_t *answer, const uint8_t *image) {
     struct layout_bytes none = {NULL, 0};
     return layout_answer_flags(answer) & LAYOUT_VALUE_GIVEN ? layout_text(answer + LAYOUT_HEAD_VALUE, image) : none;
+}
+
+/* The starting value in force, by what layout_run_with told of its image and its default: a part of the image, or the default as it was
+ * lent, or null bytes after a refusal. */
+static inline struct layout_bytes layout_in_force(uint64_t told, const uint8_t *image, const uint8_t *start, uint64_t start_length) {
+    struct layout_bytes value = {NULL, 0};
+    if (told == LAYOUT_DEFAULT_IN_FORCE) {
+        value.bytes = start;
+        value.length = (size_t)start_length;
+    } else if (told != 0) {
+        value.bytes = image + (size_t)(told >> 32);
+        value.length = (size_t)(told & 0xffffffffu);
+    }
+    return value;
 }
 
 /* An alignment's word in a listing. */

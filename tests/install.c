@@ -1,5 +1,5 @@
-/* The C example of README.md, as a whole program: tests/install puts the example's lines into example.inc. It is given the path of an
- * input, a mode byte and an image, and runs the image as the example does. */
+/* The C examples of README.md, as a whole program: tests/install puts their lines into example.inc. It is given the path of an input, a
+ * mode byte and an image, and runs the image as the examples do. */
 #include "layout.h"
 
 #include <stdio.h>

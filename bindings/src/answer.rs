@@ -61,7 +61,8 @@ impl<'a> Answer<'a> {
         self.flag(NONZERO)
     }
 
-    /// The starting value's text, if one is given.
+    /// The text of the line's own starting value, if it has one. A default is no
+    /// part of an answer: `answer_with` tells which of the two is in force.
     pub fn starting_value(&self) -> Option<&'a [u8]> {
         self.flag(VALUE_GIVEN).then(|| self.text_at(self.bytes, 24))
     }

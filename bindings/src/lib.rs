@@ -19,7 +19,7 @@ pub use answer::{Answer, Components, Concatenation, Concatenations};
 pub use check::Fault;
 pub use fields::{Alignment, Bound, Component, Kind};
 #[cfg(feature = "library")]
-pub use library::{answer, check, listing, run};
+pub use library::{answer, answer_with, check, listing, run, run_with};
 pub use words::{words, WORDS};
 
 /// The answer area in bytes: its head, each concatenation, each component.
@@ -33,9 +33,10 @@ pub const ANY_AREA: usize = area_needed(16, 256, 8_192);
 /// A length of buffer that is enough for any listing.
 pub const ANY_LISTING: usize = 140_577;
 
-/// The stack in bytes that `run` (and so `answer`), `listing` and `check` take
-/// below their caller's frame: measured, not proved, and rounded up. The area
-/// and the buffer that are lent come on top, if they stand on the stack too.
+/// The stack in bytes that `run` and `run_with` (and so `answer` and
+/// `answer_with`), `listing` and `check` take below their caller's frame:
+/// measured, not proved, and rounded up. The area and the buffer that are lent
+/// come on top, if they stand on the stack too.
 pub const RUN_STACK: usize = 32_768;
 pub const LISTING_STACK: usize = 65_536;
 pub const CHECK_STACK: usize = 8_192;

@@ -1,6 +1,9 @@
 //! The calls of the static library, safe.
 
-use crate::{Answer, Refusal};
+use crate::{fields::entry, Answer, Refusal};
+
+/// What `layout_run_with` tells where the whole default is in force.
+const DEFAULT_IN_FORCE: u64 = 1 << 63;
 
 // Lengths are 64-bit on every target, as the compiled library takes them.
 extern "C" {
@@ -10,6 +13,17 @@ extern "C" {
         mode: u32,
         area: *mut u8,
         area_length: u64,
+    ) -> u64;
+
+    fn layout_run_with(
+        image: *const u8,
+        image_length: u64,
+        mode: u32,
+        start: *const u8,
+        start_length: u64,
+        area: *mut u8,
+        area_length: u64,
+        told: *mut u64,
     ) -> u64;
 
     fn layout_listing(input: *const u8, input_length: u64, out: *mut u8, out_length: u64) -> u64;
@@ -29,6 +43,43 @@ pub fn run(image: &[u8], mode: u32, area: &mut [u8]) -> Result<usize, Refusal> {
     // neither: that is proved of it.
     let outcome =
         unsafe { layout_run(image.as_ptr(), image_length, mode, area.as_mut_ptr(), area_length) };
+    length_of(outcome)
+}
+
+/// Runs as `run` does, under a default: the starting value of a line that has
+/// no prefix of its own. It may be any bytes, and is never parsed. An empty one
+/// means none; under any other, number 40 is not given and the next test
+/// answers. Nothing else in the outcome and the area depends on it.
+///
+/// Accepted: the answer's length, and the starting value in force. That is the
+/// line's own prefix, even an empty one, as a part of the image, else the default
+/// as it was lent, whatever the mode. The answer speaks only of the line's own.
+pub fn run_with<'a>(
+    image: &'a [u8],
+    mode: u32,
+    default: &'a [u8],
+    area: &mut [u8],
+) -> Result<(usize, &'a [u8]), Refusal> {
+    let mut told = 0;
+    // SAFETY: as in `run`; the default is read, and `told`, a number of our own,
+    // is written.
+    let outcome = unsafe {
+        layout_run_with(
+            image.as_ptr(),
+            image.len() as u64,
+            mode,
+            default.as_ptr(),
+            default.len() as u64,
+            area.as_mut_ptr(),
+            area.len() as u64,
+            &mut told,
+        )
+    };
+    Ok((length_of(outcome)?, in_force(told, image, default)))
+}
+
+/// An outcome taken apart: the answer's length, or the refusal.
+fn length_of(outcome: u64) -> Result<usize, Refusal> {
     match (outcome >> 32) as u32 {
         0 => Ok(outcome as usize),
         number => Err(Refusal {
@@ -36,6 +87,15 @@ pub fn run(image: &[u8], mode: u32, area: &mut [u8]) -> Result<usize, Refusal> {
             concatenation: (outcome >> 16) as u32 & 0xffff,
             component: outcome as u32 & 0xffff,
         }),
+    }
+}
+
+/// What is told of the starting value in force, taken apart: the default, or a
+/// place in the image and a length.
+fn in_force<'a>(told: u64, image: &'a [u8], default: &'a [u8]) -> &'a [u8] {
+    match told {
+        DEFAULT_IN_FORCE => default,
+        _ => entry(image, (told >> 32) as usize, told as u32 as usize),
     }
 }
 
@@ -65,7 +125,39 @@ pub fn run(image: &[u8], mode: u32, area: &mut [u8]) -> Result<usize, Refusal> {
 /// ```
 pub fn answer<'a>(image: &'a [u8], mode: u32, area: &'a mut [u8]) -> Result<Answer<'a>, Refusal> {
     let length = run(image, mode, area)?;
-    Ok(Answer::unchecked(area.get(..length).unwrap_or_default(), image))
+    Ok(left(image, area, length))
+}
+
+/// Runs as `run_with` does, and hands out the answer that the area now holds,
+/// as `answer` does, and the starting value in force.
+///
+/// ```
+/// use layout_reader::{answer, answer_with, ANY_AREA};
+///
+/// // ..4, a[..4]; b[..8]
+/// let input = include_bytes!(concat!(env!("CARGO_MANIFEST_DIR"), "/../tests/link.d/filler.in"));
+/// let (image, mut area) = (&input[1..], [0; ANY_AREA]);
+/// let refusal = answer(image, 1, &mut area).unwrap_err();
+/// assert_eq!(refusal.words(), "a filler in the source, with a return type and no starting value");
+///
+/// let (answer, value) = answer_with(image, 1, b"umax", &mut area)?;
+/// assert_eq!((answer.width(), value), (Some(8), &b"umax"[..]));
+/// assert_eq!(answer.starting_value(), None); // the line has none of its own
+/// # Ok::<(), layout_reader::Refusal>(())
+/// ```
+pub fn answer_with<'a>(
+    image: &'a [u8],
+    mode: u32,
+    default: &'a [u8],
+    area: &'a mut [u8],
+) -> Result<(Answer<'a>, &'a [u8]), Refusal> {
+    let (length, value) = run_with(image, mode, default, area)?;
+    Ok((left(image, area, length), value))
+}
+
+/// The answer that a run has left in an area.
+fn left<'a>(image: &'a [u8], area: &'a [u8], length: usize) -> Answer<'a> {
+    Answer::unchecked(area.get(..length).unwrap_or_default(), image)
 }
 
 /// The text that the program `layout` prints for an input, one mode byte and an
@@ -85,5 +177,28 @@ pub fn check(image: &[u8]) -> Result<(), Refusal> {
     match unsafe { layout_check(image.as_ptr(), image.len() as u64) } {
         0 => Ok(()),
         number => Err(Refusal { number, concatenation: 0, component: 0 }),
+    }
+}
+
+#[cfg(test)]
+mod tests {
+    use super::{in_force, DEFAULT_IN_FORCE};
+
+    /// A part of one of the two, whatever the number is.
+    #[test]
+    fn any_number_told() {
+        let (image, default) = (&b"image"[..], &b"default"[..]);
+        for (told, part) in [
+            (DEFAULT_IN_FORCE, default),
+            (1 << 32 | 3, b"mag"),
+            (5 << 32, b""),
+            (0, b""),
+            (1 << 32 | 5, b""),
+            (6 << 32, b""),
+            (DEFAULT_IN_FORCE | 1, b""),
+            (u64::MAX, b""),
+        ] {
+            assert_eq!(in_force(told, image, default), part, "{told:#x}");
+        }
     }
 }
