@@ -5,7 +5,7 @@
 use mathlib.Core.Path.{_≡_}
 use Prim.Native.Nat.{_≤_, _<_}
 use Rattle.definition.specs.Prelude.{ℕ, suc, _+_, _-_, _/_, _%_, _^_, Bool, true, false, _&&_, not, Option, none, some, List, [], _∷_, _++_, map, length, getD, take, drop, ltb, eqb, ℤ, pos, negsuc, natAbs}
-use Rattle.definition.specs.Basics.{Result, ok, refused, _>>=_, if_then_else_, isEmpty, sameBytes, sum, joined}
+use Rattle.definition.specs.Basics.{Result, ok, refused, _>>=_, if_then_else_, isEmpty, sameBytes, sum, joined, areaAfter}
 use Rattle.definition.specs.Characters.{char}
 use Rattle.definition.specs.Limits.{areaNeeded}
 use Rattle.definition.specs.Image.{Unparsed, Placed, kinds, treeOf}
@@ -15,7 +15,7 @@ use Rattle.definition.specs.Ranges.{Usb, Usbr, parseRange, singleBit, staticVal
 use Rattle.definition.specs.Component.{Component, literal, variable, filler, stage1Component, stage1, stage2, simplifyUsb, theEnd}
 use Rattle.definition.specs.Concatenation.{isStaticLiteral, merge}
 use Rattle.definition.specs.Answer.{Read, Field, readAnswer}
-use Rattle.definition.specs.Run.{Choices, run, areaAfter, inForce}
+use Rattle.definition.specs.Run.{Choices, run, inForce}
 
 -- ── The parts of a component ──
 

@@ -4,11 +4,11 @@ use mathlib.Core.Path.{_≡_, refl, sym, ap, _∙_}
 use Prim.Native.Nat.{_≤_, _<_}
 use native.Mathlib.Omega.{arith}
 use Rattle.definition.specs.Prelude.{ℕ, true, _+_, _-_, some, List, _∷_, [], map, length, getD}
-use Rattle.definition.specs.Basics.{Result, ok, refused, _>>=_, joined}
+use Rattle.definition.specs.Basics.{Result, ok, refused, _>>=_, joined, areaAfter}
 use Rattle.definition.specs.Limits.{areaNeeded}
 use Rattle.definition.specs.Tree.{Tree, imageOf, fits, literalsOf}
 use Rattle.definition.specs.Answer.{readAnswer}
-use Rattle.definition.specs.Run.{Choices, run, areaAfter, inForce, ranOn}
+use Rattle.definition.specs.Run.{Choices, run, inForce, ranOn}
 use Rattle.prepared.specs.Statement.{Bytes}
 use Rattle.errors.specs.Refused.{outcomeOf}
 use Rattle.errors.specs.declared.Outcome.{Outcome}

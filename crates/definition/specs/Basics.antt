@@ -1,5 +1,5 @@
 -- What the definitions share: a choice by a test, tables of values, and the answers of an operation that may refuse.
-use Rattle.definition.specs.Prelude.{ℕ, zero, suc, _+_, code, String, []ˢ, _∷ˢ_, Bool, true, false, _&&_, List, [], _∷_, _++_, leb, eqb}
+use Rattle.definition.specs.Prelude.{ℕ, zero, suc, _+_, code, String, []ˢ, _∷ˢ_, Bool, true, false, _&&_, List, [], _∷_, _++_, length, drop, leb, eqb}
 
 infixr 0 if_then_else_
 abbrev pub if_then_else_ {ℓ} : {A : Type ℓ} → Bool → A → A → A
@@ -33,6 +33,11 @@ refused q >>= f = refused q
 abbrev pub withPlaces : {A : Type 0} → ℕ → ℕ → Result A → Result A
 withPlaces i k (ok a) = ok a
 withPlaces i k (refused q) = refused (refusalOf (q .number) i k)
+
+-- a lent area after an operation that writes it: "the full answer from its first byte with the bytes beyond untouched, or, after a refusal, exactly as lent"
+abbrev pub areaAfter : List ℕ → Result (List ℕ) → List ℕ
+areaAfter area (ok bytes) = bytes ++ drop (length bytes) area
+areaAfter area (refused q) = area
 
 abbrev pub isEmpty : {A : Type 0} → List A → Bool
 isEmpty [] = true

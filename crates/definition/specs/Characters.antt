@@ -28,6 +28,8 @@ abbrev pub char :
       close-brace : ℕ;
       newline : ℕ;
       backslash : ℕ;
+      comma : ℕ;
+      semicolon : ℕ;
     }
 char =
     record {
@@ -54,6 +56,8 @@ char =
       close-brace = 125;
       newline = 10;
       backslash = 92;
+      comma = 44;
+      semicolon = 59;
     }
 
 -- the codes are those of the characters
@@ -61,7 +65,7 @@ pub characters-right :
     char .plus ∷ char .minus ∷ char .dot ∷ char .colon ∷ char .equals ∷ char .zero ∷ char .nine
     ∷ char .lower-a ∷ char .lower-f ∷ char .upper-a ∷ char .upper-f ∷ char .x ∷ char .o ∷ char .b
     ∷ char .space ∷ char .open-parenthesis ∷ char .close-parenthesis ∷ char .open-bracket ∷ char .close-bracket
-    ∷ char .open-brace ∷ char .close-brace ∷ char .newline ∷ char .backslash ∷ []
-    ≡ ascii "+-.:=09afAFxob ()[]{}\n\\"
+    ∷ char .open-brace ∷ char .close-brace ∷ char .newline ∷ char .backslash ∷ char .comma ∷ char .semicolon ∷ []
+    ≡ ascii "+-.:=09afAFxob ()[]{}\n\\,;"
 unfolding ascii
 characters-right = refl

@@ -1,5 +1,7 @@
 -- The definition of a run, from the bottom up: Prelude, Basics, Characters, Limits, Refusals, Numbers; the image (Image, Check, Tree); the stages (Text,
--- Ranges, Component, Concatenation, Overall); Answer, Run, Listing. Examples, Readings, Worked, Areas hold it to document 01's examples, Defaults to document 02's L1.
+-- Ranges, Component, Concatenation, Overall); Answer, Run, Listing;
+-- tokens to an image (TokenStream, Tokens). Examples, Readings, Worked, Areas hold it to document 01's examples, Defaults and
+-- TokenExamples to document 02's L1 and L2.
 pub mod Answer
 pub mod Areas
 pub mod Basics
@@ -21,5 +23,8 @@ pub mod Readings
 pub mod Refusals
 pub mod Run
 pub mod Text
+pub mod TokenExamples
+pub mod TokenStream
+pub mod Tokens
 pub mod Tree
 pub mod Worked

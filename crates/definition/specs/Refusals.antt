@@ -1,4 +1,5 @@
--- Document 01, "How each operation refuses": every reason with its number, in the document's order. The numbers stand here only.
+-- Document 01, "How each operation refuses", and document 02's requests: every reason with its number, in the documents' order. The
+-- numbers stand here only.
 use Rattle.definition.specs.Prelude.{ℕ, Bool, true, false}
 use Rattle.definition.specs.Basics.{Result, ok, refused, refusalOf}
 
@@ -59,3 +60,19 @@ refuse r = refused (refusalOf (numberOf r) 0 0)
 abbrev pub need : Bool → Reason → Result Unit
 need true r = ok tt
 need false r = refuse r
+
+-- ---- tokens to an image (document 02, L2): an operation of its own, which gives no number of the run's
+
+pub data TokenReason : Type 0 where
+  bad-token empty-component over-limits short-image-area : TokenReason
+
+abbrev pub tokenNumber : TokenReason → ℕ
+tokenNumber bad-token = 50
+tokenNumber empty-component = 51
+tokenNumber over-limits = 52
+tokenNumber short-image-area = 53
+
+-- a test, refused with this number and the places 0 and 0
+abbrev pub needs : Bool → ℕ → Result Unit
+needs true n = ok tt
+needs false n = refused (refusalOf n 0 0)

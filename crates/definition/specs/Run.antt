@@ -1,7 +1,7 @@
--- The whole run, what a lent area holds after it (document 01, "How each operation refuses"), and the starting value in force
+-- The whole run (document 01, "How each operation refuses"), and the starting value in force
 -- (document 02, L1).
-use Rattle.definition.specs.Prelude.{ℕ, _+_, Bool, true, false, _||_, not, Option, none, some, List, [], _++_, map, length, drop, leb}
-use Rattle.definition.specs.Basics.{Result, ok, refused, _>>=_, if_then_else_, isEmpty}
+use Rattle.definition.specs.Prelude.{ℕ, _+_, Bool, true, false, _||_, not, Option, none, some, List, [], map, length, leb}
+use Rattle.definition.specs.Basics.{Result, ok, refused, _>>=_, if_then_else_, isEmpty, areaAfter}
 use Rattle.definition.specs.Limits.{areaNeeded}
 use Rattle.definition.specs.Refusals.{need, mode-above-2, short-area}
 use Rattle.definition.specs.Image.{Unparsed, Placed, counts, treeOf}
@@ -48,11 +48,6 @@ run image how area = do
   _ ← need (leb (areaNeeded ((counts image) .c) ((counts image) .n) ((counts image) .b)) area) short-area
   a ← stages how (treeOf image)
   ok (answerBytes a)
-
--- the lent area afterwards: "the full answer from its first byte with the bytes beyond untouched, or, after a refusal, exactly as lent"
-abbrev pub areaAfter : List ℕ → Result (List ℕ) → List ℕ
-areaAfter area (ok bytes) = bytes ++ drop (length bytes) area
-areaAfter area (refused q) = area
 
 -- L1: "the starting value in force .. the image's if the line has a prefix, even an empty one, else the default"; "a refused run hands
 -- back an empty part". "The answer area tells only the image's own prefix": so its flag and its text are read there.

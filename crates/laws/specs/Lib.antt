@@ -3,5 +3,7 @@ pub mod Lists
 pub mod Numbers
 pub mod Padded
 pub mod Results
+pub mod Rows
 pub mod Sets
 pub mod Tests
+pub mod Writing

@@ -6,10 +6,10 @@ use borrow.Author.Tests.{leb-true, leb-false}
 use lib.Seq.{take-append-seam, take-all}
 use Rattle.definition.specs.Prelude.{ℕ, _-_, List, [], _∷_, length, take, drop, getD, leb}
 use Rattle.laws.specs.Tests.{by-test}
-use Rattle.definition.specs.Basics.{Result, ok, refused, refusalOf, _>>=_}
+use Rattle.definition.specs.Basics.{Result, ok, refused, refusalOf, _>>=_, areaAfter}
 use Rattle.definition.specs.Limits.{maxInput}
 use Rattle.definition.specs.Listing.{listing, output, programArea}
-use Rattle.definition.specs.Run.{Choices, under, run, areaAfter, ranOn}
+use Rattle.definition.specs.Run.{Choices, under, run, ranOn}
 use Rattle.errors.specs.Refused.{outcomeOf}
 use Rattle.listing.specs.Outcomes.{resultAs, listingOf}
 use Rattle.errors.specs.declared.Outcome.{Outcome}

@@ -2,7 +2,6 @@
 use mathlib.Core.Path.{_≡_, refl, ap}
 use Prim.Native.Nat.{ℕ, zero, suc, _+_, _-_, _≤_, _<_}
 use native.Mathlib.Omega.{arith}
-use mathlib.Core.List.{append-assoc}
 use lib.ListN.{length-append}
 use lib.Seq.{take-at, drop-append-add, getD-at}
 use Rattle.definition.specs.Prelude.{true, List, [], _∷_, _++_, length, getD, ltb, not}
@@ -12,14 +11,10 @@ use Rattle.definition.specs.Image.{Rec, Entry, kinds, opens, delimiter}
 use Rattle.definition.specs.Check.{checkIn, noEntry, openRight, closeRight, wordRight, insideOf, closerOf, afterOf}
 use Rattle.definition.specs.Tree.{Forest, end, word, group, flat, textOf, soundForest, depth}
 use Rattle.prepared.specs.Statement.{entriesFrom}
+pub use Rattle.laws.specs.Rows.{textOf-append}
 use Rattle.laws.specs.Tests.{leb-iff, tested}
 
--- texts and entries of records in two parts
-pub textOf-append : (a b : List Rec) → textOf (a ++ b) ≡ textOf a ++ textOf b
-unfolding textOf
-textOf-append [] b = refl
-textOf-append (r ∷ a) b = rw (textOf-append a b, append-assoc)
-
+-- entries of records in two parts
 pub entries-append : (start : ℕ) (a b : List Rec) → entriesFrom start (a ++ b) ≡ entriesFrom start a ++ entriesFrom (start + length (textOf a)) b
 unfolding textOf entriesFrom
 entries-append start [] b = ap (λ (k : ℕ). entriesFrom k b) (omega arith)

@@ -7,11 +7,12 @@ use lib.ListN.{length-append}
 use Rattle.definition.specs.Prelude.{true, List, [], _∷_, _++_, map, length, leb, ltb}
 use Rattle.definition.specs.Basics.{all, joined, tab}
 use Rattle.definition.specs.Limits.{limits}
-use Rattle.definition.specs.Image.{Rec, u32At, tablesFor}
+use Rattle.definition.specs.Image.{u32At, tablesFor}
 use Rattle.definition.specs.Tree.{Tree, Node, recsOf, allRecs, textOf, literalsOf, u32, recordBytes, imageOf, fits, soundNode}
+use Rattle.laws.specs.Rows.{length-rows, length-record-bytes}
 use Rattle.laws.specs.Tests.{leb-iff, tested}
 use Rattle.prepared.specs.Bytes.{Holds, holds-whole, holds-left, holds-right, u32At-holds}
-use Rattle.prepared.specs.Tables.{length-rows, rows-read}
+use Rattle.prepared.specs.Tables.{rows-read}
 
 -- a tree within the limits, limit by limit
 pub record Fits (t : Tree) : Type 0 where
@@ -45,13 +46,6 @@ concatenationRow c = u32 (length c)
 
 abbrev pub componentRow : Node → List ℕ
 componentRow n = u32 (length (recsOf n)) ++ u32 (length (n .bits))
-
-pub length-recordBytes : (start : ℕ) (rs : List Rec) → length (recordBytes start rs) ≡ 12 * length rs
-unfolding recordBytes
-length-recordBytes start [] = refl
-length-recordBytes start (r ∷ rs) =
-    let q = length-recordBytes (start + length (r .text)) rs in
-    omega arith
 
 -- where the tables of a tree's image stand
 abbrev pub tablesOf : Tree → record { concatenations : ℕ; components : ℕ; records : ℕ; text : ℕ; literals : ℕ; stop : ℕ }
@@ -122,7 +116,7 @@ layout t fits =
     let at = tablesOf t in
     let p = six-parts (joined (map u32 (header t))) (joined (map concatenationRow t)) (joined (map componentRow ns)) (recordBytes 0 rs) (textOf rs)
     (literalsOf ns) 40 (at .components) (at .records) (at .text) (at .literals) (length-rows 4 u32 (λ a. refl) (header t))
-    (rw (length-rows 4 concatenationRow (λ a. refl) t)) (rw (length-rows 8 componentRow (λ a. refl) ns)) (rw length-recordBytes) refl in
+    (rw (length-rows 4 concatenationRow (λ a. refl) t)) (rw (length-rows 8 componentRow (λ a. refl) ns)) (rw length-record-bytes) refl in
     record {
       header-read = header-holds t (imageOf t) fits (p .0);
       concatenations = p .1;

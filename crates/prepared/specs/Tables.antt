@@ -2,25 +2,16 @@
 use mathlib.Core.Path.{_≡_, refl}
 use Prim.Native.Nat.{ℕ, suc, _+_, _*_}
 use native.Mathlib.Omega.{arith}
-use lib.ListN.{length-append}
 use Rattle.definition.specs.Prelude.{Bool, true, List, [], _∷_, map, length, ltb}
 use Rattle.definition.specs.Basics.{all, joined, tab}
 use Rattle.prepared.specs.Statement.{Bytes}
+pub use Rattle.laws.specs.Rows.{length-rows}
 use Rattle.laws.specs.Tests.{and-iff}
 use Rattle.laws.specs.Lists.{all-joined, all-map, all-of}
 use Rattle.prepared.specs.Bytes.{Holds, holds-left, holds-right}
 
 -- rows of w bytes, row a being `row a`
 module _ {A : Type 0} (w : ℕ) (row : A → List ℕ) (sized : (a : A) → length (row a) ≡ w) where
-  pub length-rows : (l : List A) → length (joined (map row l)) ≡ w * length l
-  unfolding joined
-  length-rows [] = omega arith
-  length-rows (a ∷ l) =
-      let e = length-append (row a) (joined (map row l)) in
-      let q = length-rows l in
-      let r = sized a in
-      omega arith
-
   pub rows-read : {B : Type 0} (good : A → Bool) (s : List ℕ) (at : ℕ) (read : ℕ → B) (f : A → B)
       → ((i : ℕ) (a : A) → good a ≡ true → Holds s i (row a) → read i ≡ f a) → (from : ℕ) (l : List A) → all good l ≡ true
       → Holds s (at + w * from) (joined (map row l)) → tab (λ k. read (at + w * k)) from (length l) ≡ map f l

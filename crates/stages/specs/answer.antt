@@ -2,6 +2,5 @@
 pub mod Blocks
 pub mod Sizes
 pub mod Stage5
-pub mod Writing
 pub mod literal_bits
 pub mod merging

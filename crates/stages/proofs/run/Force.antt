@@ -6,11 +6,11 @@ use borrow.Author.Tests.{ne-eqb}
 use lib.ListN.{length-drop}
 use mathlib.Core.List.{append-nil}
 use Rattle.definition.specs.Prelude.{ℕ, zero, suc, _+_, Bool, true, false, not, List, [], _∷_, _++_, length, getD, take, drop, leb, eqb}
-use Rattle.definition.specs.Basics.{Result, ok, refused, _>>=_, if_then_else_, isEmpty}
+use Rattle.definition.specs.Basics.{Result, ok, refused, _>>=_, if_then_else_, isEmpty, areaAfter}
 use Rattle.definition.specs.Limits.{sizes}
 use Rattle.definition.specs.Image.{u32At, padded, bytesAt, tables}
 use Rattle.definition.specs.Answer.{isSet, readAnswer}
-use Rattle.definition.specs.Run.{Choices, run, areaAfter, inForce, ranOn}
+use Rattle.definition.specs.Run.{Choices, run, inForce, ranOn}
 use Rattle.laws.specs.Tests.{leb-iff}
 use Rattle.prepared.specs.Statement.{Bytes}
 use Rattle.prepared.specs.back.Largest.{image-most}

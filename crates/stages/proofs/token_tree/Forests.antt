@@ -11,6 +11,7 @@ use Rattle.definition.specs.Image.{Rec, u32At, bytesAt, opens, delimiter}
 use Rattle.definition.specs.Tree.{Forest, end, word, group, flat, textOf, u32, recordBytes, soundForest}
 use Rattle.definition.specs.Text.{Item, itemOf, itemsOf, items, isGroup}
 use Rattle.laws.specs.Tests.{and-iff, tested}
+use Rattle.laws.specs.Rows.{record-bytes-append, length-record-bytes}
 use Rattle.stages.proofs.token_tree.Chunks.{wordRec, opener, closer, wordChunk, groupChunk, chunksOf, items-flat, sound-opened}
 use Rattle.prepared.specs.Bytes.{Holds, holds-left, holds-right, bytesAt-holds, u32At-next}
 use Rattle.prepared.specs.Groups.{textOf-append, nonempty}
@@ -18,30 +19,19 @@ use Rattle.stages.specs.token_tree.Laid.{Planted, Inner, Stands, Laid}
 use Rattle.stages.specs.token_tree.Table.{skipIn}
 use Rattle.stages.specs.declared.token_tree.types.Tree.{Tree}
 
-records-append : (s : ℕ) (a b : List Rec) → recordBytes s (a ++ b) ≡ recordBytes s a ++ recordBytes (s + length (textOf a)) b
-unfolding recordBytes textOf
-records-append s [] b = rw add-zero refl
-records-append s (r ∷ a) b =
-    rw (records-append (s + length (r .text)) a b, length-append (r .text) (textOf a), ← add-assoc s (length (r .text)) (length (textOf a))) (refl)
-
-records-length : (s : ℕ) (a : List Rec) → length (recordBytes s a) ≡ 12 * length a
-unfolding recordBytes
-records-length s [] = refl
-records-length s (r ∷ a) = let h = records-length (s + length (r .text)) a in omega arith
-
 -- what stands behind the first records, and the first alone
 pub records-behind : (image : List ℕ) (p e s : ℕ) (a b : List Rec) → Holds image (p + 12 * e) (recordBytes s (a ++ b))
     → Holds image (p + 12 * (e + length a)) (recordBytes (s + length (textOf a)) b)
 records-behind image p e s a b h =
-    let n = records-length s a in
+    let n = length-record-bytes s a in
     let q : p + 12 * e + length (recordBytes s a) ≡ p + 12 * (e + length a) = omega (arith, n) in
     subst (λ x. Holds image x (recordBytes (s + length (textOf a)) b)) q
     (holds-right image (p + 12 * e) (recordBytes s a) (recordBytes (s + length (textOf a)) b)
-    (subst (λ l. Holds image (p + 12 * e) l) (records-append s a b) h))
+    (subst (λ l. Holds image (p + 12 * e) l) (record-bytes-append s a b) h))
 
 pub records-before : (image : List ℕ) (at s : ℕ) (a b : List Rec) → Holds image at (recordBytes s (a ++ b)) → Holds image at (recordBytes s a)
 records-before image at s a b h =
-    holds-left image at (recordBytes s a) (recordBytes (s + length (textOf a)) b) (subst (λ l. Holds image at l) (records-append s a b) h)
+    holds-left image at (recordBytes s a) (recordBytes (s + length (textOf a)) b) (subst (λ l. Holds image at l) (record-bytes-append s a b) h)
 
 pub text-behind : (image : List ℕ) (table s : ℕ) (a b : List Rec) → Holds image (table + s) (textOf (a ++ b))
     → Holds image (table + (s + length (textOf a))) (textOf b)

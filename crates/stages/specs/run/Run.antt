@@ -2,7 +2,7 @@
 use mathlib.Core.Path.{_≡_}
 use Prim.Native.Nat.{_≤_}
 use Rattle.definition.specs.Prelude.{ℕ, _*_, not, Option, List, length}
-use Rattle.definition.specs.Basics.{Result, ok, _>>=_, isEmpty, joined}
+use Rattle.definition.specs.Basics.{Result, ok, _>>=_, isEmpty, joined, areaAfter}
 use Rattle.definition.specs.Limits.{areaNeeded}
 use Rattle.definition.specs.Image.{Placed, counts, treeOf}
 use Rattle.definition.specs.Check.{checkImage}
@@ -10,7 +10,7 @@ use Rattle.definition.specs.Text.{Part}
 use Rattle.definition.specs.Component.{Component, startingValue, source}
 use Rattle.definition.specs.Concatenation.{Concatenation, stage3}
 use Rattle.definition.specs.Answer.{Answer, answerBytes}
-use Rattle.definition.specs.Run.{Choices, stages, run, areaAfter}
+use Rattle.definition.specs.Run.{Choices, stages, run}
 use Rattle.answer_facts.specs.stages.Statement.{later}
 use Rattle.errors.specs.Refused.{outcomeOf}
 use Rattle.errors.specs.declared.Outcome.{Outcome}

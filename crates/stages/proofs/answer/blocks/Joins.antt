@@ -4,7 +4,7 @@ use lib.Seq.{sets}
 use Rattle.definition.specs.Prelude.{ℕ, _+_, _/_, _%_, List, _++_, getD}
 use Rattle.definition.specs.Tree.{u32}
 use Rattle.stages.specs.answer.Blocks.{wordBytes, usbBlock, rangeBlock, headBlock, literalBlock, plainBlock, openBlock, fixedBlock}
-use Rattle.stages.specs.answer.Writing.{and-then, four-blocks}
+use Rattle.laws.specs.Writing.{and-then, four-blocks}
 
 pub three-words : (l : List ℕ) (at a b c : ℕ) {l₁ l₂ l₃ : List ℕ} → l₁ ≡ sets l at (wordBytes a) → l₂ ≡ sets l₁ (at + 8) (wordBytes b)
     → l₃ ≡ sets l₂ (at + 16) (wordBytes c) → l₃ ≡ sets l at (wordBytes a ++ wordBytes b ++ wordBytes c)

@@ -6,7 +6,7 @@ use Rattle.definition.specs.Tree.{u32}
 use Rattle.definition.specs.Concatenation.{Concatenation, alignNumber, merge, merged}
 use Rattle.definition.specs.Answer.{flag, concatenationBytes}
 use Rattle.stages.specs.answer.Blocks.{wordBytes, headOf}
-use Rattle.stages.specs.answer.Writing.{four-blocks, six-blocks}
+use Rattle.laws.specs.Writing.{four-blocks, six-blocks}
 use Rattle.stages.specs.concatenation.alignment.Align.{alignOf}
 use Rattle.stages.specs.concatenation.Heads.{widthOr0, HeadsAre, AllChecked}
 use Rattle.stages.specs.concatenation.Overall.{HasSummary}

@@ -13,7 +13,7 @@ use Rattle.definition.specs.Concatenation.{Concatenation, alignNumber, merge, m
 use Rattle.definition.specs.Answer.{flag, concatenationBytes}
 use Rattle.laws.specs.Lists.{joined-append, sum-append}
 use Rattle.stages.specs.answer.Sizes.{length-concatenation}
-use Rattle.stages.specs.answer.Writing.{and-then}
+use Rattle.laws.specs.Writing.{and-then}
 use Rattle.stages.specs.concatenation.Heads.{HeadsAre, AllChecked}
 use Rattle.stages.proofs.concatenation.HeadsAt.{checked-at, head-word}
 

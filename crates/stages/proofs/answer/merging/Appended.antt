@@ -14,13 +14,12 @@ use Rattle.definition.specs.Tree.{packed}
 use Rattle.laws.specs.Tests.{and-iff}
 use Rattle.laws.specs.Lists.{length-tab}
 use Rattle.laws.specs.Padded.{length-padded}
-use Rattle.laws.specs.Sets.{sets-append}
+use Rattle.laws.specs.Sets.{sets-append, take-sets, drop-sets, sets-over}
 use Rattle.prepared.specs.Bits.{Bits, length-packed}
 use Rattle.stages.specs.answer.literal_bits.Put.{bitOf, bitsFrom, withBits, putBits}
 use Rattle.stages.specs.answer.literal_bits.Places.{Small, put-fits}
 use Rattle.stages.specs.answer.literal_bits.Packing.{held-more, region-full}
 use Rattle.stages.specs.answer.literal_bits.Runs.{bytesAt-sets}
-use Rattle.stages.specs.answer.merging.Blocks.{sets-over, take-sets, drop-sets}
 use Rattle.stages.specs.answer.merging.Literals.{AppendIs}
 
 -- ---- the test of the numbers

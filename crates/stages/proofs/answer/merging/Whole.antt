@@ -16,7 +16,7 @@ use Rattle.prepared.specs.Bits.{length-packed, byte-of-bits}
 use Rattle.stages.specs.answer.literal_bits.Put.{bitOf, bitsFrom}
 use Rattle.stages.specs.answer.literal_bits.Places.{Small, bitOf-at}
 use Rattle.stages.specs.answer.literal_bits.Worth.{worth-ext}
-use Rattle.stages.specs.answer.Writing.{and-then}
+use Rattle.laws.specs.Writing.{and-then}
 use Rattle.stages.specs.answer.merging.Literals.{AppendIs}
 
 -- one byte more of those that are copied

@@ -31,7 +31,7 @@ use Rattle.stages.specs.concatenation.alignment.Align.{alignOf}
 use Rattle.stages.specs.concatenation.Heads.{widthNumber, HeadsAre, AllChecked}
 use Rattle.stages.specs.answer.Blocks.{wordBytes, headOf}
 use Rattle.stages.specs.answer.Sizes.{length-head}
-use Rattle.stages.specs.answer.Writing.{four-blocks}
+use Rattle.laws.specs.Writing.{four-blocks}
 use Rattle.stages.specs.answer.merging.Blocks.{length-blocks}
 use Rattle.stages.specs.answer.merging.Put.{Room}
 use Rattle.stages.specs.answer.Stage5.{mergedAll, compsOf, PutHeadsIs, PutAllIs, PutFits, answerFrom, Answers}

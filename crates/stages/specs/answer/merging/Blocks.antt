@@ -1,54 +1,21 @@
--- Blocks written at two places of a list, and one merged component written before the others.
+-- One merged component written before the others.
 use mathlib.Core.Path.{_≡_, refl, sym, ap, _∙_}
-use Prim.Native.Nat.{_≤_, _<_}
-use native.Mathlib.Nat.{add-assoc, add-suc}
+use Prim.Native.Nat.{_≤_}
+use native.Mathlib.Nat.{add-assoc}
 use native.Mathlib.Omega.{arith}
-use lib.ListN.{set, length-append}
-use lib.Seq.{sets, length-sets, set-comm, set-set, take-set-le, drop-set-add}
-use Rattle.definition.specs.Prelude.{ℕ, suc, _+_, _*_, List, [], _∷_, _++_, length, take, drop}
+use lib.ListN.{length-append}
+use lib.Seq.{sets, length-sets}
+use Rattle.definition.specs.Prelude.{ℕ, suc, _+_, _*_, List, [], _∷_, _++_, length}
 use Rattle.definition.specs.Basics.{joined}
 use Rattle.definition.specs.Limits.{sizes}
 use Rattle.definition.specs.Image.{Placed}
 use Rattle.definition.specs.Component.{Component}
 use Rattle.definition.specs.Answer.{componentBytes, componentsBytes, literalBytes}
 use Rattle.answer_facts.specs.fits.Statement.{literalsOf}
-use Rattle.laws.specs.Sets.{sets-append}
+use Rattle.laws.specs.Sets.{sets-append, sets-apart}
 use Rattle.stages.specs.answer.Sizes.{length-component}
 use Rattle.stages.specs.declared.answer.merging.Writing.{Writing}
 use Rattle.stages.specs.answer.merging.Put.{putAll, writtenTo, Room}
-
-module _ {A : Type 0} where
-  set-apart : (l : List A) (i : ℕ) (x : A) (j : ℕ) (b : List A) → i < j → sets (set l i x) j b ≡ set (sets l j b) i x
-  set-apart l i x j [] h = refl
-  set-apart l i x j (y ∷ b) h =
-      ap (λ (m : List A). sets m (suc j) b) (set-comm l i j x y (λ e. omega arith)) ∙ set-apart (set l j y) i x (suc j) b (omega arith)
-
-  -- the first block ends before the second begins
-  pub sets-apart : (l : List A) (i : ℕ) (a : List A) (j : ℕ) (b : List A) → i + length a ≤ j → sets (sets l i a) j b ≡ sets (sets l j b) i a
-  sets-apart l i [] j b h = refl
-  sets-apart l i (x ∷ a) j b h =
-      sets-apart (set l i x) (suc i) a j b (omega arith) ∙ ap (λ (m : List A). sets m (suc i) a) (set-apart l i x j b (omega arith))
-
-  -- what stands before a place, and from there on
-  pub take-sets : (l : List A) (i : ℕ) (vs : List A) (n : ℕ) → n ≤ i → take n (sets l i vs) ≡ take n l
-  take-sets l i [] n h = refl
-  take-sets l i (x ∷ vs) n h = take-sets (set l i x) (suc i) vs n (omega arith) ∙ take-set-le n l i x h
-
-  pub drop-sets : (l : List A) (i j : ℕ) (vs : List A) → drop i (sets l (i + j) vs) ≡ sets (drop i l) j vs
-  drop-sets l i j [] = refl
-  drop-sets l i j (x ∷ vs) =
-      ap (λ (k : ℕ). drop i (sets (set l (i + j) x) k vs)) (sym (add-suc i j))
-      ∙ drop-sets (set l (i + j) x) i (suc j) vs
-      ∙ ap (λ (m : List A). sets m (suc j) vs) (drop-set-add i l j x)
-
-  -- a block over one that is no longer
-  pub sets-over : (l : List A) (i : ℕ) (a b : List A) → length a ≤ length b → sets (sets l i a) i b ≡ sets l i b
-  sets-over l i [] b h = refl
-  sets-over l i (x ∷ a) [] h = absurd (omega arith)
-  sets-over l i (x ∷ a) (y ∷ b) h =
-      ap (λ (m : List A). sets m (suc i) b)
-      (sym (set-apart (set l i x) i y (suc i) a (omega arith)) ∙ ap (λ (m : List A). sets m (suc i) a) (set-set l i x y))
-      ∙ sets-over (set l i y) (suc i) a b (omega arith)
 
 -- ---- one component, and then the others
 

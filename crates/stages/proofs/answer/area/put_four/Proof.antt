@@ -3,7 +3,7 @@ use mathlib.Core.Path.{refl}
 use borrow.Author.Needs.{needs}
 use native.Mathlib.Omega.{arith}
 use lib.ListN.{length-set}
-use Rattle.stages.specs.answer.Writing.{four}
+use Rattle.laws.specs.Writing.{four}
 use Rattle.stages.proofs.answer.area.put_four.Statement.{statement}
 use Rattle.stages.proofs.answer.area.put_four.Tie as tie
 

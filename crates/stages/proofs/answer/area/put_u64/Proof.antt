@@ -3,7 +3,7 @@ use mathlib.Core.Path.{refl}
 use Prim.Native.Nat.{_/_, _%_, _^_}
 use borrow.Author.Needs.{needs}
 use Rattle.definition.specs.Tree.{u32}
-use Rattle.stages.specs.answer.Writing.{and-then}
+use Rattle.laws.specs.Writing.{and-then}
 use Rattle.stages.proofs.answer.area.put_u64.Statement.{statement}
 use Rattle.stages.proofs.answer.area.put_u64.Tie as tie
 

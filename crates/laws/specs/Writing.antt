@@ -1,12 +1,14 @@
 -- Writing a list of bytes into a longer one: bytes next to bytes, bytes past the end, and bytes from the front.
 -- Assumes nothing.
-use mathlib.Core.Path.{_≡_, refl, sym}
+use mathlib.Core.Path.{_≡_, refl, sym, ap, _∙_}
 use mathlib.Core.List.{List, [], _∷_, _++_}
 use Prim.Native.Nat.{ℕ, _+_, _≤_}
 use native.Mathlib.Omega.{arith}
-use lib.ListN.{length, set, length-append}
+use lib.ListN.{length, set, getD, drop, length-append}
 use lib.Seq.{sets}
+use Rattle.definition.specs.Image.{bytesAt}
+use Rattle.laws.specs.Padded.{length-padded, bytes-next}
 use Rattle.laws.specs.Sets.{sets-append, sets-past}
 
 -- past the end
 pub sets-out : (l : List ℕ) (i : ℕ) (a : List ℕ) → length l ≤ i → l ≡ sets l i a
@@ -38,3 +40,11 @@ six-blocks l i n₁ n₂ n₃ n₄ n₅ a b c d e f p₁ q₁ p₂ q₂ p₃ q�
     and-then l i n₅ (a ++ b ++ c ++ d ++ e) f
     (and-then l i n₄ (a ++ b ++ c ++ d) e (four-blocks l i n₁ n₂ n₃ a b c d p₁ q₁ p₂ q₂ p₃ q₃ p₄) (simp length-append (omega arith)) p₅)
     (simp length-append (omega arith)) p₆
+
+-- ---- bytes copied one by one, from so many bytes of another list
+
+pub copy-next : (l : List ℕ) (at : ℕ) (s : List ℕ) (from i : ℕ) {m : List ℕ} → m ≡ sets l at (bytesAt s from i)
+    → set m (at + i) (getD s (from + i) 0) ≡ sets l at (bytesAt s from (i + 1))
+copy-next l at s from i e =
+    and-then l at i (bytesAt s from i) (getD s (from + i) 0 ∷ []) e (length-padded i (drop from s)) refl
+    ∙ ap (sets l at) (sym (bytes-next s from i))
