@@ -35,7 +35,8 @@ pub(crate) fn spare_zero(last: u8, w: u32) -> bool
     (last as u32) < (1u32 << (w % 8))
 }
 
-fn delimiter_of(kind: u32) -> Delimiter
+// The delimiters of a group of this kind.
+pub fn delimiter_of(kind: u32) -> Delimiter
     ensures { λ d. ⌜ delimiterOf d ≡ delimiter kind ⌝ }
 {
     if kind == 1 {

@@ -1,5 +1,7 @@
 // The prepared image and its tables (src/token_tree.rs, whose arena the image replaces). Nothing is asked of a caller: a byte that
 // is missing counts as 0.
+pub use crate::record_rules::Delimiter;
+pub use crate::record_rules::delimiter_of;
 pub use crate::words::byte_at;
 use crate::words::four_at;
 pub use crate::words::join4;
@@ -29,7 +31,7 @@ pub struct Tables {
 }
 
 // The byte n places on, whatever the two numbers.
-fn byte_on(s: &[u8], at: usize, n: usize) -> u8
+pub(crate) fn byte_on(s: &[u8], at: usize, n: usize) -> u8
     ensures { λ r. ⌜ r ≡ getD (now (s .entry)) (at + n) 0 ⌝ }
 {
     if s.len() <= at {

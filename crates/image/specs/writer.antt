@@ -1,0 +1,5 @@
+-- What the writer of an image leaves in the lent area.
+pub mod Laws
+pub mod Whole
+mod Witness
+pub mod Written
