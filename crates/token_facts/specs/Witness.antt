@@ -1,0 +1,89 @@
+-- A list of tokens that meets the premises of tokens-read, every-list, right-fits, tokens-prepared and tokens-rust; they are applied to it.
+use mathlib.Core.Path.{_≡_, refl}
+use Rattle.definition.specs.Prelude.{ℕ, true, List, [], _∷_, _++_, map}
+use Rattle.definition.specs.Basics.{ok, ascii}
+use Rattle.definition.specs.Image.{kinds, treeOf}
+use Rattle.definition.specs.Check.{checkImage}
+use Rattle.definition.specs.Tree.{u32, fits, imageOf}
+use Rattle.definition.specs.TokenStream.{ident, punct, literal, Stream, done, leaf, delimited, forestOf, divided, ast, turned, streamTree}
+use Rattle.definition.specs.Tokens.{closer, tokensRight, nested, streams, streamOf, noneEmpty, withinLimits, tokenImage}
+use Rattle.definition.specs.Compute.{computed}
+use Rattle.prepared.specs.Statement.{Bytes, placedTree}
+use Rattle.token_facts.specs.Flat.{flatTokens, soundStream}
+use Rattle.token_facts.specs.Statement.{IsStream}
+use Rattle.token_facts.specs.Streams.{flat-streams, tokens-read, every-list}
+use Rattle.token_facts.specs.Prepared.{right-fits, tokens-prepared, tokens-rust}
+
+abbrev t : ℕ → ℕ → ℕ → List ℕ
+t k s l = u32 k ++ u32 s ++ u32 l
+
+-- `a bc, «d, 12»; + ()`, « » being a group without delimiters, whose text is not looked at
+text : List ℕ
+unfolding ascii
+text = ascii "a bc,d12;+"
+
+list : List ℕ
+list =
+    t 0 0 1 ++ t 0 2 2 ++ t 1 4 1 ++ t 3 99 88 ++ t 0 5 1 ++ t 1 4 1 ++ t 2 6 2 ++ t 7 77 66 ++ t 1 8 1 ++ t 1 9 1 ++ t 4 0 0 ++ t 7 0 0
+
+stream : Stream
+unfolding ascii
+stream =
+    leaf (ident (ascii "a")) (leaf (ident (ascii "bc")) (leaf (punct (ascii ","))
+    (delimited (kinds .space) (leaf (ident (ascii "d")) (leaf (punct (ascii ",")) (leaf (literal (ascii "12")) done)))
+    (leaf (punct (ascii ";")) (leaf (punct (ascii "+")) (delimited (kinds .parenthesis) done done))))))
+
+-- ---- the premises
+
+bytes : Bytes text
+unfolding text computed
+bytes = refl
+
+right : tokensRight list text ≡ true
+unfolding list text computed nested
+right = refl
+
+reads : streamOf list text ≡ stream
+unfolding list text stream computed streams
+reads = refl
+
+sound : soundStream stream ≡ true
+unfolding stream computed soundStream
+sound = refl
+
+some : noneEmpty (streamOf list text) ≡ true
+unfolding list text computed streams divided
+some = refl
+
+within-limits : withinLimits (streamTree (streamOf list text)) ≡ true
+unfolding list text computed streams divided forestOf
+within-limits = refl
+
+-- an area of just the image's 193 bytes
+written : tokenImage list text 193 ≡ ok (imageOf (streamTree stream))
+unfolding list text stream computed nested streams divided forestOf tokenImage
+written = refl
+
+before-closer : streams (closer ∷ flatTokens stream) ≡ done ∷ stream ∷ []
+unfolding stream ascii flatTokens streams
+before-closer = refl
+
+-- ---- what they give
+
+is-stream : IsStream list text stream
+is-stream = rw reads at ((every-list list text right) .1)
+
+read-as : (tokensRight list text ≡ true) × (streamOf list text ≡ stream)
+read-as = tokens-read list text stream sound is-stream
+
+fitting : fits (streamTree (streamOf list text)) ≡ true
+fitting = right-fits list text bytes right some within-limits
+
+passing : checkImage (imageOf (streamTree stream)) ≡ ok tt
+passing = (tokens-prepared list text 193 (imageOf (streamTree stream)) bytes written) .0
+
+rust : treeOf (imageOf (streamTree stream)) ≡ placedTree (map turned (ast stream))
+rust = tokens-rust list text 193 (imageOf (streamTree stream)) stream bytes sound is-stream written
+
+two-streams : (s : Stream) → streams (flatTokens s ++ closer ∷ flatTokens stream) ≡ s ∷ stream ∷ []
+two-streams s = flat-streams s (closer ∷ flatTokens stream) (stream ∷ []) before-closer

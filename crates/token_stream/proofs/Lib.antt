@@ -1,0 +1,3 @@
+-- Laws that the proofs of several parts cite.
+pub mod Calls
+mod Refusing

@@ -1,0 +1,2 @@
+-- Laws of the tokens that the walks' proofs cite.
+pub mod Dividers

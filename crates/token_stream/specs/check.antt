@@ -1,0 +1,2 @@
+-- 50 of one token, by its numbers.
+pub mod Rules

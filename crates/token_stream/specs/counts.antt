@@ -1,0 +1,2 @@
+-- The counts of the image.
+pub mod Counting
