@@ -1,5 +1,6 @@
--- The run's outcome as one number, which is small enough for it. Assumes nothing.
+-- The run's outcome as one number, which is small enough for it, and that of tokens. Assumes nothing.
 use mathlib.Core.Path.{_≡_, refl, sym, ap, _∙_}
+use Prim.Native.Nat.{_<_}
 use native.Mathlib.Omega.{arith}
 use Rattle.definition.specs.Prelude.{ℕ, _%_, _^_, Bool, true, false, List, length, leb}
 use Rattle.definition.specs.Basics.{Result, if_then_else_}
@@ -10,12 +11,14 @@ use Rattle.listing.specs.Outcomes.{filled, writtenAs}
 use Rattle.listing.specs.declared.Written.{Written}
 use Rattle.listing.specs.declared.Written.the-variants.{Whole, Cut}
 use Rattle.definition.specs.Run.{Choices, run, ranOn}
+use Rattle.definition.specs.Tokens.{tokensOn}
 use Rattle.layout_c.specs.outcome.Code.{codeOf}
-use Rattle.layout_c.specs.Code.{codedOn, codedWith, listedIn}
+use Rattle.layout_c.specs.Code.{codedOn, codedWith, tokensCoded, listedIn}
 use Rattle.stages.specs.in_force.InForce.{placeIn}
 use Rattle.stages.specs.declared.in_force.InForce.{InForce}
 use Rattle.layout_c.specs.start.Told.{numberAt}
 use Rattle.layout_c.specs.Split.{codeOn, code-small}
+use Rattle.layout_c.specs.Tokens.{tokensCode, tokens-small}
 
 pub run-coded : (image area after start : List ℕ) (how : Choices) (o : Outcome) → (outcomeOf o, after, start) ≡ ranOn image how area
     → (n : ℕ) → n ≡ codeOf (outcomeOf o) % 2 ^ 64 → _≡_ {A = ℕ × List ℕ} (n, after) (codedOn image how area)
@@ -24,6 +27,15 @@ run-coded image area after start how o e n is =
     let small = code-small image how (length area) in
     let same : n ≡ codeOf (outcomeOf o) = omega (arith, is, code, small) in
     ap (λ (m : ℕ). (m, after)) same ∙ ap (λ (p : Result ℕ × List ℕ × List ℕ). (codeOf (p .0), p .1)) e
+
+-- the same of tokens
+pub tokens-coded : (list text area after : List ℕ) (o : Outcome) → length area < 2 ^ 64 → (outcomeOf o, after) ≡ tokensOn list text area
+    → (n : ℕ) → n ≡ codeOf (outcomeOf o) % 2 ^ 64 → _≡_ {A = ℕ × List ℕ} (n, after) (tokensCoded list text area)
+tokens-coded list text area after o h e n is =
+    let code : codeOf (outcomeOf o) ≡ tokensCode list text (length area) = ap (λ (p : Result ℕ × List ℕ). codeOf (p .0)) e in
+    let small = tokens-small list text (length area) h in
+    let same : n ≡ codeOf (outcomeOf o) = omega (arith, is, code, small) in
+    ap (λ (m : ℕ). (m, after)) same ∙ ap (λ (p : Result ℕ × List ℕ). (codeOf (p .0), p .1)) e
 
 -- with where the starting value in force stands
 pub run-told : (image area after start : List ℕ) (how : Choices) (o : Outcome) → (outcomeOf o, after, start) ≡ ranOn image how area

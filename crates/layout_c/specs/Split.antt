@@ -65,7 +65,7 @@ accepted-split image how area bytes e =
 
 -- ---- refused
 
-split : (n i k : ℕ) → i < 2 ^ 16 → k < 2 ^ 16 → (code : ℕ) → code ≡ n * 2 ^ 32 + i * 2 ^ 16 + k
+pub split : (n i k : ℕ) → i < 2 ^ 16 → k < 2 ^ 16 → (code : ℕ) → code ≡ n * 2 ^ 32 + i * 2 ^ 16 + k
     → (numberIn code ≡ n) × (concatenationIn code ≡ i) × (componentIn code ≡ k)
 split n i k p q code e = (omega arith, omega arith, omega arith)
 

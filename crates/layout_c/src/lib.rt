@@ -6,7 +6,7 @@ use listing::Written;
 ghost use mathlib.Core.Path.{_≡_};
 ghost use Rattle.definition.specs.Check.{checkImage};
 ghost use Rattle.definition.specs.Run.{under, withDefault};
-ghost use Rattle.layout_c.specs.Code.{codedOn, codedWith, listedIn};
+ghost use Rattle.layout_c.specs.Code.{codedOn, codedWith, tokensCoded, listedIn};
 ghost use Rattle.errors.specs.Refused.{numberIn};
 
 // The whole run, without a default: the answer's length, or, from 2^32 on, a refusal. The area at exit is the definition's.
@@ -47,6 +47,14 @@ pub extern "C" fn layout_listing(input: &[u8], out: &mut [u8]) -> usize
         Written::Whole(n) => n,
         Written::Cut => 0,
     }
+}
+
+// The layout editor's tokens as an image: its length, or, from 2^32 on, a refusal. The area at exit is the definition's.
+#[no_mangle]
+pub extern "C" fn layout_tokens(list: &[u8], text: &[u8], area: &mut [u8]) -> u64
+    ensures { λ r. ⌜ (r, now (area .exit)) ≡ tokensCoded (now (list .entry)) (now (text .entry)) (now (area .entry)) ⌝ }
+{
+    crate::outcome::coded(token_stream::token_stream_to_image(list, text, area))
 }
 
 // 0 for an image that passes document 01's check, else the refusal's number.
