@@ -3,8 +3,15 @@
 
 use std::{env, path::PathBuf};
 
-const FILES: [&str; 6] =
-    ["component.rs", "concatenation.rs", "errors.rs", "misc.rs", "ranges.rs", "token_tree.rs"];
+const FILES: [&str; 7] = [
+    "component.rs",
+    "concatenation.rs",
+    "errors.rs",
+    "misc.rs",
+    "ranges.rs",
+    "token_stream.rs",
+    "token_tree.rs",
+];
 
 fn main() {
     let here = PathBuf::from(env::var("CARGO_MANIFEST_DIR").unwrap());

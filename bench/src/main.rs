@@ -1,11 +1,13 @@
 //! Our whole run (check, stages, answer) through the static library beside the
 //! Rust's stages 1 to 5 on an `Ast` that is already built; how our time grows;
-//! the stack that our run uses. All images are accepted in mode 0.
+//! tokens to an image; the stack that our run uses. All images are accepted in
+//! mode 0.
 
 mod clock;
 mod images;
 mod sides;
 mod stack;
+mod tokens;
 
 use clock::{Times, interleaved};
 use images::Image;
@@ -58,6 +60,7 @@ fn main() {
     for bytes in [16, 256, 4_096, 16_384] {
         grow(&images::one_text(bytes), bytes, "byte");
     }
+    tokens::compare(BATCHES);
     println!("\nstack of our run, bytes below its caller's frame");
     for image in compared.iter().chain([&images::deepest()]) {
         println!("{}: {}", image.name, stack::used(&[image.call()]));

@@ -1,7 +1,7 @@
 // Runs ours on the cases of some files (see src/driver.rs), the image, the default and the area each in an allocation of just its
 // length, so that valgrind sees any byte read or written outside. The area's bytes, and the number that a run under a default tells,
 // count as unset until they are written: nothing may depend on them, and every byte of an answer must be set. So do the default's
-// bytes all the time: the run looks at its length only.
+// bytes all the time: the run looks at its length only. A list of tokens stands in the image's place and its text in the default's.
 #include <stdint.h>
 #include <stdio.h>
 #include <stdlib.h>
@@ -12,8 +12,13 @@ uint64_t layout_run(const uint8_t *image, size_t image_len, uint32_t mode, uint8
 uint64_t layout_run_with(const uint8_t *image, size_t image_len, uint32_t mode, const uint8_t *start, size_t start_len, uint8_t *area,
                          size_t area_len, uint64_t *told);
 
+uint64_t layout_tokens(const uint8_t *list, size_t list_len, const uint8_t *text, size_t text_len, uint8_t *area, size_t area_len);
+
 // Stands for the default's length where none is lent.
 #define NO_DEFAULT UINT32_MAX
+
+// Stands for the mode of a list of tokens.
+#define TOKENS UINT32_MAX
 
 struct entry {
     uint32_t mode, image_len, area_len, start_len;
@@ -84,6 +89,27 @@ static uint64_t under(const struct entry *entry, const uint8_t *image, uint8_t *
     return code;
 }
 
+// A list of tokens and its text. Counts what is not as it was.
+static uint64_t tokens(const struct entry *entry, const uint8_t *list, uint8_t *area, int *wrong) {
+    uint8_t *text = malloc(entry->start_len);
+    if (!text && entry->start_len)
+        stop("no memory");
+    memcpy(text, entry->start, entry->start_len);
+    uint64_t code = layout_tokens(list, entry->image_len, text, entry->start_len, area, entry->area_len);
+    *wrong += memcmp(text, entry->start, entry->start_len) != 0;
+    free(text);
+    return code;
+}
+
+// The call that an entry is of.
+static uint64_t called(const struct entry *entry, const uint8_t *image, uint8_t *area, int *wrong) {
+    if (entry->mode == TOKENS)
+        return tokens(entry, image, area, wrong);
+    if (entry->start_len == NO_DEFAULT)
+        return layout_run(image, entry->image_len, entry->mode, area, entry->area_len);
+    return under(entry, image, area, wrong);
+}
+
 // How many things are not as they were when the case was written.
 static int wrong(const struct entry *entry) {
     uint8_t *area = malloc(entry->area_len), *image = malloc(entry->image_len);
@@ -94,8 +120,7 @@ static int wrong(const struct entry *entry) {
     for (size_t i = 0; i < entry->area_len; i++)
         area[i] = lent(i);
     (void)VALGRIND_MAKE_MEM_UNDEFINED(area, entry->area_len);
-    uint64_t code = entry->start_len == NO_DEFAULT ? layout_run(image, entry->image_len, entry->mode, area, entry->area_len)
-                                                   : under(entry, image, area, &wrong);
+    uint64_t code = called(entry, image, area, &wrong);
     wrong += code != entry->code;
     if (!wrong && entry->answer_len && VALGRIND_CHECK_MEM_IS_DEFINED(area, entry->answer_len))
         wrong++;

@@ -22,6 +22,7 @@ unchanged! {
     errors "/errors.rs"
     misc "/misc.rs"
     ranges "/ranges.rs"
+    token_stream "/token_stream.rs"
     token_tree "/token_tree.rs"
 }
 
@@ -35,6 +36,7 @@ pub mod replay;
 pub mod run;
 pub mod stats;
 pub mod text;
+pub mod tokens;
 pub mod with_default;
 
 /// The tree of an image and its writer, which the encoder of lines shares.

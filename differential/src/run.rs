@@ -2,6 +2,7 @@
 //! number 8 is no part of this program.)
 
 use std::{
+    any::Any,
     cell::Cell,
     panic::{self, AssertUnwindSafe},
     sync::Once,
@@ -90,7 +91,7 @@ struct Panic;
 /// Calls one stage, catching a panic of the sources but none of our own.
 fn run_stage(stage: u8, mode: u8, ast: &mut Ast) -> Result<Result<(), CCMacroError>, Panic> {
     let return_type = (mode > 0).then_some("Awi");
-    let call = AssertUnwindSafe(|| match stage {
+    let call = || match stage {
         1 => stage1(ast),
         2 => stage2(ast),
         3 => stage3(ast),
@@ -99,12 +100,8 @@ fn run_stage(stage: u8, mode: u8, ast: &mut Ast) -> Result<Result<(), CCMacroErr
             stage5(ast);
             Ok(())
         }
-    });
-    quieten_stages();
-    IN_STAGE.set(true);
-    let done = panic::catch_unwind(call);
-    IN_STAGE.set(false);
-    done.map_err(|payload| match payload.downcast::<OwnFault>() {
+    };
+    quietly(call).map_err(|payload| match payload.downcast::<OwnFault>() {
         Ok(fault) => panic!("stage {stage}: {}", fault.0),
         Err(_) => Panic,
     })
@@ -119,6 +116,15 @@ fn run_stage(stage: u8, mode: u8, ast: &mut Ast) -> Result<Result<(), CCMacroErr
 fn panicked(ast: &Ast) -> usize {
     let flagged = ast.cc.iter().rposition(|concat| concat.deterministic_width);
     flagged.expect("stage 3 panicked outside the sum of widths")
+}
+
+/// Calls the sources; where they panic nothing is printed.
+pub fn quietly<T>(call: impl FnOnce() -> T) -> Result<T, Box<dyn Any + Send>> {
+    quieten_stages();
+    IN_STAGE.set(true);
+    let done = panic::catch_unwind(AssertUnwindSafe(call));
+    IN_STAGE.set(false);
+    done
 }
 
 thread_local! {

@@ -10,7 +10,8 @@ use std::{
 use layout_rust::{
     check::check,
     i128_try_parse,
-    leaves::{images, images_file, numbers_file, texts},
+    leaves::{images, images_file, lists, numbers_file, texts, tokens_file},
+    tokens::{Lent, told, worked},
 };
 
 /// Takes so many bytes off the front.
@@ -38,6 +39,21 @@ fn image_entries(mut file: &[u8]) -> Vec<(&[u8], u8)> {
     while !file.is_empty() {
         let length = u32::from_le_bytes(take(&mut file, 4).try_into().unwrap());
         entries.push((take(&mut file, length as usize), take(&mut file, 1)[0]));
+    }
+    entries
+}
+
+type TokenEntry = (Lent, usize, Result<Vec<u8>, u32>);
+
+fn token_entries(mut file: &[u8]) -> Vec<TokenEntry> {
+    let mut entries = vec![];
+    while !file.is_empty() {
+        let mut number = || u32::from_le_bytes(take(&mut file, 4).try_into().unwrap()) as usize;
+        let [list, text, area, refused, image] = [number(), number(), number(), number(), number()];
+        let [list, text, image] = [list, text, image].map(|count| take(&mut file, count).to_vec());
+        assert!(refused == 0 || image.is_empty());
+        let answer = if refused == 0 { Ok(image) } else { Err(refused as u32) };
+        entries.push((Lent { list, text }, area, answer));
     }
     entries
 }
@@ -128,10 +144,41 @@ fn images_reach_the_limits() {
 }
 
 #[test]
+fn tokens_are_what_the_rust_makes() {
+    for seed in 1..=3 {
+        let file = tokens_file(2_000, seed);
+        assert!(file.len() < 540_000, "{}", file.len());
+        let entries = token_entries(&file);
+        assert_eq!(entries.len(), lists(1_500, seed).len());
+        let distinct: HashSet<_> = entries.iter().map(|(lent, area, _)| (lent, area)).collect();
+        assert_eq!(distinct.len(), entries.len());
+        let mut counts = BTreeMap::new();
+        for (lent, area, answer) in &entries {
+            // what leaves_replay has room for
+            let image = answer.as_ref().map_or(0, Vec::len);
+            assert!(lent.list.len() + lent.text.len() + image <= 51_306 && *area <= 43_200);
+            let told = told(lent).unwrap();
+            assert_eq!(told.over_area(*area), answer.as_ref().map(Vec::as_slice).map_err(|n| *n));
+            *counts.entry(answer.as_ref().err().copied().unwrap_or(0)).or_insert(0) += 1;
+        }
+        assert_eq!(counts.keys().copied().collect::<Vec<_>>(), [0, 50, 51, 52, 53]);
+        assert!(counts.values().all(|count| *count >= 13) && counts[&0] >= 600, "{counts:?}");
+        // 50 is judged without the Rust
+        assert!(entries.len() - counts[&50] >= 1_100, "{counts:?}");
+        let first: Vec<_> = entries.iter().map(|(lent, area, _)| (lent.clone(), *area)).collect();
+        let worked: Vec<_> =
+            worked().into_iter().map(|worked| (worked.lent, worked.area)).collect();
+        assert!(first.starts_with(&worked));
+    }
+}
+
+#[test]
 fn a_seed_gives_the_same_files() {
     assert!(numbers_file(300, 5) == numbers_file(300, 5));
     assert!(images_file(300, 5) == images_file(300, 5));
     assert!(images_file(300, 5) != images_file(300, 6));
+    assert!(tokens_file(300, 5) == tokens_file(300, 5));
+    assert!(tokens_file(300, 5) != tokens_file(300, 6));
 }
 
 /// The replayed files are those that README.md's command writes.
@@ -140,4 +187,5 @@ fn the_replayed_files_are_these() {
     let data = Path::new(env!("CARGO_MANIFEST_DIR")).join("../crates/leaves_replay/data");
     assert!(fs::read(data.join("numbers")).unwrap() == numbers_file(2_000, 1));
     assert!(fs::read(data.join("images")).unwrap() == images_file(2_000, 1));
+    assert!(fs::read(data.join("tokens")).unwrap() == tokens_file(2_000, 1));
 }

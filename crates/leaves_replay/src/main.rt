@@ -1,7 +1,9 @@
 // Replays what the Rust answered. data/ holds what `target/release/layout-rust leaves 2000 1 ../crates/leaves_replay/data` writes in
-// differential/ (its README.md, "The files of `leaves`"): texts with the number that the unchanged i128_try_parse reads in them, and
-// images with the number that document 01's check gives them. Each entry is read, asked of our own code and compared; an entry that
-// is cut off or too long counts as different.
+// differential/ (its README.md, "The files of `leaves`"): texts with the number that the unchanged i128_try_parse reads in them, images
+// with the number that document 01's check gives them, and lists of tokens with the image that the unchanged token_stream_to_ast makes
+// of them. Each entry is read, asked of our own code and compared; an entry that is cut off or too long counts as different.
+mod tokens;
+
 use errors::flags::both;
 use libc::STDOUT_FILENO;
 use numbers::OptionI128;
@@ -145,7 +147,8 @@ fn rest(fd: i32, images: bool, buf: &mut [u8], n: usize) -> Compared {
     outcome_of(fd, images, &mut buf[..n])
 }
 
-fn entry(fd: i32, images: bool, buf: &mut [u8]) -> Compared {
+// The next entry of `numbers`, or of `images`.
+fn plain_entry(fd: i32, images: bool, buf: &mut [u8]) -> Compared {
     let head = if images {
         image_head(fd)
     } else {
@@ -158,13 +161,28 @@ fn entry(fd: i32, images: bool, buf: &mut [u8]) -> Compared {
     }
 }
 
+// The files of data/.
+enum File {
+    Numbers,
+    Images,
+    Tokens,
+}
+
+fn entry(fd: i32, file: File, buf: &mut [u8]) -> Compared {
+    match file {
+        File::Numbers => plain_entry(fd, false, buf),
+        File::Images => plain_entry(fd, true, buf),
+        File::Tokens => tokens::entry(fd, buf),
+    }
+}
+
 // All entries of a file. Nothing says that a file ends, so the turns are counted down from a number that no run uses up.
-fn replay(fd: i32, images: bool, buf: &mut [u8]) -> Tally {
+fn replay(fd: i32, file: File, buf: &mut [u8]) -> Tally {
     let mut equal: u64 = 0;
     let mut different: u64 = 0;
     let mut turns: u64 = 1_000_000;
     while 0 < turns {
-        match entry(fd, images, buf) {
+        match entry(fd, file, buf) {
             Compared::Equal => equal += 1,
             Compared::Different => different += 1,
             Compared::End => return Tally { equal, different },
@@ -183,18 +201,19 @@ fn print_tally(path: &[u8], t: Tally) {
     io::write_all(STDOUT_FILENO, b" different\n");
 }
 
-fn replay_file(path: &[u8], images: bool, buf: &mut [u8]) {
+fn replay_file(path: &[u8], file: File, buf: &mut [u8]) {
     let fd = os::open_read(path);
     if fd < 0 {
         os::fail(path);
         return;
     }
-    print_tally(path, replay(fd, images, buf));
+    print_tally(path, replay(fd, file, buf));
     libc::close(fd);
 }
 
 fn main() {
     let mut buf = [0u8; limits::MAX_INPUT];
-    replay_file(b"numbers", false, &mut buf);
-    replay_file(b"images", true, &mut buf);
+    replay_file(b"numbers", File::Numbers, &mut buf);
+    replay_file(b"images", File::Images, &mut buf);
+    replay_file(b"tokens", File::Tokens, &mut buf);
 }

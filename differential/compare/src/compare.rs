@@ -152,23 +152,28 @@ fn printed(program: &Path, input: &[u8]) -> io::Result<String> {
 }
 
 /// One case in 500 goes through the program too, and 20 at the least.
-fn sampled(index: u64, count: u64) -> bool {
+pub fn sampled(index: u64, count: u64) -> bool {
     index.is_multiple_of((count / 20).clamp(1, 500))
 }
 
 /// The comparison of a class and seed.
-struct Comparison<'a> {
-    class: Class,
-    rng: Rng,
-    lender: Lender,
-    program: Option<&'a Path>,
-    tally: Tally,
+pub struct Comparison<'a> {
+    pub class: Class,
+    pub rng: Rng,
+    pub lender: Lender,
+    pub program: Option<&'a Path>,
+    pub tally: Tally,
 }
 
-impl Comparison<'_> {
+impl<'a> Comparison<'a> {
+    pub fn new(class: Class, name: &str, seed: u64, program: Option<&'a Path>) -> Self {
+        let (rng, lender, tally) = (Rng::new(!seed), Lender::default(), Tally::new(name, seed));
+        Self { class, rng, lender, program, tally }
+    }
+
     /// Compares one input; what ours said of it. Whether the Rust could be
     /// asked is the second part.
-    fn input(&mut self, class: Class, case: &Case, default: Option<&[u8]>) -> (Said, bool) {
+    pub fn input(&mut self, class: Class, case: &Case, default: Option<&[u8]>) -> (Said, bool) {
         let Case { name, input } = case;
         let call = call_of(class, &self.rng, input, default);
         let image = parts(input).1;
@@ -202,9 +207,8 @@ impl Comparison<'_> {
     }
 
     /// The program's printed listing beside the Rust's.
-    fn sample(&mut self, pair: &Pair) -> io::Result<()> {
-        let Some(program) = self.program else { return Ok(()) };
-        for Case { name, input } in [Some(&pair.case), pair.cut.as_ref()].into_iter().flatten() {
+    pub fn sample(&mut self, Case { name, input }: &Case) -> io::Result<()> {
+        if let Some(program) = self.program {
             let expected = listing(&rust_run(input));
             self.tally.printed(name, input, &expected, &printed(program, input)?);
         }
@@ -215,9 +219,7 @@ impl Comparison<'_> {
 /// Compares COUNT cases of a class; prints the counts. Cases outside the
 /// domain of equality are run too, but do not count.
 pub fn run(count: u64, seed: u64, class: Class, program: Option<&Path>) -> io::Result<bool> {
-    let (rng, lender) = (Rng::new(!seed), Lender::default());
-    let tally = Tally::new(class, seed);
-    let mut comparison = Comparison { class, rng, lender, program, tally };
+    let mut comparison = Comparison::new(class, &format!("{class:?}"), seed, program);
     let mut compared = 0;
     for pair in class_cases(class, seed) {
         if compared == count {
@@ -226,7 +228,8 @@ pub fn run(count: u64, seed: u64, class: Class, program: Option<&Path>) -> io::R
         let counted = comparison.pair(&pair);
         if counted {
             if sampled(compared, count) {
-                comparison.sample(&pair)?;
+                comparison.sample(&pair.case)?;
+                pair.cut.as_ref().map_or(Ok(()), |cut| comparison.sample(cut))?;
             }
             compared += 1;
         }

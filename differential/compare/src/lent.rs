@@ -1,5 +1,5 @@
 //! An image, an area and a default between guard bytes, lent to our run, and
-//! what is found in them afterwards.
+//! what is found in them afterwards; so also a list of tokens and its text.
 
 use layout_rust::{
     area_needed,
@@ -11,8 +11,8 @@ use crate::ours;
 /// Guard bytes on each side.
 const GUARD: usize = 64;
 
-/// As long as any image, area or default that is lent, with its guards.
-const LONGEST: usize = 1 << 17;
+/// As long as anything that is lent, with its guards.
+const LONGEST: usize = 1 << 18;
 
 /// Stands where something is to be told, and on each side of it. No run tells
 /// this number: no image has so many bytes.
@@ -120,6 +120,34 @@ impl Lender {
             return Err("the area beyond the answer, or its guards, were changed");
         }
         Ok(Done { code, answer: &into.middle()[..written], told })
+    }
+
+    /// Lends a list, its text and an area of this length. The code, and the
+    /// image where one was written; an error as that of a run.
+    pub fn tokens(
+        &mut self,
+        list: &[u8],
+        text: &[u8],
+        area: usize,
+    ) -> Result<(u64, &[u8]), &'static str> {
+        let Self { pattern, image: lent_list, default: lent_text, area: into } = self;
+        lent_list.take(pattern, list.len()).copy_from_slice(list);
+        lent_text.take(pattern, text.len()).copy_from_slice(text);
+        into.take(pattern, area);
+        let code = ours::coded_tokens(lent_list.middle(), lent_text.middle(), into.middle_mut());
+        let written = ours::decoded(code).unwrap_or(0);
+        for (lent, bytes) in [(lent_list, list), (lent_text, text)] {
+            if lent.middle() != bytes || !lent.as_lent_from(pattern, bytes.len()) {
+                return Err("the list, the text or their guards were changed");
+            }
+        }
+        if written > area {
+            return Err("an image longer than its area");
+        }
+        if !into.as_lent_from(pattern, written) {
+            return Err("the area beyond the image, or its guards, were changed");
+        }
+        Ok((code, &into.middle()[..written]))
     }
 
     /// The run under a default: its code, and what it told.

@@ -3,6 +3,7 @@
 mod compare;
 mod driver;
 mod tally;
+mod tokens;
 mod under;
 
 use std::{env, io, path::Path, process::ExitCode};
@@ -28,6 +29,14 @@ fn main() -> ExitCode {
 /// Whether all that was compared is equal.
 fn command(words: &[&str]) -> io::Result<bool> {
     match words {
+        ["run", count, seed, "tokens"] => tokens::run(number(count)?, number(seed)?, None),
+        ["run", count, seed, "tokens", program] => {
+            tokens::run(number(count)?, number(seed)?, Some(Path::new(program)))
+        }
+        ["cases", count, seed, "tokens", file] => {
+            tokens::write(number(count)?, number(seed)?, Path::new(file))
+        }
+        ["show", seed, "tokens", index] => tokens::show(number(seed)?, number(index)?),
         ["run", count, seed, class] => {
             compare::run(number(count)?, number(seed)?, named(class)?, None)
         }
@@ -49,7 +58,7 @@ fn command(words: &[&str]) -> io::Result<bool> {
         }
         _ => {
             let names: Vec<&str> = Class::NAMES.iter().map(|(name, _)| *name).collect();
-            Err(io::Error::other(format!("{USAGE} {}", names.join(" "))))
+            Err(io::Error::other(format!("{USAGE} {} tokens", names.join(" "))))
         }
     }
 }

@@ -27,6 +27,16 @@ unsafe extern "C" {
         area_len: usize,
         told: *mut u64,
     ) -> u64;
+
+    /// Below 2^32 the written image's length, else number·2^32.
+    safe fn layout_tokens(
+        list: *const u8,
+        list_len: usize,
+        text: *const u8,
+        text_len: usize,
+        area: *mut u8,
+        area_len: usize,
+    ) -> u64;
 }
 
 /// The whole run, its answer still as one number.
@@ -34,20 +44,29 @@ pub fn coded(image: &[u8], mode: u32, area: &mut [u8]) -> u64 {
     layout_run(image.as_ptr(), image.len(), mode, area.as_mut_ptr(), area.len())
 }
 
-/// The run under a default. An empty one is lent by a null pointer, which must
-/// not be looked at.
+/// Nothing is lent by a null pointer, which must not be looked at.
+fn null_if_empty(bytes: &[u8]) -> *const u8 {
+    if bytes.is_empty() { ptr::null() } else { bytes.as_ptr() }
+}
+
+/// The run under a default.
 pub fn coded_with(image: &[u8], mode: u32, default: &[u8], area: &mut [u8], told: &mut u64) -> u64 {
-    let start = if default.is_empty() { ptr::null() } else { default.as_ptr() };
     layout_run_with(
         image.as_ptr(),
         image.len(),
         mode,
-        start,
+        null_if_empty(default),
         default.len(),
         area.as_mut_ptr(),
         area.len(),
         told,
     )
+}
+
+/// A list of tokens with its text.
+pub fn coded_tokens(list: &[u8], text: &[u8], area: &mut [u8]) -> u64 {
+    let (list_at, text_at) = (null_if_empty(list), null_if_empty(text));
+    layout_tokens(list_at, list.len(), text_at, text.len(), area.as_mut_ptr(), area.len())
 }
 
 /// The answer's length or the refusal that a number stands for.

@@ -6,7 +6,7 @@ use std::{
     io::{self, Write},
 };
 
-use layout_rust::{generate::Class, stats::outcome_of};
+use layout_rust::{stats::outcome_of, tokens::Lent};
 
 use crate::compare::{Call, Expected};
 
@@ -14,11 +14,13 @@ use crate::compare::{Call, Expected};
 const TOLD: usize = 5;
 
 pub struct Tally {
-    class: Class,
+    class: String,
     seed: u64,
     /// The place of the case in its class and seed.
     index: u64,
     outcomes: BTreeMap<String, u64>,
+    /// Stands before the outcomes that are counted now.
+    of: &'static str,
     /// What else the cases are counted as.
     counted: BTreeMap<String, u64>,
     cases: u64,
@@ -30,8 +32,10 @@ pub struct Tally {
     told: Vec<String>,
 }
 
-fn hex(bytes: &[u8]) -> String {
-    bytes.iter().map(|byte| format!("{byte:02x}")).collect()
+pub fn hex(bytes: &[u8]) -> String {
+    let digits =
+        |byte: &u8| [byte >> 4, byte & 15].map(|d| char::from(b"0123456789abcdef"[d as usize]));
+    bytes.iter().flat_map(digits).collect()
 }
 
 /// How much of a default is told; `show` has all of it.
@@ -47,12 +51,13 @@ fn told(Call { mode, area, default }: Call) -> String {
 }
 
 impl Tally {
-    pub fn new(class: Class, seed: u64) -> Self {
+    pub fn new(class: &str, seed: u64) -> Self {
         Self {
-            class,
+            class: class.to_owned(),
             seed,
             index: 0,
             outcomes: BTreeMap::new(),
+            of: "",
             counted: BTreeMap::new(),
             cases: 0,
             outside: 0,
@@ -67,7 +72,7 @@ impl Tally {
         self.wrong = true;
         if self.told.len() < TOLD {
             let Self { class, seed, index, .. } = self;
-            self.told.push(format!("different: {class:?} seed {seed} index {index}: {what}"));
+            self.told.push(format!("different: {class} seed {seed} index {index}: {what}"));
         }
     }
 
@@ -80,16 +85,45 @@ impl Tally {
         expected: &Expected,
         ours: &str,
     ) {
-        let Expected { listing: rust, counted } = expected;
-        *self.outcomes.entry(outcome_of(rust)).or_insert(0) += 1;
-        for what in counted {
+        self.count(outcome_of(&expected.listing), expected);
+        if expected.listing != ours {
+            let (call, input) = (told(call), hex(input));
+            self.differ(format!("{name}, {call}, input {input}"), &expected.listing, ours);
+        }
+    }
+
+    /// A list of tokens; the outcome in one word or two.
+    pub fn tokens(
+        &mut self,
+        name: &str,
+        lent: &Lent,
+        area: usize,
+        outcome: String,
+        expected: &Expected,
+        ours: &str,
+    ) {
+        self.count(outcome, expected);
+        if expected.listing != ours {
+            let (list, text) = (hex(&lent.list), hex(&lent.text));
+            let what = format!("{name}, area {area}, list {list}, text {text}");
+            self.differ(what, &expected.listing, ours);
+        }
+    }
+
+    /// From here on the outcomes are of this.
+    pub fn now_of(&mut self, of: &'static str) {
+        self.of = of;
+    }
+
+    fn count(&mut self, outcome: String, expected: &Expected) {
+        *self.outcomes.entry(format!("{}{outcome}", self.of)).or_insert(0) += 1;
+        for what in &expected.counted {
             *self.counted.entry(what.clone()).or_insert(0) += 1;
         }
-        if rust != ours {
-            let (call, input) = (told(call), hex(input));
-            let both = format!("the Rust:\n{rust}ours:\n{ours}");
-            self.differs(format!("{name}, {call}, input {input}\n{both}"));
-        }
+    }
+
+    fn differ(&mut self, what: String, rust: &str, ours: &str) {
+        self.differs(format!("{what}\nthe Rust:\n{rust}ours:\n{ours}"));
     }
 
     /// A case that only ours could be asked: nothing but its own area may

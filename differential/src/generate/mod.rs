@@ -21,6 +21,7 @@ mod rng;
 mod soup;
 mod stage1_refusals;
 mod stage2_refusals;
+mod tokens;
 mod tree_refusals;
 mod words;
 
@@ -30,6 +31,9 @@ pub use default_readings::{DefaultReading, Part, default_readings};
 pub use lifted::LIFTED;
 pub use readings::{Reading, readings};
 pub use rng::Rng;
+pub use tokens::{
+    LARGEST_WRITTEN, Made, TokenCase, TokenRecipe, lent_of, token_area, token_cases, token_recipes,
+};
 
 /// One input for the run, and the recipe that it comes from.
 pub struct Case {

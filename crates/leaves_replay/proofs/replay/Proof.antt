@@ -9,10 +9,10 @@ use Rattle.leaves_replay.proofs.replay.Statement.{statement}
 use Rattle.leaves_replay.proofs.replay.Tie as tie
 
 abbrev Inv-loop : tie.InvT-loop
-Inv-loop fd images buf₀ equal₀ different₀ turns₀ buf equal different turns = (length buf ≡ length buf₀) × (equal + different + turns ≤ 1000000)
+Inv-loop fd file buf₀ equal₀ different₀ turns₀ buf equal different turns = (length buf ≡ length buf₀) × (equal + different + turns ≤ 1000000)
 
 abbrev μ-loop : tie.MeasureT-loop
-μ-loop fd images buf₀ equal₀ different₀ turns₀ buf equal different turns = turns
+μ-loop fd file buf₀ equal₀ different₀ turns₀ buf equal different turns = turns
 
 loop-holds : tie.Need-loop-holds Inv-loop μ-loop
 loop-holds c = search needs
