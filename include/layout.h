@@ -1,4 +1,4 @@
-/* The layout reader: four functions of the static library target/staticlib/liblayout_c.a, which `rt staticlib layout_c` proves and
+/* The layout reader: five functions of the static library target/staticlib/liblayout_c.a, which `rt staticlib layout_c` proves and
  * writes (for x86-64 Linux). They take any bytes, allocate nothing, keep nothing between calls, and write nothing but what is lent to
  * be written; so threads may call them at the same time. The archive calls nothing but memset (`nm -u`). For C99, C11 and C++11
  * or later. docs/FORMAT.md has the bytes of an image and of an answer.
@@ -21,6 +21,13 @@
  *     uint64_t told;
  *     outcome = layout_run_with(image, image_length, 1, start, start_length, area, sizeof area, &told);
  *     struct layout_bytes value = layout_in_force(told, image, start, start_length);
+ *
+ * From an editor's tokens to an image, which then is run as above:
+ *
+ *     uint8_t image[LAYOUT_ANY_IMAGE];
+ *     outcome = layout_tokens(list, list_length, text, text_length, image, sizeof image);
+ *     if (layout_accepted(outcome))
+ *         outcome = layout_run(image, layout_length(outcome), 0, area, sizeof area);
  */
 #ifndef LAYOUT_H
 #define LAYOUT_H
@@ -34,11 +41,11 @@ extern "C" {
 
 /* The version of this header, of the library beside it and of the Rust crate in bindings/. */
 #define LAYOUT_VERSION_MAJOR 0
-#define LAYOUT_VERSION_MINOR 2
+#define LAYOUT_VERSION_MINOR 3
 #define LAYOUT_VERSION_PATCH 0
-#define LAYOUT_VERSION "0.2.0"
+#define LAYOUT_VERSION "0.3.0"
 
-/* The four functions. Lengths are uint64_t and not size_t: the compiled library takes 64-bit lengths on every target, on a 32-bit one
+/* The five functions. Lengths are uint64_t and not size_t: the compiled library takes 64-bit lengths on every target, on a 32-bit one
  * too. On x86-64 it is the same call. */
 
 /* Runs a prepared image: modes 0 no return type, 1 return type, 2 return type and static width (any other is refused).
@@ -74,13 +81,64 @@ uint64_t layout_listing(const uint8_t *input, uint64_t input_length, uint8_t *ou
 /* The image check alone: 0 for an image that passes it, else the number that refuses it, 2 to 7. */
 uint32_t layout_check(const uint8_t *image, uint64_t image_length);
 
+/* Writes the image of an editor's flat list of tokens, which are parts of a text: both are any bytes.
+ *
+ * A token is LAYOUT_TOKEN_SIZE bytes, three little-endian numbers: its kind (enum layout_token_kind), where its text starts, and how long
+ * that is. A closer closes the innermost open group, of whatever kind. Start and length of openers and closers are not looked at.
+ * Texts may overlap, repeat and stand in any order.
+ *
+ * Outside all groups a `,` that is punctuation ends a component, and a `;` a concatenation too; inside a group, also one without
+ * delimiters, they are plain characters. Identifiers that follow each other become one text, a space between each two; every other
+ * token is a record of its own. The list has the most significant component of a concatenation first, as a line has it; the image has
+ * it last.
+ *
+ * Accepted: the image's length, which is below 2^32; the image stands in the area from its first byte, the bytes after it are as lent.
+ * It passes layout_check and goes to layout_run. Its literal widths are 0, so layout_run refuses a component that begins with a digit
+ * or `-` with number 17, until its width and its bits are filled in.
+ *
+ * Refused: number * 2^32, both places being 0, and the whole area is as lent. Each is tested over the whole list before the next:
+ *     50  the list is not in twelves; a kind is above 7; a text (kinds 0 to 2) is empty or not within the lent text; punctuation is not
+ *         of one byte; a closer where no group is open; a group that is never closed
+ *     51  a component has no token; the empty list is one such component, and one stands after a `,` or `;` that ends the list
+ *     52  more than 16 concatenations, 256 components, 2,048 records, 16,384 bytes of text, or 32 groups in each other
+ *     53  the area is shorter than the image; LAYOUT_ANY_IMAGE bytes are enough for any
+ *
+ * list, text and area are bytes of the lengths beside them; where a length is 0 the pointer may be null. The area overlaps neither list
+ * nor text. */
+uint64_t layout_tokens(const uint8_t *list, uint64_t list_length, const uint8_t *text, uint64_t text_length, uint8_t *area,
+                       uint64_t area_length);
+
+#define LAYOUT_TOKEN_SIZE 12
+
+enum layout_token_kind {
+    LAYOUT_TOKEN_IDENTIFIER = 0,
+    LAYOUT_TOKEN_PUNCTUATION = 1, /* one byte */
+    LAYOUT_TOKEN_LITERAL = 2,
+    LAYOUT_TOKEN_SPACE = 3, /* opens a group without delimiters */
+    LAYOUT_TOKEN_PARENTHESIS = 4,
+    LAYOUT_TOKEN_BRACKET = 5,
+    LAYOUT_TOKEN_BRACE = 6,
+    LAYOUT_TOKEN_CLOSER = 7
+};
+
+/* Writes a token into a list: the place after it. */
+static inline uint8_t *layout_put_token(uint8_t *at, enum layout_token_kind kind, uint32_t start, uint32_t length) {
+    const uint32_t numbers[3] = {(uint32_t)kind, start, length};
+    int i;
+    for (i = 0; i < LAYOUT_TOKEN_SIZE; i++)
+        at[i] = (uint8_t)(numbers[i / 4] >> 8 * (i % 4));
+    return at + LAYOUT_TOKEN_SIZE;
+}
+
 /* The stack that a call takes below its caller's frame, in bytes: measured, not proved, and rounded up. On x86-64 the most that 3,826
  * recorded inputs took is 28,688 for layout_run, 28,720 for layout_run_with (which LAYOUT_RUN_STACK is for too), 55,760 for
  * layout_listing, 6,016 for layout_check; on a Cortex-M3, built with -Os, the most is 26,900 for layout_run,
- * 53,956 for layout_listing and 4,140 for layout_check (docs/PERFORMANCE.md). */
+ * 53,956 for layout_listing and 4,140 for layout_check. layout_tokens, however long the list and however deep its groups, takes 488
+ * bytes at most on x86-64 (docs/PERFORMANCE.md). */
 #define LAYOUT_RUN_STACK 32768
 #define LAYOUT_LISTING_STACK 65536
 #define LAYOUT_CHECK_STACK 8192
+#define LAYOUT_TOKENS_STACK 1024
 
 /* The answer area in bytes: its head, each concatenation, each component. */
 #define LAYOUT_HEAD_SIZE 32
@@ -95,13 +153,17 @@ uint32_t layout_check(const uint8_t *image, uint64_t image_length);
 #define LAYOUT_ANY_AREA LAYOUT_AREA(16, 256, 8192)
 #define LAYOUT_ANY_LISTING 140577
 
-/* What an outcome of layout_run and layout_run_with says. */
+/* The longest image, with 8,192 literal bytes: an area for layout_tokens that is long enough for any list (which has none of those, and
+ * so needs 43,112 bytes at most). */
+#define LAYOUT_ANY_IMAGE 51304
+
+/* What an outcome of layout_run, layout_run_with and layout_tokens says. */
 static inline int layout_accepted(uint64_t outcome) { return outcome >> 32 == 0; }
 
-/* accepted: the answer's length */
+/* accepted: the answer's length; of layout_tokens, the image's */
 static inline size_t layout_length(uint64_t outcome) { return (size_t)outcome; }
 
-/* refused: the number, 1 to 45, and two places, counted from 0 and 0 where there is none */
+/* refused: the number, 1 to 45 or, by layout_tokens, 50 to 53, and two places, counted from 0 and 0 where there is none */
 static inline unsigned layout_number(uint64_t outcome) { return (unsigned)(outcome >> 32); }
 static inline unsigned layout_concatenation(uint64_t outcome) { return (unsigned)(outcome >> 16) & 0xffff; }
 static inline unsigned layout_component(uint64_t outcome) { return (unsigned)outcome & 0xffff; }
@@ -145,6 +207,10 @@ static inline const char *layout_words(unsigned number) {
     case 43: return "one concatenation alone, of no fixed width";
     case 44: return "a filler in the middle, and no width is fixed";
     case 45: return "fillers at opposite ends, and no width is fixed";
+    case 50: return "a token is unknown, ill-nested or has a wrong text, or the list ends within one";
+    case 51: return "a component without a token";
+    case 52: return "too many concatenations, components, records or text bytes for an image, or groups nest deeper than 32";
+    case 53: return "the lent area is too short for the tokens' image";
     default: return "an unknown number";
     }
 }

@@ -1,5 +1,5 @@
-/* Prints the image of an input (one mode byte, then the image) and its answer, field by field: the example in docs/FORMAT.md, which
- * tests/format holds to this output. Every byte of both must be told of, and once. */
+/* Prints the image of an input (one mode byte, then the image) and its answer, then a list of tokens and its image, field by field: the
+ * examples in docs/FORMAT.md, which tests/format holds to this output. Every byte of all four must be told of, and once. */
 #include "layout.h"
 
 #include <stdarg.h>
@@ -120,6 +120,14 @@ static void image_bytes(void) {
     }
 }
 
+/* An image, which the bytes now are. */
+static int image_fields(const char *what) {
+    header();
+    image_tables();
+    image_bytes();
+    return complete(what);
+}
+
 /* A text of the answer, by its two numbers. */
 static void text_fields(size_t at, const uint8_t *image, const char *kind, unsigned i, const char *of) {
     const struct layout_bytes text = layout_text(bytes + at, image);
@@ -190,6 +198,59 @@ static void literals(void) {
         }
 }
 
+static int answer_fields(const uint8_t *answer, const uint8_t *image) {
+    head();
+    for (uint32_t c = 0; c < layout_answer_concatenations(answer); c++)
+        concatenation(c);
+    for (uint32_t i = 0; i < layout_answer_components(answer); i++)
+        component(image, i);
+    literals();
+    return complete("answer");
+}
+
+/* The example of tokens: kind, text start and length of each. */
+enum { IDENTIFIER = LAYOUT_TOKEN_IDENTIFIER, PUNCTUATION = LAYOUT_TOKEN_PUNCTUATION };
+static const char line[] = "shop as u16[..n], amount; card";
+static const struct {
+    int kind;
+    uint32_t start, length;
+} tokens[] = {
+    {IDENTIFIER, 0, 4},   {IDENTIFIER, 5, 2},   {IDENTIFIER, 8, 3},   {LAYOUT_TOKEN_BRACKET, 0, 0},
+    {PUNCTUATION, 12, 1}, {PUNCTUATION, 13, 1}, {IDENTIFIER, 14, 1},  {LAYOUT_TOKEN_CLOSER, 0, 0},
+    {PUNCTUATION, 16, 1}, {IDENTIFIER, 18, 6},  {PUNCTUATION, 24, 1}, {IDENTIFIER, 26, 4},
+};
+#define TOKENS (sizeof tokens / sizeof *tokens)
+
+static void token(uint32_t k) {
+    static const char *const kinds[] = {"identifier", "punctuation", "literal", "opens a Space group",
+                                        "opens (",    "opens [",     "opens {", "closes"};
+    const uint32_t kind = number(12 * k), start = number(12 * k + 4), size = number(12 * k + 8);
+    const char *const name = named("token", k, "");
+    if (kind <= LAYOUT_TOKEN_LITERAL)
+        field(12 * k, 12, name, "kind %u %s, text from %u, length %u: %.*s", kind, kinds[kind], start, size, (int)size, line + start);
+    else
+        field(12 * k, 12, name, "kind %u %s", kind, kinds[kind]);
+}
+
+/* The tokens and the image that is written from them: whether every byte was told of once. */
+static int token_fields(void) {
+    static uint8_t list[TOKENS * LAYOUT_TOKEN_SIZE], image[LAYOUT_ANY_IMAGE];
+    uint8_t *end = list;
+    for (size_t k = 0; k < TOKENS; k++)
+        end = layout_put_token(end, (enum layout_token_kind)tokens[k].kind, tokens[k].start, tokens[k].length);
+    const uint64_t outcome = layout_tokens(list, sizeof list, (const uint8_t *)line, sizeof line - 1, image, sizeof image);
+    if (!layout_accepted(outcome))
+        return 0;
+    begin(list, (size_t)(end - list));
+    printf("\n### A list of tokens\n\nOf the text `%s`: %zu bytes.\n\n```\n", line, length);
+    for (uint32_t k = 0; k < TOKENS; k++)
+        token(k);
+    const int right = complete("list");
+    begin(image, layout_length(outcome));
+    printf("```\n\n### Its image\n\n%zu bytes.\n\n```\n", length);
+    return image_fields("image of tokens") && right;
+}
+
 int main(int argc, char **argv) {
     static uint8_t input[51306], area[LAYOUT_ANY_AREA];
     FILE *file = argc == 2 ? fopen(argv[1], "rb") : NULL;
@@ -201,18 +262,12 @@ int main(int argc, char **argv) {
     }
     begin(input + 1, size - 1);
     printf("### An image\n\n`%s` without its first byte, the mode: %zu bytes.\n\n```\n", argv[1], length);
-    header();
-    image_tables();
-    image_bytes();
-    int right = complete("image");
+    int right = image_fields("image");
     begin(area, layout_length(outcome));
     printf("```\n\n### Its answer\n\nIn mode %u: %zu bytes.\n\n```\n", input[0], length);
-    head();
-    for (uint32_t c = 0; c < layout_answer_concatenations(area); c++)
-        concatenation(c);
-    for (uint32_t i = 0; i < layout_answer_components(area); i++)
-        component(input + 1, i);
-    literals();
+    right = answer_fields(area, input + 1) && right;
     printf("```\n");
-    return complete("answer") && right ? 0 : 1;
+    right = token_fields() && right;
+    printf("```\n");
+    return right ? 0 : 1;
 }

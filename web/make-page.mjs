@@ -18,7 +18,7 @@ const MODULES = [
 function refusalWords() {
   const source = fs.readFileSync(new URL('bindings/src/words.rs', root), 'utf8');
   const pairs = [...source.matchAll(/^\s*\((\d+), "(.*)"\),$/gm)].map(([, number, words]) => [Number(number), JSON.parse(`"${words}"`)]);
-  if (pairs.length !== 36) throw new Error(`bindings/src/words.rs has ${pairs.length} numbers, and document 01 has 36`);
+  if (pairs.length !== 40) throw new Error(`bindings/src/words.rs has ${pairs.length} numbers, and documents 01 and 02 have 40`);
   return Object.fromEntries(pairs);
 }
 

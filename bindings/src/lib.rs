@@ -1,7 +1,7 @@
 #![cfg_attr(feature = "library", doc = include_str!("../README.md"))]
 #![cfg_attr(
     not(feature = "library"),
-    doc = "The layout reader's answers and words, without the run itself."
+    doc = "The layout reader's answers, tokens and words, without the run itself."
 )]
 #![no_std]
 
@@ -11,6 +11,7 @@ mod fields;
 #[cfg(feature = "library")]
 mod library;
 mod listing;
+mod token;
 mod words;
 
 use core::{error::Error, fmt};
@@ -19,7 +20,8 @@ pub use answer::{Answer, Components, Concatenation, Concatenations};
 pub use check::Fault;
 pub use fields::{Alignment, Bound, Component, Kind};
 #[cfg(feature = "library")]
-pub use library::{answer, answer_with, check, listing, run, run_with};
+pub use library::{answer, answer_with, check, listing, run, run_with, tokens};
+pub use token::{Token, TokenKind};
 pub use words::{words, WORDS};
 
 /// The answer area in bytes: its head, each concatenation, each component.
@@ -33,13 +35,21 @@ pub const ANY_AREA: usize = area_needed(16, 256, 8_192);
 /// A length of buffer that is enough for any listing.
 pub const ANY_LISTING: usize = 140_577;
 
+/// A token's bytes in a list.
+pub const TOKEN_SIZE: usize = 12;
+
+/// The length of the longest image, and so of an area that is enough for the
+/// image of any tokens.
+pub const ANY_IMAGE: usize = 51_304;
+
 /// The stack in bytes that `run` and `run_with` (and so `answer` and
-/// `answer_with`), `listing` and `check` take below their caller's frame:
-/// measured, not proved, and rounded up. The area and the buffer that are lent
-/// come on top, if they stand on the stack too.
+/// `answer_with`), `listing`, `check` and `tokens` take below their caller's
+/// frame: measured, not proved, and rounded up. The area and the buffer that are
+/// lent come on top, if they stand on the stack too.
 pub const RUN_STACK: usize = 32_768;
 pub const LISTING_STACK: usize = 65_536;
 pub const CHECK_STACK: usize = 8_192;
+pub const TOKENS_STACK: usize = 1_024;
 
 /// The length of area that an image with these counts asks for; a shorter one
 /// is refused with number 8.
@@ -47,8 +57,9 @@ pub const fn area_needed(concatenations: usize, components: usize, literal_bytes
     HEAD_SIZE + CONCATENATION_SIZE * concatenations + COMPONENT_SIZE * components + literal_bytes
 }
 
-/// Why an image was refused: a number, and the concatenation and component
-/// that it is about, counted from 0 (0 where there is none).
+/// Why an image, or a list of tokens, was refused: a number, and the
+/// concatenation and component that it is about, counted from 0 (0 where there
+/// is none).
 ///
 /// It is displayed as the program prints it, `refused 25 0 1`; `words` says
 /// what the number means.

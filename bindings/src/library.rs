@@ -29,6 +29,15 @@ extern "C" {
     fn layout_listing(input: *const u8, input_length: u64, out: *mut u8, out_length: u64) -> u64;
 
     fn layout_check(image: *const u8, image_length: u64) -> u32;
+
+    fn layout_tokens(
+        list: *const u8,
+        list_length: u64,
+        text: *const u8,
+        text_length: u64,
+        area: *mut u8,
+        area_length: u64,
+    ) -> u64;
 }
 
 /// Runs a prepared image in mode 0, 1 or 2 (any other is refused).
@@ -78,7 +87,7 @@ pub fn run_with<'a>(
     Ok((length_of(outcome)?, in_force(told, image, default)))
 }
 
-/// An outcome taken apart: the answer's length, or the refusal.
+/// An outcome taken apart: the length of what was written, or the refusal.
 fn length_of(outcome: u64) -> Result<usize, Refusal> {
     match (outcome >> 32) as u32 {
         0 => Ok(outcome as usize),
@@ -157,7 +166,7 @@ pub fn answer_with<'a>(
 
 /// The answer that a run has left in an area.
 fn left<'a>(image: &'a [u8], area: &'a [u8], length: usize) -> Answer<'a> {
-    Answer::unchecked(area.get(..length).unwrap_or_default(), image)
+    Answer::unchecked(entry(area, 0, length), image)
 }
 
 /// The text that the program `layout` prints for an input, one mode byte and an
@@ -178,6 +187,62 @@ pub fn check(image: &[u8]) -> Result<(), Refusal> {
         0 => Ok(()),
         number => Err(Refusal { number, concatenation: 0, component: 0 }),
     }
+}
+
+/// Writes the image of a layout editor's flat list of tokens, whose texts are
+/// parts of a text, and hands it out; `Token::to_bytes` makes the list. Any bytes
+/// may be lent as either.
+///
+/// Outside all groups `,` ends a component, and `;` a concatenation too. A run
+/// of identifiers becomes one text, joined by spaces; every other token is a
+/// record of its own. A list has the most significant component of a
+/// concatenation first, as a line has it; the image has it last.
+///
+/// Accepted: the image stands in the area from its first byte, the bytes after it
+/// are as lent. It passes `check`. Its literal widths are 0, so a run refuses a
+/// component that begins with a digit or `-` with number 17, until its width and
+/// its bits are filled in. Refused (numbers 50 to 53, in this order, each over
+/// the whole list before the next): the area is as lent.
+///
+/// ```
+/// use layout_reader::{answer, tokens, Kind, Token, TokenKind, ANY_AREA, ANY_IMAGE};
+/// use TokenKind::{Identifier, Punctuation};
+///
+/// let text = b"high, low; all";
+/// let list = [
+///     Token::new(Identifier, 0, 4),
+///     Token::new(Punctuation, 4, 1),
+///     Token::new(Identifier, 6, 3),
+///     Token::new(Punctuation, 9, 1),
+///     Token::new(Identifier, 11, 3),
+/// ];
+/// let list = list.map(Token::to_bytes).concat();
+/// let (mut area, mut room) = ([0; ANY_IMAGE], [0; ANY_AREA]);
+/// let image = tokens(&list, text, &mut area)?;
+/// let answer = answer(image, 0, &mut room)?;
+/// let kinds: Vec<Kind> = answer.components().map(|component| component.kind()).collect();
+/// let expected = [b"low", &b"high"[..], b"all"].map(Kind::Variable);
+/// assert_eq!(kinds, expected);
+///
+/// // high, low;
+/// let refusal = tokens(&list[..4 * 12], text, &mut area).unwrap_err();
+/// assert_eq!(refusal.to_string(), "refused 51 0 0");
+/// assert_eq!(refusal.words(), "a component without a token");
+/// # Ok::<(), layout_reader::Refusal>(())
+/// ```
+pub fn tokens<'a>(list: &[u8], text: &[u8], area: &'a mut [u8]) -> Result<&'a [u8], Refusal> {
+    // SAFETY: as in `run`, with list and text read and the area written.
+    let outcome = unsafe {
+        layout_tokens(
+            list.as_ptr(),
+            list.len() as u64,
+            text.as_ptr(),
+            text.len() as u64,
+            area.as_mut_ptr(),
+            area.len() as u64,
+        )
+    };
+    Ok(entry(area, 0, length_of(outcome)?))
 }
 
 #[cfg(test)]

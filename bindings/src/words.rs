@@ -2,7 +2,7 @@
 //! the same words (tests/link holds them to these).
 
 /// Every number of a refusal with its words, in rising order.
-pub const WORDS: [(u32, &str); 36] = [
+pub const WORDS: [(u32, &str); 40] = [
     (1, "the mode is above 2"),
     (2, "the image is shorter than its header"),
     (3, "a count in the header is out of its range"),
@@ -39,6 +39,10 @@ pub const WORDS: [(u32, &str); 36] = [
     (43, "one concatenation alone, of no fixed width"),
     (44, "a filler in the middle, and no width is fixed"),
     (45, "fillers at opposite ends, and no width is fixed"),
+    (50, "a token is unknown, ill-nested or has a wrong text, or the list ends within one"),
+    (51, "a component without a token"),
+    (52, "too many concatenations, components, records or text bytes for an image, or groups nest deeper than 32"),
+    (53, "the lent area is too short for the tokens' image"),
 ];
 
 /// The words of a number; of one that no refusal has, that it is unknown.

@@ -102,6 +102,9 @@ fn sizes_of_the_header() {
         ("RUN_STACK", layout_reader::RUN_STACK),
         ("LISTING_STACK", layout_reader::LISTING_STACK),
         ("CHECK_STACK", layout_reader::CHECK_STACK),
+        ("TOKENS_STACK", layout_reader::TOKENS_STACK),
+        ("TOKEN_SIZE", layout_reader::TOKEN_SIZE),
+        ("ANY_IMAGE", layout_reader::ANY_IMAGE),
     ] {
         let line = format!("#define LAYOUT_{name} {size}");
         assert!(HEADER.lines().any(|header| header == line), "{line}");

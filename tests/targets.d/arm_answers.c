@@ -1,5 +1,6 @@
 /* The library on a Cortex-M3 with nothing around it, no C library and no start-up code: reads cases, writes answers. Its lines in and
- * out are the host's: Linux calls under qemu-arm (arm_host.c), files of the debugging host on the board (board_host.c).
+ * out are the host's: Linux calls under qemu-arm (arm_host.c), files of the debugging host on the board (board_host.c). First of all it
+ * tries layout_tokens (arm_tokens.c), which is not asked for by cases.
  *
  * Input: for each case the input's length, the area's length (4 bytes each, little-endian), the input (mode byte and image).
  * Output: for each case the outcome (8 bytes); the number of layout_check, 1 if nothing was written that must not be, the answer's
@@ -65,14 +66,6 @@ static uint32_t kept(uint32_t input_length, uint32_t area_length, uint32_t writt
     return good;
 }
 
-/* The end of the frame that this stands in. */
-__attribute__((always_inline)) static inline uintptr_t stack_here(void)
-{
-    uintptr_t stack;
-    __asm__ volatile("mov %0, sp" : "=r"(stack));
-    return stack;
-}
-
 static void answer(uint32_t input_length, uint32_t area_length)
 {
     const uint8_t *input = input_room + GUARD;
@@ -102,6 +95,8 @@ static void answer(uint32_t input_length, uint32_t area_length)
 void answer_all(void)
 {
     uint32_t lengths[2];
+    if (!tokens_right())
+        host_stop(8);
     while (take(lengths, sizeof lengths)) {
         if (lengths[0] > ANY_INPUT || lengths[1] > ANY_AREA)
             host_stop(4);

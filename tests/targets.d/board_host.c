@@ -1,6 +1,6 @@
 /* The host of arm_answers.c on the board mps2-an385, a Cortex-M3 from its reset on. Its lines are files of the debugging host
  * ("Semihosting for AArch32 and AArch64"), in the folder that qemu-system-arm is started in: `cases` is read; `answers` is written,
- * and at the end `stack`, for layout_run, layout_listing and layout_check the most bytes that a call took (4 bytes each).
+ * and at the end `stack`, for layout_run, layout_listing, layout_check and layout_tokens the most bytes that a call took (4 bytes each).
  *
  * Before each call the stack below is filled with one word; after it, the lowest word that is another tells how far the call came. */
 #include "arm_lines.h"

@@ -12,8 +12,9 @@ const PATIENCE = 300000;
 const ENDED = {
   2: 'the input ends within a case', 3: 'an answer was not written', 4: 'a case is too long', 5: 'the bytes of a case are missing',
   6: 'a file was not opened', 7: 'a fault: an instruction, a place in memory or a stack that the Cortex-M3 has not',
+  8: 'layout_tokens wrote another image than it must, or where it must not',
 };
-const FUNCTIONS = ['layout_run', 'layout_listing', 'layout_check'];
+const FUNCTIONS = ['layout_run', 'layout_listing', 'layout_check', 'layout_tokens'];
 
 function run(program, folder) {
   const options = { cwd: folder, stdio: ['ignore', 'pipe', 'pipe'], timeout: PATIENCE, killSignal: 'SIGKILL' };

@@ -1,6 +1,7 @@
 // The library as WebAssembly, in node. Each case is run with image and area between guard bytes, the area full of a pattern.
 import fs from 'node:fs';
 import { ANY_LISTING, instance, memory } from '../../web/reader.mjs';
+import { checkTokens } from './tokens.mjs';
 
 const GUARD = 64;
 const GUARD_BYTE = 0xc3;
@@ -11,6 +12,7 @@ export async function wasmSide(file, cases) {
   const imports = WebAssembly.Module.imports(new WebAssembly.Module(bytes));
   if (imports.length > 0) throw new Error(`it imports ${imports[0].name}`);
   const library = await instance(bytes);
+  checkTokens(library);
   return cases.map((each) => answerTo(library, each));
 }
 

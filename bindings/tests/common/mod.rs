@@ -1,5 +1,8 @@
-//! What the tests share: the cases that the unchanged Rust answered.
+//! What the tests share: the cases that the unchanged Rust answered, and worked
+//! examples.
 #![allow(dead_code)]
+
+pub mod examples;
 
 /// differential/README.md, "The files of `replay`".
 const RUNS: &[u8] = include_bytes!("../../../crates/run_replay/data/runs");
