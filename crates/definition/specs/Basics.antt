@@ -34,7 +34,8 @@ abbrev pub withPlaces : {A : Type 0} → ℕ → ℕ → Result A → Result A
 withPlaces i k (ok a) = ok a
 withPlaces i k (refused q) = refused (refusalOf (q .number) i k)
 
--- a lent area after an operation that writes it: "the full answer from its first byte with the bytes beyond untouched, or, after a refusal, exactly as lent"
+-- a lent area after an operation that writes it: "the full answer from its first byte with the bytes beyond untouched, or, after a
+-- refusal, exactly as lent"
 abbrev pub areaAfter : List ℕ → Result (List ℕ) → List ℕ
 areaAfter area (ok bytes) = bytes ++ drop (length bytes) area
 areaAfter area (refused q) = area

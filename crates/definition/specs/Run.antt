@@ -1,5 +1,4 @@
--- The whole run (document 01, "How each operation refuses"), and the starting value in force
--- (document 02, L1).
+-- The whole run (document 01, "How each operation refuses"), and the starting value in force (document 02, L1).
 use Rattle.definition.specs.Prelude.{ℕ, _+_, Bool, true, false, _||_, not, Option, none, some, List, [], map, length, leb}
 use Rattle.definition.specs.Basics.{Result, ok, refused, _>>=_, if_then_else_, isEmpty, areaAfter}
 use Rattle.definition.specs.Limits.{areaNeeded}

@@ -1,7 +1,8 @@
--- A list of tokens that meets the premises of tokens-read, every-list, right-fits, tokens-prepared and tokens-rust; they are applied to it.
+-- A list of tokens that meets the premises of tokens-read, every-list, right-fits, tokens-prepared and tokens-rust, and its stream those
+-- of what a walk over its tokens finds; the theorems are applied to them.
 use mathlib.Core.Path.{_≡_, refl}
-use Rattle.definition.specs.Prelude.{ℕ, true, List, [], _∷_, _++_, map}
-use Rattle.definition.specs.Basics.{ok, ascii}
+use Rattle.definition.specs.Prelude.{ℕ, true, List, [], _∷_, _++_, map, reverse, length}
+use Rattle.definition.specs.Basics.{ok, all, ascii}
 use Rattle.definition.specs.Image.{kinds, treeOf}
 use Rattle.definition.specs.Check.{checkImage}
 use Rattle.definition.specs.Tree.{u32, fits, imageOf}
@@ -9,10 +10,12 @@ use Rattle.definition.specs.TokenStream.{ident, punct, literal, Stream, done, l
 use Rattle.definition.specs.Tokens.{closer, tokensRight, nested, streams, streamOf, noneEmpty, withinLimits, tokenImage}
 use Rattle.definition.specs.Compute.{computed}
 use Rattle.prepared.specs.Statement.{Bytes, placedTree}
-use Rattle.token_facts.specs.Flat.{flatTokens, soundStream}
-use Rattle.token_facts.specs.Statement.{IsStream}
+use Rattle.token_facts.specs.Flat.{flatTokens, soundStream, undivided, isComponent, comma, semicolon, between, toSemicolon, toComma}
+use Rattle.token_facts.specs.Statement.{IsStream, Totals, Parted, at-semicolon, at-comma}
 use Rattle.token_facts.specs.Streams.{flat-streams, tokens-read, every-list}
 use Rattle.token_facts.specs.Prepared.{right-fits, tokens-prepared, tokens-rust}
+use Rattle.token_facts.specs.Totals.{totals-flat}
+use Rattle.token_facts.specs.Dividing.{parted-flat, to-semicolon, to-comma}
 
 abbrev t : ℕ → ℕ → ℕ → List ℕ
 t k s l = u32 k ++ u32 s ++ u32 l
@@ -87,3 +90,36 @@ rust = tokens-rust list text 193 (imageOf (streamTree stream)) stream bytes soun
 
 two-streams : (s : Stream) → streams (flatTokens s ++ closer ∷ flatTokens stream) ≡ s ∷ stream ∷ []
 two-streams s = flat-streams s (closer ∷ flatTokens stream) (stream ∷ []) before-closer
+
+-- ---- a walk over the tokens: `stream` is sound, and these are two components, the first with a comma in its group
+
+counted : Totals stream
+counted = totals-flat stream sound
+
+parted : Parted stream
+parted = parted-flat stream sound
+
+abbrev grouped : Stream
+grouped = delimited (kinds .space) (leaf (punct (44 ∷ [])) done) (leaf (ident (97 ∷ [])) done)
+
+abbrev two : List Stream
+two = grouped ∷ leaf (literal (49 ∷ [])) done ∷ []
+
+two-components : all isComponent two ≡ true
+unfolding all soundStream undivided
+two-components = refl
+
+-- six tokens stand before the semicolon, the comma one of them, and four, backwards, before the comma
+ends-at : toSemicolon 0 (between comma (map flatTokens two) ++ semicolon ∷ []) ≡ length (between comma (map flatTokens two))
+ends-at = to-semicolon two (semicolon ∷ []) two-components (at-semicolon [])
+
+ends-after-six : length (between comma (map flatTokens two)) ≡ 6
+unfolding between flatTokens
+ends-after-six = refl
+
+grouped-component : isComponent grouped ≡ true
+unfolding soundStream undivided
+grouped-component = refl
+
+begins-at : toComma 0 (reverse (flatTokens grouped) ++ comma ∷ []) ≡ length (flatTokens grouped)
+begins-at = to-comma grouped (comma ∷ []) grouped-component (at-comma [])
