@@ -1,1 +1,2 @@
 // cutting.
+#![tactic(auto)]

@@ -1,1 +1,2 @@
 // cutting_proof.
+#![tactic(auto)]

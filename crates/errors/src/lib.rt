@@ -1,4 +1,6 @@
 // Refusals (src/errors.rs): numbers and places only, as document 01 gives them.
+#![tactic(auto)]
+
 pub mod flags;
 
 ghost use Rattle.std.specs.Prelude.{◌≡◌};
@@ -6,7 +8,7 @@ ghost use Rattle.definition.specs.Basics.{refused, refusal_of};
 ghost use Rattle.errors.specs.Refused.{refused_as, result_of, number_in};
 
 // A number of document 01 and two places: concatenation and component, 0 where there is none.
-#[derive(Drop)]
+#[derive(Clone, Copy)]
 pub struct Refusal {
     pub number: u32,
     pub concatenation: u32,
@@ -14,14 +16,14 @@ pub struct Refusal {
 }
 
 // The answer of a check.
-#[derive(Drop)]
+#[derive(Clone, Copy)]
 pub enum Checked {
     Passed,
     Refused(Refusal),
 }
 
 // What a run came to: an answer of that many bytes, or a refusal.
-#[derive(Drop)]
+#[derive(Clone, Copy)]
 pub enum Outcome {
     Accepted(usize),
     Refused(Refusal),

@@ -8,7 +8,7 @@ ghost use Rattle.image.specs.record_rules.Rules.{entry_with, delimiter_of, skip_
 use errors::flags::both;
 
 // A record's numbers: its kind, where its text starts and stops, and its skip.
-#[derive(Drop)]
+#[derive(Clone, Copy)]
 pub struct Numbers {
     pub kind: u32,
     pub start: u32,
@@ -16,7 +16,7 @@ pub struct Numbers {
     pub skip: u32,
 }
 
-#[derive(Drop)]
+#[derive(Clone, Copy)]
 pub struct Delimiter {
     pub opening: u8,
     pub closing: u8,

@@ -9,7 +9,7 @@ use crate::words::four_at;
 pub use crate::words::{byte_at, join4};
 
 // C, N, R, T and B of document 01's header.
-#[derive(Drop)]
+#[derive(Clone, Copy)]
 pub struct Counts {
     pub c: u32,
     pub n: u32,
@@ -19,7 +19,7 @@ pub struct Counts {
 }
 
 // Where the five tables begin, and where the last ends.
-#[derive(Drop)]
+#[derive(Clone, Copy)]
 pub struct Tables {
     pub concatenations: usize,
     pub components: usize,

@@ -1,1 +1,2 @@
 // laws.
+#![tactic(auto)]

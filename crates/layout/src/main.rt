@@ -4,6 +4,8 @@
 // It reads standard input, or the file that its one argument names. Where a file cannot be opened, or a read or a write fails, the reason
 // goes to standard error. After a failed read nothing is printed. (Rattle has no exit status, so the status is 0 even then.) Standard
 // output gets nothing but a listing, so that a script can go by its first word; the words for who asks what is read go to standard error.
+#![tactic(auto)]
+
 ghost use Rattle.std.specs.Prelude.{◌≡◌, length};
 ghost use Rattle.definition.specs.Limits.{max_input};
 ghost use Rattle.listing_length.specs.run.Listing.{longest_listing};
@@ -12,7 +14,7 @@ use libc::{STDERR_FILENO, STDIN_FILENO, STDOUT_FILENO};
 use listing::Written;
 
 // How many bytes were read, or that a read failed.
-#[derive(Drop)]
+#[derive(Clone, Copy)]
 enum Input {
     Bytes(usize),
     Failed,

@@ -1,4 +1,6 @@
 // The run for C and Rust (include/layout.h, bindings/).
+#![tactic(auto)]
+
 mod outcome;
 mod start;
 

@@ -2,6 +2,8 @@
 // differential/ (its README.md, "The files of `leaves`"): texts with the number that the unchanged i128_try_parse reads in them, images
 // with the number that document 01's check gives them, and lists of tokens with the image that the unchanged token_stream_to_ast makes
 // of them. Each entry is read, asked of our own code and compared; an entry that is cut off or too long counts as different.
+#![tactic(auto)]
+
 mod tokens;
 
 ghost use Rattle.std.specs.Prelude.{◌≡◌, true, ◌≤◌, eqb, get_or};
@@ -15,7 +17,7 @@ use libc::STDOUT_FILENO;
 use numbers::OptionI128;
 
 // What is at the front of an entry.
-#[derive(Drop)]
+#[derive(Clone, Copy)]
 enum Head {
     Length(usize),
     Cut,
@@ -23,14 +25,14 @@ enum Head {
 }
 
 // What an entry came to.
-#[derive(Drop)]
+#[derive(Clone, Copy)]
 enum Compared {
     Equal,
     Different,
     End,
 }
 
-#[derive(Drop)]
+#[derive(Clone, Copy)]
 struct Tally {
     equal: u64,
     different: u64,
@@ -162,7 +164,7 @@ fn plain_entry(fd: i32, images: bool, buf: &mut [u8]) -> Compared {
 }
 
 // The files of data/.
-#[derive(Drop)]
+#[derive(Clone, Copy)]
 enum File {
     Numbers,
     Images,

@@ -1,4 +1,5 @@
 // Document 01's limits and sizes as numbers of the code; the definition's stand in definition/specs/Limits.antt.
+#![tactic(auto)]
 
 // The greatest counts of an image, the greatest literal width in bits, and the nesting of groups.
 pub const CONCATENATIONS: u32 = 16;

@@ -1,4 +1,6 @@
 // The listing of an outcome, written into a lent buffer.
+#![tactic(auto)]
+
 mod digits;
 mod fields;
 mod group;
@@ -20,7 +22,7 @@ use crate::refusal::put_refusal;
 use errors::Outcome;
 
 // The listing's length, or that it is longer than the buffer.
-#[derive(Drop)]
+#[derive(Clone, Copy)]
 pub enum Written {
     Whole(usize),
     Cut,

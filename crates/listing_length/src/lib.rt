@@ -1,1 +1,2 @@
 // listing_length.
+#![tactic(auto)]

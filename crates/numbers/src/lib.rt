@@ -1,4 +1,6 @@
 // Signed numbers of 128 bits, as the Rust's i128: sign, order, and a number of the machine as one (src/misc.rs); the least of two numbers.
+#![tactic(auto)]
+
 pub mod digit;
 pub mod parse;
 pub mod sums;
@@ -9,21 +11,21 @@ ghost use Rattle.numbers.specs.Steps.{order_of};
 ghost use Rattle.numbers.specs.Value.{bits, value_of};
 
 // Two halves, in two's complement.
-#[derive(Drop)]
+#[derive(Clone, Copy)]
 pub struct I128 {
     pub high: u64,
     pub low: u64,
 }
 
 // Option<i128>
-#[derive(Drop)]
+#[derive(Clone, Copy)]
 pub enum OptionI128 {
     Some(I128),
     None,
 }
 
 // Option<usize>
-#[derive(Drop)]
+#[derive(Clone, Copy)]
 pub enum OptionUsize {
     Some(usize),
     None,

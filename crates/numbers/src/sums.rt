@@ -7,7 +7,7 @@ ghost use Rattle.numbers.specs.Value.{bits, value_of, option_of};
 use crate::{I128, OptionI128, is_negative};
 
 // One half of a sum or a difference, and what it carries to or borrows from the next.
-#[derive(Drop)]
+#[derive(Clone, Copy)]
 struct Half {
     value: u64,
     carry: u64,

@@ -1,4 +1,6 @@
 // What the program `layout` prints, on lent bytes: the program itself only reads and writes.
+#![tactic(auto)]
+
 ghost use Rattle.std.specs.Prelude.{◌≡◌, min, length};
 ghost use Rattle.definition.specs.Prelude.{[]};
 ghost use Rattle.definition.specs.Limits.{max_input};

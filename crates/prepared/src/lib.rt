@@ -1,1 +1,2 @@
 // prepared.
+#![tactic(auto)]

@@ -1,1 +1,2 @@
 // refusal_places.
+#![tactic(auto)]

@@ -4,7 +4,7 @@ ghost use Rattle.std.specs.Prelude.{◌≡◌, true, ◌+◌, ◌*◌, ◌≤◌
 ghost use Rattle.definition.specs.Limits.{max_input};
 ghost use Rattle.listing_length.specs.run.Listing.{longest_listing};
 
-#[derive(Drop)]
+#[derive(Clone, Copy)]
 pub(crate) enum Entry {
     Read(u32, u32, u32),
     // cut off, or too long

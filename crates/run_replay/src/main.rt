@@ -3,6 +3,8 @@
 // the second with a fixed literal cut in pieces, with the listing of both; and inputs under a default, with the starting value in force.
 // Each input is run over an area filled with a known pattern, and its listing is compared byte by byte; the area must hold the pattern
 // beyond the answer, and everywhere after a refusal. An entry that is cut off or too long counts as different.
+#![tactic(auto)]
+
 mod compare;
 mod counts;
 mod defaults;
@@ -94,7 +96,7 @@ fn plain_entry(fd: i32, cuts: bool, buf: &mut [u8]) -> usize {
 }
 
 // The files of data/.
-#[derive(Drop)]
+#[derive(Clone, Copy)]
 enum File {
     Runs,
     Cuts,

@@ -7,7 +7,7 @@ use errors::Outcome;
 use image::token_tree::{text_place, u32_at};
 
 // Where it stands: a place and a length in the image, or the whole default; nothing after a refusal.
-#[derive(Drop)]
+#[derive(Clone, Copy)]
 pub enum InForce {
     Nothing,
     Image(usize, usize),

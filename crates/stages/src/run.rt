@@ -17,14 +17,14 @@ use errors::flags::either;
 use errors::{Checked, Outcome};
 
 // What the stages are told of a call's choices: the mode, and whether it has a default that is not empty. No stage looks at its bytes.
-#[derive(Drop)]
+#[derive(Clone, Copy)]
 struct Choices {
     mode: u32,
     held: bool,
 }
 
 // What a run came to, and where the starting value in force stands.
-#[derive(Drop)]
+#[derive(Clone, Copy)]
 pub struct Ran {
     pub outcome: Outcome,
     pub start: InForce,

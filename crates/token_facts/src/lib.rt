@@ -1,1 +1,2 @@
 // Theorems only: specs/.
+#![tactic(auto)]

@@ -9,14 +9,14 @@ use crate::list::{after, count_of, divides, joined, kind_at, length_at};
 use errors::flags::{both, either};
 use image::token_tree::Counts;
 
-#[derive(Drop)]
+#[derive(Clone, Copy)]
 pub(crate) enum Counted {
     Within(Counts),
     Over,
 }
 
 // Semicolons and dividers at the top level, records and text bytes.
-#[derive(Drop)]
+#[derive(Clone, Copy)]
 struct Tally {
     semicolons: u64,
     dividers: u64,

@@ -1,4 +1,6 @@
 // The layout editor's flat list of tokens, written as an image (document 02, L2; src/token_stream.rs).
+#![tactic(auto)]
+
 mod check;
 mod counts;
 mod list;
@@ -14,7 +16,7 @@ use errors::{Outcome, Refusal, refuse};
 use image::token_tree::Counts;
 
 // Whether an image is written: its counts, or why not.
-#[derive(Drop)]
+#[derive(Clone, Copy)]
 enum Admission {
     Fits(Counts),
     Refused(Refusal),

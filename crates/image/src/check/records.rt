@@ -14,7 +14,7 @@ use crate::words::four_at;
 use errors::Checked;
 
 // Where the records and their texts stand, how many records there are and where the text stops.
-#[derive(Drop)]
+#[derive(Clone, Copy)]
 pub struct Places {
     pub records: usize,
     pub text: usize,

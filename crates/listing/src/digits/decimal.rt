@@ -7,7 +7,7 @@ ghost use Rattle.listing.specs.digits.Put.{Put};
 use crate::digits::put_byte;
 
 // A number divided by ten, in two halves, and the digit that is left over.
-#[derive(Drop)]
+#[derive(Clone, Copy)]
 struct Tenth {
     high: u64,
     low: u64,

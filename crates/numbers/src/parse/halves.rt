@@ -7,14 +7,14 @@ ghost use Rattle.numbers.specs.parse.Halves.{number_of};
 use crate::{I128, OptionI128};
 
 // A number without a sign, in two halves.
-#[derive(Drop)]
+#[derive(Clone, Copy)]
 pub struct U128 {
     pub high: u64,
     pub low: u64,
 }
 
 // Option<u128>
-#[derive(Drop)]
+#[derive(Clone, Copy)]
 pub enum OptionU128 {
     Some(U128),
     None,

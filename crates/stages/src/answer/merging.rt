@@ -16,7 +16,7 @@ use super::blocks::{put_fixed, put_open, put_plain};
 use crate::concatenation::Concatenation;
 
 // Where the next component's block stands, where the literal block begins, and how many of its bytes are written.
-#[derive(Drop)]
+#[derive(Clone, Copy)]
 pub struct Writing {
     pub at: usize,
     pub literals: usize,
@@ -24,7 +24,7 @@ pub struct Writing {
 }
 
 // Where to write, whether a run of static literals is open, and how many bits it has.
-#[derive(Drop)]
+#[derive(Clone, Copy)]
 pub struct Merging {
     pub w: Writing,
     pub running: bool,

@@ -15,14 +15,14 @@ use crate::token_tree::Part;
 use numbers::{I128, OptionI128};
 
 // A bound's words: its text, and x low and high.
-#[derive(Drop)]
+#[derive(Clone, Copy)]
 pub struct Words {
     pub text: u64,
     pub low: u64,
     pub high: u64,
 }
 
-#[derive(Drop)]
+#[derive(Clone, Copy)]
 pub struct Row {
     pub flags: u64,
     pub content: u64,

@@ -15,7 +15,7 @@ use crate::token_tree::{PBind, Run, Tree};
 use errors::{Checked, Refusal};
 
 // A component after both stages, or the number of a refusal of stage 1 or of stage 2.
-#[derive(Drop)]
+#[derive(Clone, Copy)]
 pub enum ReadResult {
     Ok(Component),
     First(u32),

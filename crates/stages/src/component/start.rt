@@ -14,13 +14,13 @@ use crate::token_tree::{
 use errors::Refusal;
 
 // Its text, and the record behind its colon; record 0 where there is none.
-#[derive(Drop)]
+#[derive(Clone, Copy)]
 pub struct Start {
     pub after: PBind,
     pub s: Part,
 }
 
-#[derive(Drop)]
+#[derive(Clone, Copy)]
 pub enum StartResult {
     Ok(Start),
     Refused(Refusal),

@@ -4,13 +4,13 @@ use crate::token_tree::Part;
 use numbers::OptionI128;
 
 // Bits from .. to of the component's literal.
-#[derive(Drop)]
+#[derive(Clone, Copy)]
 pub struct Bits {
     pub from: u32,
     pub to: u32,
 }
 
-#[derive(Drop)]
+#[derive(Clone, Copy)]
 pub enum ComponentType {
     Literal(Bits),
     Variable(Part),
@@ -18,7 +18,7 @@ pub enum ComponentType {
 }
 
 // `width` is what static_width gives once the component is simplified; none before.
-#[derive(Drop)]
+#[derive(Clone, Copy)]
 pub struct Component {
     pub c_type: ComponentType,
     pub range: Usbr,
@@ -26,7 +26,7 @@ pub struct Component {
 }
 
 // Result<Component, _>: a refusal by its number.
-#[derive(Drop)]
+#[derive(Clone, Copy)]
 pub enum ComponentResult {
     Ok(Component),
     Refused(u32),

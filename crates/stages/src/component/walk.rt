@@ -14,7 +14,7 @@ use crate::token_tree::{PBind, PVal, Tables, components_of, records_of, run_of, 
 use errors::Checked;
 
 // The next component's number, first record and first literal byte; the first refusal of stage 2, and of stage 1.
-#[derive(Drop)]
+#[derive(Clone, Copy)]
 pub struct Walk {
     pub k: PVal,
     pub r: PBind,

@@ -17,7 +17,7 @@ use errors::Checked;
 use numbers::{I128, OptionI128, OptionUsize};
 
 // Its number, its first component and how many it has.
-#[derive(Drop)]
+#[derive(Clone, Copy)]
 pub struct Concatenation {
     pub i: u32,
     pub first: PVal,

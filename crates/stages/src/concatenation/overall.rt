@@ -12,14 +12,14 @@ use errors::{Checked, Refusal};
 use numbers::OptionUsize;
 
 // The place of a component.
-#[derive(Drop)]
+#[derive(Clone, Copy)]
 pub enum Place {
     At(u32),
     None,
 }
 
 // What stage 4 reads of a concatenation.
-#[derive(Drop)]
+#[derive(Clone, Copy)]
 pub struct Summary {
     pub align: FillerAlign,
     pub width: OptionUsize,
@@ -28,7 +28,7 @@ pub struct Summary {
 }
 
 // The answer's head; `known` is the first concatenation of known width.
-#[derive(Drop)]
+#[derive(Clone, Copy)]
 pub struct Overall {
     pub align: FillerAlign,
     pub width: OptionUsize,
@@ -37,7 +37,7 @@ pub struct Overall {
     pub nonzero: bool,
 }
 
-#[derive(Drop)]
+#[derive(Clone, Copy)]
 pub enum OverallResult {
     Ok(Overall),
     Refused(Refusal),

@@ -7,7 +7,7 @@ ghost use Rattle.stages.specs.ranges.Dots.{refused_dots, found_by, dotted_by, un
 use crate::token_tree::{PBind, PText, Tree, behind, single, start_or};
 
 // The scan's state: the dots that stand before, the first of them; the dots found, from record lo up to hi; or the number of a refusal.
-#[derive(Drop)]
+#[derive(Clone, Copy)]
 pub struct Dots {
     pub dots: u32,
     pub first: PBind,

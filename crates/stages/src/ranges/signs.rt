@@ -9,7 +9,7 @@ ghost use Rattle.stages.specs.ranges.Signs.{paired_by, signed_by, cut_of, cut_pl
 use crate::token_tree::{PBind, PText, Tree, behind, single, start_or};
 
 // Records of signs; 0 for none, since a group's opener stands before them.
-#[derive(Drop)]
+#[derive(Clone, Copy)]
 pub struct Signs {
     pub plus: PBind,
     pub pair: PBind,

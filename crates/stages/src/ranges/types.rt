@@ -3,35 +3,35 @@ use crate::token_tree::Part;
 use numbers::{I128, OptionI128};
 
 // A text plus a number.
-#[derive(Drop)]
+#[derive(Clone, Copy)]
 pub struct Usb {
     pub s: Part,
     pub x: I128,
 }
 
 // Option<Usb>
-#[derive(Drop)]
+#[derive(Clone, Copy)]
 pub enum OptionUsb {
     Some(Usb),
     None,
 }
 
 // Result<Usb, _>: a refusal by its number.
-#[derive(Drop)]
+#[derive(Clone, Copy)]
 pub enum UsbResult {
     Ok(Usb),
     Refused(u32),
 }
 
 // A start, and an end if there is one. An empty start is 0.
-#[derive(Drop)]
+#[derive(Clone, Copy)]
 pub struct Usbr {
     pub start: Usb,
     pub end: OptionUsb,
 }
 
 // Result<Option<Usbr>, _>: a range, no dots, or a refusal.
-#[derive(Drop)]
+#[derive(Clone, Copy)]
 pub enum RangeResult {
     Ok(Usbr),
     NoRange,
@@ -39,14 +39,14 @@ pub enum RangeResult {
 }
 
 // Option<(i128, i128)>
-#[derive(Drop)]
+#[derive(Clone, Copy)]
 pub enum OptionRange {
     Some(I128, I128),
     None,
 }
 
 // A range as stage 2 leaves it with its static width, or a refusal.
-#[derive(Drop)]
+#[derive(Clone, Copy)]
 pub enum Simplified {
     Ok(Usbr, OptionI128),
     Refused(u32),

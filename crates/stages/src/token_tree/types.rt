@@ -1,24 +1,24 @@
 // Places of texts and records.
 
 // A text place, a record number and a component number, kept apart as the crate keeps its pointers.
-#[derive(Drop)]
+#[derive(Clone, Copy)]
 pub struct PText(pub u32);
 
-#[derive(Drop)]
+#[derive(Clone, Copy)]
 pub struct PBind(pub u32);
 
-#[derive(Drop)]
+#[derive(Clone, Copy)]
 pub struct PVal(pub u32);
 
 // A part of the text table; an empty one starts at 0.
-#[derive(Drop)]
+#[derive(Clone, Copy)]
 pub struct Part {
     pub at: PText,
     pub len: u32,
 }
 
 // A record's numbers.
-#[derive(Drop)]
+#[derive(Clone, Copy)]
 pub struct Entry {
     pub kind: u32,
     pub start: PText,
@@ -26,14 +26,14 @@ pub struct Entry {
 }
 
 // The bytes where the record table and the text table begin.
-#[derive(Drop)]
+#[derive(Clone, Copy)]
 pub struct Tree {
     pub records: usize,
     pub text: usize,
 }
 
 // The records from `r` up to `stop`, and where their text ends.
-#[derive(Drop)]
+#[derive(Clone, Copy)]
 pub struct Run {
     pub r: PBind,
     pub stop: PBind,
@@ -41,7 +41,7 @@ pub struct Run {
 }
 
 // Counts and tables of an image.
-#[derive(Drop)]
+#[derive(Clone, Copy)]
 pub struct Tables {
     pub c: u32,
     pub components: usize,

@@ -6,7 +6,7 @@ use super::table::number_at;
 use super::types::Entry;
 use crate::token_tree::types::PText;
 
-#[derive(Drop)]
+#[derive(Clone, Copy)]
 pub struct Walker<'a> {
     pub image: &'a [u8],
     pub at: usize,

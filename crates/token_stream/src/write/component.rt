@@ -12,7 +12,7 @@ use image::token_tree::delimiter_of;
 use image::writer;
 
 // Where the next component's row, the next record's row and the next byte of text go.
-#[derive(Drop)]
+#[derive(Clone, Copy)]
 pub(crate) struct Pen {
     pub components: usize,
     pub records: usize,
@@ -21,7 +21,7 @@ pub(crate) struct Pen {
 
 // The same within a component: where the next record's row and byte of text go, where the text of the record that was begun starts,
 // and the kinds of the open groups, two bits each, the innermost lowest.
-#[derive(Drop)]
+#[derive(Clone, Copy)]
 pub(crate) struct Mark {
     pub record: usize,
     pub text: usize,

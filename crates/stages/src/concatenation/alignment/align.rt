@@ -6,7 +6,7 @@ ghost use Rattle.stages.specs.concatenation.alignment.Align.{align_of, join_side
 
 use errors::flags::{both, either};
 
-#[derive(Drop)]
+#[derive(Clone, Copy)]
 pub enum FillerAlign {
     None,
     Single,

@@ -12,7 +12,7 @@ use errors::{Checked, Refusal};
 use numbers::{I128, OptionI128, OptionUsize};
 
 // What stage 3 asks of a component: its kind (1 literal, 2 variable, 3 filler), static_width, and two tests.
-#[derive(Drop)]
+#[derive(Clone, Copy)]
 pub struct Shape {
     pub kind: u32,
     pub width: OptionI128,
@@ -21,7 +21,7 @@ pub struct Shape {
 }
 
 // The sum of widths while all so far are known, and what was found so far.
-#[derive(Drop)]
+#[derive(Clone, Copy)]
 pub struct Running {
     pub width: OptionUsize,
     pub align: FillerAlign,
@@ -29,7 +29,7 @@ pub struct Running {
     pub nonzero: bool,
 }
 
-#[derive(Drop)]
+#[derive(Clone, Copy)]
 pub enum Stepped {
     Ok(Running),
     Refused(Refusal),
@@ -173,7 +173,7 @@ pub(crate) fn finish(i: u32, r: Running) -> Checked
 }
 
 // The running check after a step, as it was where the step refuses, and the step's verdict.
-#[derive(Drop)]
+#[derive(Clone, Copy)]
 pub struct Advanced {
     pub running: Running,
     pub checked: Checked,

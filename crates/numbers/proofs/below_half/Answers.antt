@@ -1,0 +1,10 @@
+-- `numbers::below_half` meets its contract: by the test that it makes.
+-- Assumes nothing.
+use Rattle.std.proofs.Common.{eq-eqb, ne_eqb}
+use Rattle.numbers.proofs.below_half.Goals as goal
+
+pub returns-then-a-b : goal.returns-then-a-b
+returns-then-a-b c = rw (eq-eqb c.args.a c.args.b c.if-a-b.true)
+
+pub returns-else-a-b : goal.returns-else-a-b
+returns-else-a-b c = rw (ne_eqb c.args.a c.args.b c.if-a-b.false)
