@@ -29,7 +29,7 @@ pub record Within {A : Type 0} (i : ℕ) (t : List (List A)) : Type 0 where
 length_components : (image : List ℕ) (k r l n : ℕ) → length (components_from image k r l n) ≡ n
 unfolding components_from
 length_components image k r l zero = refl
-length_components image k r l (suc n) = ap suc (length_components image _ _ _ n)
+length_components image k r l (suc n) = ap suc (length_components image (suc k) _ _ n)
 
 module _ {A : Type 0} where
   parts_short : (ns : List ℕ) (l : List A) → length l ≤ limits.components → Short (parts ns l)

@@ -82,7 +82,7 @@ items_run text at rs h = from at (rw (first_none rs, add-zero) at (row_chunks te
 
 row_split : {text : List ℕ} {at : ℕ} (is : List Item) {js : List Item} → Row text at (is ++ js) → Row text at is × Run text js
 row_split {at = at} [] r = (row_nil, from at r)
-row_split (i ∷ is) (row_cons e p h r) = let (a, b) = row_split is r in (row_cons e p h a, b)
+row_split {text = text} {at = at} (i ∷ is) {js = js} (row_cons e p h r) = let (a, b) = row_split {at = at + length i.part.bytes} is r in (row_cons e p h a, b)
 
 pub run_split : {text : List ℕ} (is : List Item) {js : List Item} → Run text (is ++ js) → Run text is × Run text js
 run_split is (from at r) = let (a, b) = row_split is r in (from at a, b)

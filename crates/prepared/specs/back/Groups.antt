@@ -118,7 +118,7 @@ module _ (text : List ℕ) (bytes : Bytes text) where
       → 2 + length inside ≡ e.skip → c.kind ≡ kinds.closer → c.skip ≡ 1
       → flat (group e.kind f g) ≡ map (rec_of text) (e ∷ (inside ++ c ∷ after))
   unfolding flat
-  group_flat e c inside after f g p q r s u v w = rw (p, q, map-append, length-map, u, r, s, v, w)
+  group_flat e c inside after f g p q r s u v w = rw (p, q, map-append (rec_of text), length-map, u, r, s, v, w)
 
   group_closed : (e : Entry) (rest : List Entry) (above : ℕ) → all (byte_right text) (e ∷ rest) ≡ true → opens e.kind ≡ true
       → (open_right (length text) e rest ≡ true) → close_right (length text) e (closer_of e rest) ≡ true

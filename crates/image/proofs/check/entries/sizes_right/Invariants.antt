@@ -1,0 +1,21 @@
+-- The loop's invariant: what was seen is right and what is still to come is right, from the sum so far on, where the whole is right.
+use mathlib.Core.Path.{◌≡◌, sym, ap, ◌∙◌}
+use mathlib.Core.Bool.{◌&&◌}
+use Prim.Native.Nat.{ℕ, ◌+◌, ◌*◌, ◌-◌, ◌≤◌}
+use native.Mathlib.Omega.{arith}
+use native.Mathlib.Nat.{add-zero, mul-zero, sub-zero}
+use borrow.Author.Rules.{rules}
+use mathlib.Core.List.{List}
+use Rattle.definition.specs.Basics.{tab}
+use Rattle.definition.specs.Image.{u32_at}
+use Rattle.image.specs.check.Parts.{sizes_right}
+use Rattle.image.proofs.check.Sums.{sizes_again, sizes_end, place_next, step_fits}
+use Rattle.image.proofs.check.entries.sizes_right.Given as goal
+
+abbrev pub invariant-loop-k : goal.invariant-loop-k
+invariant-loop-k l =
+    (l.k ≤ l.n) × (l.at ≡ l.from + l.step * l.k) × (l.sum ≤ 4294967296 * l.k)
+    × ((l.right && sizes_right l.sum (tab (size l.image l.from l.step) l.k (l.n - l.k)) l.total) ≡ sizes_right 0 (tab (size l.image l.from l.step) 0 l.n) l.total)
+
+abbrev pub decreases-loop-k : goal.decreases-loop-k
+decreases-loop-k l = l.n - l.k

@@ -1,0 +1,6 @@
+use borrow.Author.Rules.{rules}
+use Rattle.image.proofs.check.header.Goals as goal
+
+pub returns : goal.returns
+returns c =
+    rw (c.four_at.ensures, c.four_at-2.ensures, c.four_at-3.ensures, c.four_at-4.ensures, c.four_at-5.ensures)

@@ -1,0 +1,21 @@
+-- The loop's invariant: what the components that are left say, from record `from` on, all of them say.
+use mathlib.Core.Path.{◌≡◌, ap, ◌∙◌}
+use Prim.Native.Nat.{◌+◌, ◌*◌, ◌-◌, ◌≤◌}
+use native.Mathlib.Nat.{sub-zero, zero-add}
+use native.Mathlib.Omega.{arith}
+use borrow.Author.Rules.{rules}
+use Rattle.definition.specs.Basics.{sum, tab}
+use Rattle.definition.specs.Image.{u32_at, record_count}
+use Rattle.definition.specs.Check.{check_components}
+use Rattle.image.specs.check.Parts.{answer_of}
+use Rattle.image.proofs.check.Answers.{answer_stops, answer_refused}
+use Rattle.image.proofs.check.Whole.{own, sum_goes, component_stops, component_goes, components_end}
+use Rattle.image.proofs.check.records.components_check.Given as goal
+
+abbrev pub invariant-loop-k : goal.invariant-loop-k
+invariant-loop-k l =
+    (l.k ≤ l.n) × (l.from + sum (tab (record_count l.image) l.k (l.n - l.k)) ≡ sum (tab (record_count l.image) 0 l.n))
+    × (check_components l.image l.from (tab (record_count l.image) l.k (l.n - l.k)) ≡ check_components l.image 0 (tab (record_count l.image) 0 l.n))
+
+abbrev pub decreases-loop-k : goal.decreases-loop-k
+decreases-loop-k l = l.n - l.k

@@ -1,0 +1,5 @@
+use borrow.Author.Rules.{rules}
+use Rattle.image.proofs.record_rules.word_right.Goals as goal
+
+pub returns : goal.returns
+returns c = rw (c.both-2.ensures, c.both.ensures, c.text_right.ensures)

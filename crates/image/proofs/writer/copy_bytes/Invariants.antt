@@ -1,0 +1,17 @@
+-- `copy_bytes` meets its contract: before turn i the first i bytes are copied.
+use borrow.Author.Rules.{rules}
+use mathlib.Core.Path.{◌≡◌, refl, ap, ◌∙◌}
+use Prim.Native.Nat.{◌-◌, ◌≤◌, ◌<◌}
+use native.Mathlib.Nat.{le_antisymm}
+use native.Mathlib.Omega.{arith}
+use lib.ListN.{length, length-set}
+use lib.Seq.{sets}
+use Rattle.definition.specs.Image.{bytes_at, padded}
+use Rattle.laws.specs.Writing.{copy_next}
+use Rattle.image.proofs.writer.copy_bytes.Given as goal
+
+abbrev pub invariant-loop-i : goal.invariant-loop-i
+invariant-loop-i l = (l.area ≡ sets l.initial.area l.at (bytes_at l.s l.from l.i)) × (l.i ≤ l.n) × (length l.area ≡ length l.initial.area)
+
+abbrev pub decreases-loop-i : goal.decreases-loop-i
+decreases-loop-i l = l.n - l.i
