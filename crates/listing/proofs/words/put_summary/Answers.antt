@@ -1,0 +1,7 @@
+-- `lines_out::words::put_summary` meets its contract.
+use Rattle.listing.proofs.words.Wording.{put_summed}
+use borrow.Author.Rules.{rules}
+use Rattle.listing.proofs.words.put_summary.Goals as goal
+
+pub returns : goal.returns
+returns c = put_summed c.args.width c.args.align c.args.flags c.put_width-place.ensures c.put_align-place.ensures c.put_flag-place.ensures c.put_flag.ensures

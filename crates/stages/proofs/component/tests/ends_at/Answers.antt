@@ -1,0 +1,21 @@
+use Rattle.std.proofs.Common.{◌∙◌, inl, inr, ⊎_elim, arith, rules, ne_eqb}
+use Rattle.stages.proofs.component.tests.Tested.{ends_none, ends_yes, ends_no}
+use Rattle.stages.proofs.component.tests.ends_at.Goals as goal
+
+pub returns-then-u-eq0-2 : goal.returns-then-u-eq0-2
+returns-then-u-eq0-2 c image t base g =
+    let a = c.args in
+    let u = c.end-1.given in
+    ends_yes image t base a.«end» a.w u.0.0 u.1 c.if-u-eq0.t-6
+    (⊎_elim (λ w. inl (w.0.taken, w.2)) (λ w. inr (w.0.left, w.1 ∙ ne_eqb u.0.0.s.len 0 w.0.left)) c.if-u-eq0.branch) c.if-u-eq0-2.true-raw
+
+pub returns-else-u-eq0-2 : goal.returns-else-u-eq0-2
+returns-else-u-eq0-2 c image t base g =
+    let a = c.args in
+    let u = c.end-1.given in
+    ends_no image t base a.«end» a.w u.0.0 u.1 c.if-u-eq0.t-6
+    (⊎_elim (λ w. inl (w.0.taken, w.2)) (λ w. inr (w.0.left, w.1 ∙ ne_eqb u.0.0.s.len 0 w.0.left)) c.if-u-eq0.branch) c.if-u-eq0-2.false-raw
+    (omega (arith, c.ranges.w)) g
+
+pub returns-in-None : goal.returns-in-None
+returns-in-None c image t base g = ends_none image t base c.args.«end» c.args.w c.in-None.is

@@ -1,0 +1,89 @@
+use Rattle.std.proofs.Common.{◌≡◌, ℕ, ◌+◌, ◌-◌, ◌*◌, ◌/◌, ◌%◌, ◌≤◌, eqb, ◌⊎◌, List, length, get_or, drop, ◌∙◌, inl, inr, ⊎_elim, arith}
+use Rattle.definition.specs.Component.{Component}
+use Rattle.definition.specs.Concatenation.{merge}
+use Rattle.definition.specs.Image.{Placed}
+use Rattle.stages.specs.component.Kept.{KeptFrom}
+use Rattle.stages.proofs.concatenation.check.Counts.{one_more_if, count_from}
+use Rattle.stages.proofs.concatenation.check.Turns.{added, one_at_most, count_start, count_on, count_end}
+use Rattle.stages.proofs.component.Rows.{stored}
+use Rattle.stages.proofs.concatenation.check.Concatenation.merged.Goals as goal
+
+pub loop-j-init : goal.loop-j-init
+loop-j-init c = (omega arith, omega arith, λ image cs e h. count_start cs)
+
+pub overflow_add-flags : goal.overflow_add-flags
+overflow_add-flags c =
+    let p : _ ≤ 256 = c.requires.few in
+    let l = c.loop-j-test.true in
+    omega (arith, p, l)
+
+pub overflow_cast-flags : goal.overflow_cast-flags
+overflow_cast-flags c =
+    let p : _ ≤ 256 = c.requires.few in
+    let l = c.loop-j-test.true in
+    omega (arith, p, l)
+
+pub overflow_mul-flags : goal.overflow_mul-flags
+overflow_mul-flags c =
+    let p : _ ≤ 256 = c.requires.few in
+    let l = c.loop-j-test.true in
+    omega (arith, p, l)
+
+pub offset_bounds-words-k : goal.offset_bounds-words-k
+offset_bounds-words-k c =
+    let p : _ ≤ 256 = c.requires.few in
+    let l = c.loop-j-test.true in
+    omega (arith, p, l)
+
+pub bounds-words-k : goal.bounds-words-k
+bounds-words-k c =
+    let p = c.requires.words in
+    let l = c.loop-j-test.true in
+    omega (arith, p, l)
+
+pub overflow_add-m : goal.overflow_add-m
+overflow_add-m c =
+    let p : _ ≤ 256 = c.requires.few in
+    let l = c.loop-j-test.true in
+    let b = c.loop-j.invariant.1 in
+    omega (arith, p, l, b)
+
+pub overflow_add-j : goal.overflow_add-j
+overflow_add-j c =
+    let p : _ ≤ 256 = c.requires.few in
+    let l = c.loop-j-test.true in
+    omega (arith, p, l)
+
+pub loop-j-smaller : goal.loop-j-smaller
+loop-j-smaller c =
+    let l = c.loop-j-test.true in
+    omega (arith, l)
+
+pub loop-j-preserved : goal.loop-j-preserved
+loop-j-preserved c =
+    let v = c.loop-j in
+    let s = c.args in
+    let x = s.self in
+    let l = c.loop-j-test.true in
+    let now = eqb (get_or s.words.now (11 * (x.first.0 + v.j)) 0 / 32 % 2) 1 in
+    let is : c.if-not-now.m ≡ v.m + one_more_if v.was now =
+    added v.was now c.if-was.t-24 v.m c.if-not-now.m
+    (⊎_elim (λ w. inl (w.0.taken, w.1)) (λ w. inr (w.0.left, w.1 ∙ w.0.left)) c.if-was.branch)
+    (⊎_elim (λ w. inl (w.0.taken, w.1)) (λ w. inr (w.0.left, w.1)) c.if-not-now.branch) in (
+      omega (arith, l),
+      rw is (one_at_most v.was now v.m v.j v.invariant.1),
+      λ image cs e h.
+          count_on image s.words.now x.first.0 v.j cs (stored image s.words.now cs x.first.0 v.j x.len h e l) v.m
+          c.if-not-now.m v.was is
+          (v.invariant.2 image cs e h),
+    )
+
+pub returns : goal.returns
+returns c =
+    let v = c.loop-j in
+    let b : v.m ≤ v.j = v.invariant.1 in
+    let a : v.j ≤ c.args.self.len = v.invariant.0 in (
+      omega (arith, a, b),
+      λ image cs e h. count_end cs v.j c.args.self.len v.m v.was e c.loop-j-test.false
+          (v.invariant.2 image cs e h),
+    )

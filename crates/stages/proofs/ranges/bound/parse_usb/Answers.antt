@@ -1,0 +1,75 @@
+use Rattle.std.proofs.Common.{arith, rules}
+use Rattle.stages.proofs.ranges.bound.Lone.{first_ends, parse_many, parse_token, parse_other, parse_group, token_order, group_order, inner_runs}
+use Rattle.stages.proofs.ranges.bound.parse_usb.Goals as goal
+
+pub overflow_add-r : goal.overflow_add-r
+overflow_add-r c =
+    let a = c.args in
+    let w = c.requires.1.1 in
+    let n = first_ends a.image.now a.tree w.base a.stop.0 a.end.0 a.r.0 c.requires.1.0 w.items c.requires.0 w.laid in
+    omega (arith, n, c.before.before.before.«record».ensures.1.1, w.fits, w.small)
+
+pub returns-then-r-e : goal.returns-then-r-e
+returns-then-r-e c base s is h =
+    let e = c.before.before.before.before.before.«record» in
+    let a = c.args in
+    parse_many a.image.now a.tree base a.stop.0 a.end.0 a.r.0 s is c.requires.0 h e.result.kind e.result.start.0 e.result.skip
+    e.ensures.0 e.ensures.1.0 e.ensures.1.1 c.if-r-e.taken
+
+pub token-requires : goal.token-requires
+token-requires c =
+    let e = c.before.before.before.before.before.before.before.«record» in
+    let a = c.args in
+    let w = c.requires.1.1 in (
+      token_order a.image.now a.tree w.base a.stop.0 a.end.0 a.r.0 c.requires.1.0 w.items c.requires.0 w.laid e.result.kind
+          e.result.start.0 e.result.skip e.ensures.0 e.ensures.1.0 e.ensures.1.1 c.if-r-e.left,
+      w.text_fits,
+    )
+
+pub returns-then-e-eq0 : goal.returns-then-e-eq0
+returns-then-e-eq0 c base s is h =
+    let e = c.before.before.before.before.before.before.before.before.«record» in
+    let a = c.args in
+    parse_token a.image.now a.tree base a.stop.0 a.end.0 a.r.0 s is c.requires.0 h e.result.kind e.result.start.0 e.result.skip
+    e.ensures.0 e.ensures.1.0 e.ensures.1.1 c.if-r-e.left c.if-e-eq0.taken c.token.result c.token.ensures
+
+pub returns-then-e-ne2 : goal.returns-then-e-ne2
+returns-then-e-ne2 c base s is h =
+    let e = f.before.before.before.before.before.«record» in
+    let a = c.args in
+    parse_other a.image.now a.tree base a.stop.0 a.end.0 a.r.0 s is c.requires.0 h e.result.kind e.result.start.0 e.result.skip
+    e.ensures.0 e.ensures.1.0 e.ensures.1.1 c.if-r-e.left c.if-e-eq0.left c.if-e-ne2.taken
+
+pub overflow_add-s : goal.overflow_add-s
+overflow_add-s c =
+    let e = f.before.before.before.before.before.«record» in
+    let a = c.args in
+    let w = c.requires.1.1 in
+    let o = group_order a.image.now a.tree w.base a.stop.0 a.end.0 a.r.0 c.requires.1.0 w.items c.requires.0 w.laid e.result.kind
+    e.result.start.0 e.result.skip e.ensures.0 e.ensures.1.0 e.ensures.1.1 c.if-r-e.left c.if-e-ne2.left in
+    omega (arith, o, w.text_small)
+
+pub overflow_sub-end : goal.overflow_sub-end
+overflow_sub-end c =
+    let e = f.before.before.before.before.before.«record» in
+    let a = c.args in
+    let w = c.requires.1.1 in
+    let o = group_order a.image.now a.tree w.base a.stop.0 a.end.0 a.r.0 c.requires.1.0 w.items c.requires.0 w.laid e.result.kind
+    e.result.start.0 e.result.skip e.ensures.0 e.ensures.1.0 e.ensures.1.1 c.if-r-e.left c.if-e-ne2.left in
+    omega (arith, o)
+
+pub group-requires : goal.group-requires
+group-requires c =
+    let e = f.before.before.before.before.before.«record» in
+    let a = c.args in (
+      omega arith,
+      inner_runs a.image.now a.tree a.stop.0 a.end.0 a.r.0 c.requires.1.0 c.requires.0 c.requires.1.1 e.result.kind
+          e.result.start.0 e.result.skip e.ensures.0 e.ensures.1.0 e.ensures.1.1 c.if-r-e.left c.if-e-ne2.left,
+    )
+
+pub returns : goal.returns
+returns c base s is h =
+    let e = f.before.before.before.before.before.«record» in
+    let a = c.args in
+    parse_group a.image.now a.tree base a.stop.0 a.end.0 a.r.0 s is c.requires.0 h e.result.kind e.result.start.0 e.result.skip
+    e.ensures.0 e.ensures.1.0 e.ensures.1.1 c.if-r-e.left c.if-e-ne2.left c.group.result c.group.ensures
