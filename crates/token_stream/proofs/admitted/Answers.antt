@@ -53,10 +53,9 @@ returns-then-area-size_of c =
     let filled : (let a = c.args in
     none_empty_in 0 false (tokens a.list.now a.text.now) ≡ true) =
       sym c.none_empty.ensures ∙ c.if-not-none_empty.false in
-    let h = c.h-1.given in
     let a = c.args in
     way_53 a.list.now a.text.now a.area c.refuse-then-area-size_of.ensures right filled
-    c.counts_of.ensures h.0.0 h.1 c.size_of.ensures c.if-area-size_of.true
+    c.counts_of.ensures c.in-Within.h c.in-Within.is c.size_of.ensures c.if-area-size_of.true
 
 pub returns-else-area-size_of : goal.returns-else-area-size_of
 returns-else-area-size_of c =
@@ -65,7 +64,6 @@ returns-else-area-size_of c =
     let filled : (let a = c.args in
     none_empty_in 0 false (tokens a.list.now a.text.now) ≡ true) =
       sym c.none_empty.ensures ∙ c.if-not-none_empty.false in
-    let h = c.h-1.given in
     let a = c.args in
-    way_fits a.list.now a.text.now a.area right filled c.counts_of.ensures h.0.0
-    h.1 c.size_of.ensures (omega (arith, c.if-area-size_of.false))
+    way_fits a.list.now a.text.now a.area right filled c.counts_of.ensures c.in-Within.h
+    c.in-Within.is c.size_of.ensures (omega (arith, c.if-area-size_of.false))

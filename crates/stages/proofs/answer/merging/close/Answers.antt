@@ -14,4 +14,4 @@ put_fixed-requires c =
 pub returns : goal.returns
 returns c =
     let a = c.args in
-    close_some a.s a.area.now _ c.behind.result c.well-formed.0.0 c.if-not-s.false c.put_fixed.ensures c.behind.ensures
+    close_some a.s a.area.now _ c.behind.result c.well_formed.0.0 c.if-not-s.false c.put_fixed.ensures c.behind.ensures

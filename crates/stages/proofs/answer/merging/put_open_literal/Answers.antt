@@ -54,4 +54,4 @@ returns c =
     let one = sym (kind_at a.image.now a.words.now a.k d at) ∙ kind in
     let b = bits_at a.image.now a.words.now a.k d at one in
     open_other d a.image.now a.words.now a.k at b a.s l.result c.behind.result a.area.now _ _
-    c.well-formed.0.0 rests one l.ensures c.put_open.ensures c.behind.ensures
+    c.well_formed.0.0 rests one l.ensures c.put_open.ensures c.behind.ensures

@@ -44,7 +44,7 @@ returns c =
     let (_, ms, _, _, room, _) = c.requires in
     let (_, rests) = closed_rests a.s k.result a.area.now _ _ k.ensures room in
     let long = k.auto.0 in
-    let small = c.well-formed.0.0 in
+    let small = c.well_formed.0.0 in
     λ d is fixed other.
     let at = row_at is in
     other_one d a.s k.result c.behind.result a.area.now _ _ k.ensures

@@ -8,8 +8,7 @@ use Rattle.stages.proofs.component.simplify.by_type.Goals as goal
 pub simplify_literal-requires : goal.simplify_literal-requires
 simplify_literal-requires c =
     let p = c.requires in
-    let k = c.c_type-1.given in
-    ((literal_parsed c.args.image.now c.args.tree p.0 c.args.c_type k.0.0 k.1 p.1).1, (p.0, p.2, p.3))
+    ((literal_parsed c.args.image.now c.args.tree p.0 c.args.c_type c.in-Literal.b c.in-Literal.is p.1).1, (p.0, p.2, p.3))
 
 pub cut_of-requires : goal.cut_of-requires
 cut_of-requires c =
@@ -22,9 +21,8 @@ returns-in-Literal c base at f m p =
     let a = c.args in
     let i = a.image.now in
     let v = usbr_of i a.tree base a.range in
-    let k = c.c_type-1.given in
-    let b = literal_parsed i a.tree base a.c_type k.0.0 k.1 f in
-    as_literal i a.tree base at a.c_type v c.cut_of.result k.0.0 k.1 b.0
+    let b = literal_parsed i a.tree base a.c_type c.in-Literal.b c.in-Literal.is f in
+    as_literal i a.tree base at a.c_type v c.cut_of.result c.in-Literal.b c.in-Literal.is b.0
     (c.cut_of.ensures i a.tree base at v b.2 p (c.simplify_literal.ensures base m p))
 
 pub returns-in-Variable : goal.returns-in-Variable
@@ -32,8 +30,7 @@ returns-in-Variable c base at f m p =
     let a = c.args in
     let i = a.image.now in
     let v = usbr_of i a.tree base a.range in
-    let k = c.enum_told-1.given in
-    as_variable i a.tree base at a.c_type v c.with_type.result k.0.0 k.1
+    as_variable i a.tree base at a.c_type v c.with_type.result c.in-Variable.field-0 c.in-Variable.is
     (c.with_type.ensures i a.tree base at (ok v) (parsed_fits i a.tree base a.c_type f) (same_range i a.tree base a.range a.x m))
 
 pub returns-in-Filler : goal.returns-in-Filler

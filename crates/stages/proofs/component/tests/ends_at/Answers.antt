@@ -5,16 +5,14 @@ use Rattle.stages.proofs.component.tests.ends_at.Goals as goal
 pub returns-then-u-eq0-2 : goal.returns-then-u-eq0-2
 returns-then-u-eq0-2 c image t base g =
     let a = c.args in
-    let u = c.end-1.given in
-    ends_yes image t base a.«end» a.w u.0.0 u.1 c.if-u-eq0.t-6
-    (⊎_elim (λ w. inl (w.0.taken, w.2)) (λ w. inr (w.0.left, w.1 ∙ ne_eqb u.0.0.s.len 0 w.0.left)) c.if-u-eq0.branch) c.if-u-eq0-2.true-raw
+    ends_yes image t base a.«end» a.w c.in-Some.u c.in-Some.is c.if-u-eq0.t-6
+    (⊎_elim (λ w. inl (w.0.taken, w.2)) (λ w. inr (w.0.left, w.1 ∙ ne_eqb c.in-Some.u.s.len 0 w.0.left)) c.if-u-eq0.branch) c.if-u-eq0-2.true-raw
 
 pub returns-else-u-eq0-2 : goal.returns-else-u-eq0-2
 returns-else-u-eq0-2 c image t base g =
     let a = c.args in
-    let u = c.end-1.given in
-    ends_no image t base a.«end» a.w u.0.0 u.1 c.if-u-eq0.t-6
-    (⊎_elim (λ w. inl (w.0.taken, w.2)) (λ w. inr (w.0.left, w.1 ∙ ne_eqb u.0.0.s.len 0 w.0.left)) c.if-u-eq0.branch) c.if-u-eq0-2.false-raw
+    ends_no image t base a.«end» a.w c.in-Some.u c.in-Some.is c.if-u-eq0.t-6
+    (⊎_elim (λ w. inl (w.0.taken, w.2)) (λ w. inr (w.0.left, w.1 ∙ ne_eqb c.in-Some.u.s.len 0 w.0.left)) c.if-u-eq0.branch) c.if-u-eq0-2.false-raw
     (omega (arith, c.ranges.w)) g
 
 pub returns-in-None : goal.returns-in-None

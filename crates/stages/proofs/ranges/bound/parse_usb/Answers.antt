@@ -14,7 +14,7 @@ returns-then-r-e c base s is h =
     let e = c.before.before.before.before.before.«record» in
     let a = c.args in
     parse_many a.image.now a.tree base a.stop.0 a.end.0 a.r.0 s is c.requires.0 h e.result.kind e.result.start.0 e.result.skip
-    e.ensures.0 e.ensures.1.0 e.ensures.1.1 c.if-r-e.taken
+    e.ensures.0 e.ensures.1.0 e.ensures.1.1 c.if-r-e.true
 
 pub token-requires : goal.token-requires
 token-requires c =
@@ -22,7 +22,7 @@ token-requires c =
     let a = c.args in
     let w = c.requires.1.1 in (
       token_order a.image.now a.tree w.base a.stop.0 a.end.0 a.r.0 c.requires.1.0 w.items c.requires.0 w.laid e.result.kind
-          e.result.start.0 e.result.skip e.ensures.0 e.ensures.1.0 e.ensures.1.1 c.if-r-e.left,
+          e.result.start.0 e.result.skip e.ensures.0 e.ensures.1.0 e.ensures.1.1 c.if-r-e.false,
       w.text_fits,
     )
 
@@ -31,14 +31,14 @@ returns-then-e-eq0 c base s is h =
     let e = c.before.before.before.before.before.before.before.before.«record» in
     let a = c.args in
     parse_token a.image.now a.tree base a.stop.0 a.end.0 a.r.0 s is c.requires.0 h e.result.kind e.result.start.0 e.result.skip
-    e.ensures.0 e.ensures.1.0 e.ensures.1.1 c.if-r-e.left c.if-e-eq0.taken c.token.result c.token.ensures
+    e.ensures.0 e.ensures.1.0 e.ensures.1.1 c.if-r-e.false c.if-e-eq0.true c.token.result c.token.ensures
 
 pub returns-then-e-ne2 : goal.returns-then-e-ne2
 returns-then-e-ne2 c base s is h =
     let e = f.before.before.before.before.before.«record» in
     let a = c.args in
     parse_other a.image.now a.tree base a.stop.0 a.end.0 a.r.0 s is c.requires.0 h e.result.kind e.result.start.0 e.result.skip
-    e.ensures.0 e.ensures.1.0 e.ensures.1.1 c.if-r-e.left c.if-e-eq0.left c.if-e-ne2.taken
+    e.ensures.0 e.ensures.1.0 e.ensures.1.1 c.if-r-e.false c.if-e-eq0.false c.if-e-ne2.true
 
 pub overflow_add-s : goal.overflow_add-s
 overflow_add-s c =
@@ -46,7 +46,7 @@ overflow_add-s c =
     let a = c.args in
     let w = c.requires.1.1 in
     let o = group_order a.image.now a.tree w.base a.stop.0 a.end.0 a.r.0 c.requires.1.0 w.items c.requires.0 w.laid e.result.kind
-    e.result.start.0 e.result.skip e.ensures.0 e.ensures.1.0 e.ensures.1.1 c.if-r-e.left c.if-e-ne2.left in
+    e.result.start.0 e.result.skip e.ensures.0 e.ensures.1.0 e.ensures.1.1 c.if-r-e.false c.if-e-ne2.false in
     omega (arith, o, w.text_small)
 
 pub overflow_sub-end : goal.overflow_sub-end
@@ -55,7 +55,7 @@ overflow_sub-end c =
     let a = c.args in
     let w = c.requires.1.1 in
     let o = group_order a.image.now a.tree w.base a.stop.0 a.end.0 a.r.0 c.requires.1.0 w.items c.requires.0 w.laid e.result.kind
-    e.result.start.0 e.result.skip e.ensures.0 e.ensures.1.0 e.ensures.1.1 c.if-r-e.left c.if-e-ne2.left in
+    e.result.start.0 e.result.skip e.ensures.0 e.ensures.1.0 e.ensures.1.1 c.if-r-e.false c.if-e-ne2.false in
     omega (arith, o)
 
 pub group-requires : goal.group-requires
@@ -64,7 +64,7 @@ group-requires c =
     let a = c.args in (
       omega arith,
       inner_runs a.image.now a.tree a.stop.0 a.end.0 a.r.0 c.requires.1.0 c.requires.0 c.requires.1.1 e.result.kind
-          e.result.start.0 e.result.skip e.ensures.0 e.ensures.1.0 e.ensures.1.1 c.if-r-e.left c.if-e-ne2.left,
+          e.result.start.0 e.result.skip e.ensures.0 e.ensures.1.0 e.ensures.1.1 c.if-r-e.false c.if-e-ne2.false,
     )
 
 pub returns : goal.returns
@@ -72,4 +72,4 @@ returns c base s is h =
     let e = f.before.before.before.before.before.«record» in
     let a = c.args in
     parse_group a.image.now a.tree base a.stop.0 a.end.0 a.r.0 s is c.requires.0 h e.result.kind e.result.start.0 e.result.skip
-    e.ensures.0 e.ensures.1.0 e.ensures.1.1 c.if-r-e.left c.if-e-ne2.left c.group.result c.group.ensures
+    e.ensures.0 e.ensures.1.0 e.ensures.1.1 c.if-r-e.false c.if-e-ne2.false c.group.result c.group.ensures

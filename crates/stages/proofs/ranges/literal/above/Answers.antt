@@ -4,9 +4,8 @@ use Rattle.stages.proofs.ranges.literal.above.Goals as goal
 
 pub returns-in-Some : goal.returns-in-Some
 returns-in-Some c =
-    let n = c.n-1.given in
     let a = c.args in
-    above_some a.n n.0.0 a.w n.1 _ _ c.usize_to_i128.ensures c.less.ensures
+    above_some a.n c.in-Some.x a.w c.in-Some.is _ _ c.usize_to_i128.ensures c.less.ensures
 
 pub returns-in-None : goal.returns-in-None
 returns-in-None c = above_none c.args.n c.args.w c.in-None.is

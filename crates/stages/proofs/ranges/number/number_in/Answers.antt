@@ -5,7 +5,7 @@ use Rattle.stages.proofs.ranges.number.number_in.Goals as goal
 pub returns-then-image-p-gt57 : goal.returns-then-image-p-gt57
 returns-then-image-p-gt57 c =
     let a = c.args in
-    number_above a.image.now a.p a.len c.requires.0 c.if-image-p-gt57.taken
+    number_above a.image.now a.p a.len c.requires.0 c.if-image-p-gt57.true
 
 pub returns : goal.returns
 returns c =

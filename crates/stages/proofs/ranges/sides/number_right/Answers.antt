@@ -6,10 +6,9 @@ pub returns-in-Some : goal.returns-in-Some
 returns-in-Some c image t base between e =
     let j = c.joined in
     let n = c.no_text in
-    let l = c.l-1.given in
     let a = c.args in
     right_number image t base c.with_x.result n.result a.s.0 a.p.0 a.l j.result a.negative a.r between e
-    (c.with_x.ensures image t base) l.0.0 l.1 n.ensures j.ensures
+    (c.with_x.ensures image t base) c.in-Some.x c.in-Some.is n.ensures j.ensures
 
 pub returns-in-None : goal.returns-in-None
 returns-in-None c image t base between e =

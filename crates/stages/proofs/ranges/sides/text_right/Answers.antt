@@ -13,10 +13,9 @@ part_of-requires c =
 pub returns-after-negative : goal.returns-after-negative
 returns-after-negative c image tree base between n =
     let a = c.args in
-    let l = c.l-1.given in
     let f = c.if-negative in
-    kept_number image tree base a.s.0 a.p.0 a.t.0 a.l a.negative between c.requires.0 c.requires.1 n c.part_of.result l.0.0
-    f.part_of.0 l.1 (omega arith) (omega arith)
+    kept_number image tree base a.s.0 a.p.0 a.t.0 a.l a.negative between c.requires.0 c.requires.1 n c.part_of.result c.in-Some.x
+    f.part_of.0 c.in-Some.is (omega arith) (omega arith)
     (⊎_elim (λ w. from_minus a.p.0 f.part_of.0 a.negative w.0.taken (ap (λ (x : PText). x.0) w.1))
     (λ w. from_plus a.p.0 f.part_of.0 a.negative w.0.left (ap (λ (x : PText). x.0) w.1)) f.came) c.part_of.ensures
 

@@ -11,22 +11,19 @@ returns-then-not-is_guaranteed_zero c image t base at g =
 
 pub overflow_sub-b : goal.overflow_sub-b
 overflow_sub-b c =
-    let k = c.c_type-1.given in
-    subst Ordered k.1 c.requires
+    subst Ordered c.in-Literal.is c.requires
 
 pub returns-in-Literal : goal.returns-in-Literal
 returns-in-Literal c image t base at g =
-    let k = c.c_type-1.given in
     let z = c.is_guaranteed_zero in
-    full_literal image t base at c.args.self z.result (z.ensures image t base) k.0.0 c.ends_at.result
-    (c.if-not-is_guaranteed_zero.false) k.1 (c.ends_at.ensures image t base g)
+    full_literal image t base at c.args.self z.result (z.ensures image t base) c.in-Literal.b c.ends_at.result
+    (c.if-not-is_guaranteed_zero.false) c.in-Literal.is (c.ends_at.ensures image t base g)
 
 pub returns-in-Variable : goal.returns-in-Variable
 returns-in-Variable c image t base at g =
-    let k = c.enum_told-1.given in
     let z = c.is_guaranteed_zero in
-    full_variable image t base at c.args.self z.result (z.ensures image t base) k.0.0 c.has_end.result
-    (c.if-not-is_guaranteed_zero.false) k.1 c.has_end.ensures
+    full_variable image t base at c.args.self z.result (z.ensures image t base) c.in-Variable.field-0 c.has_end.result
+    (c.if-not-is_guaranteed_zero.false) c.in-Variable.is c.has_end.ensures
 
 pub returns-in-Filler : goal.returns-in-Filler
 returns-in-Filler c image t base at g =

@@ -4,9 +4,8 @@ use Rattle.stages.proofs.ranges.types.Usb.raised.Goals as goal
 
 pub returns-in-Some : goal.returns-in-Some
 returns-in-Some c image t base f =
-    let x = c.x-1.given in
-    raised_ok image t base c.args.self c.checked_add.result c.checked_add.ensures x.0.0 x.1 f
-    (omega (arith, c.known_told-1)) (omega (arith, c.known_told-1))
+    raised_ok image t base c.args.self c.checked_add.result c.checked_add.ensures c.in-Some.x c.in-Some.is f
+    (omega (arith)) (omega (arith))
 
 pub returns-in-None : goal.returns-in-None
 returns-in-None c image t base f =

@@ -6,19 +6,18 @@ use Rattle.stages.proofs.ranges.types.Usb.simplify.Goals as goal
 pub returns-then-len-eq0 : goal.returns-then-len-eq0
 returns-then-len-eq0 c base f =
     let a = c.args in
-    simplify_empty a.image.now a.tree base a.self c.if-len-eq0.taken f
+    simplify_empty a.image.now a.tree base a.self c.if-len-eq0.true f
 
 pub returns-in-Some : goal.returns-in-Some
 returns-in-Some c base f =
     let a = c.args in
-    let v = c.v-1.given in
     let room : a.tree.text ≤ length a.image.now = omega (arith, f.part.room) in
     subst (UsbReads a.image.now a.tree base c.moved.result)
-    (simplify_some a.image.now a.tree base a.self c.if-len-eq0.left c.number_in.result c.number_in.ensures v.0.0 v.1)
+    (simplify_some a.image.now a.tree base a.self c.if-len-eq0.false c.number_in.result c.number_in.ensures c.in-Some.v c.in-Some.is)
     (c.moved.ensures a.image.now a.tree base room)
 
 pub returns-in-None : goal.returns-in-None
 returns-in-None c base f =
     let a = c.args in
-    simplify_none a.image.now a.tree base a.self c.if-len-eq0.left c.number_in.result c.number_in.ensures
+    simplify_none a.image.now a.tree base a.self c.if-len-eq0.false c.number_in.result c.number_in.ensures
     c.in-None.is f

@@ -5,13 +5,11 @@ use Rattle.stages.proofs.ranges.types.Usbr.numbers.Goals as goal
 pub returns-in-Ok : goal.returns-in-Ok
 returns-in-Ok c base f =
     let a = c.args in
-    let u = c.a-1.given in
     let h = c.simplify.ensures base f.start in
-    numbers_ok a.image.now a.tree base a.self c.simplify.result h u.0.0 c.simplified_end.result u.1
-    (c.simplified_end.ensures base (start_fits a.image.now a.tree base a.self c.simplify.result h u.0.0 u.1) f.«end»)
+    numbers_ok a.image.now a.tree base a.self c.simplify.result h c.in-Ok.a c.simplified_end.result c.in-Ok.is
+    (c.simplified_end.ensures base (start_fits a.image.now a.tree base a.self c.simplify.result h c.in-Ok.a c.in-Ok.is) f.«end»)
 
 pub returns-in-Refused : goal.returns-in-Refused
 returns-in-Refused c base f =
     let a = c.args in
-    let n = c.n-1.given in
-    numbers_refused a.image.now a.tree base a.self c.simplify.result (c.simplify.ensures base f.start) n.0.0 n.1
+    numbers_refused a.image.now a.tree base a.self c.simplify.result (c.simplify.ensures base f.start) c.in-Refused.n c.in-Refused.is

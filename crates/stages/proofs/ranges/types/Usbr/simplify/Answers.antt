@@ -6,20 +6,19 @@ use Rattle.stages.proofs.ranges.types.Usbr.simplify.Goals as goal
 pub checked-requires : goal.checked-requires
 checked-requires c =
     let b = c.requires.0 in
-    let r = c.r-1.given in (
+    (
       b,
       range_fits c.args.image.now c.args.tree b (usbr_of c.args.image.now c.args.tree b c.args.self) c.numbers.result
-          (c.numbers.ensures b c.requires.1) r.0.0 r.1,
+          (c.numbers.ensures b c.requires.1) c.in-Ok.r c.in-Ok.is,
     )
 
 pub returns-in-Ok : goal.returns-in-Ok
 returns-in-Ok c base f =
     let a = c.args in
     let v = usbr_of a.image.now a.tree base a.self in
-    let r = c.r-1.given in
     let h = c.numbers.ensures base f in
-    simplify_ok a.image.now a.tree base v c.numbers.result h r.0.0 c.checked.result r.1
-    (c.checked.ensures base (range_fits a.image.now a.tree base v c.numbers.result h r.0.0 r.1))
+    simplify_ok a.image.now a.tree base v c.numbers.result h c.in-Ok.r c.checked.result c.in-Ok.is
+    (c.checked.ensures base (range_fits a.image.now a.tree base v c.numbers.result h c.in-Ok.r c.in-Ok.is))
 
 pub returns-in-NoRange : goal.returns-in-NoRange
 returns-in-NoRange c base f =
@@ -30,6 +29,5 @@ returns-in-NoRange c base f =
 pub returns-in-Refused : goal.returns-in-Refused
 returns-in-Refused c base f =
     let a = c.args in
-    let n = c.n-1.given in
     simplify_refused a.image.now a.tree base (usbr_of a.image.now a.tree base a.self) c.numbers.result (c.numbers.ensures base f)
-    n.0.0 n.1
+    c.in-Refused.n c.in-Refused.is

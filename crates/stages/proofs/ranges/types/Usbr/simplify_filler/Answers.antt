@@ -5,7 +5,7 @@ use Rattle.stages.proofs.ranges.types.Usbr.simplify_filler.Goals as goal
 pub returns-then-is_guaranteed_zero : goal.returns-then-is_guaranteed_zero
 returns-then-is_guaranteed_zero c image t base m =
     let z = c.is_guaranteed_zero in
-    filler_zero image t base c.args.self c.args.x m z.result (z.ensures image t base) c.if-is_guaranteed_zero.taken
+    filler_zero image t base c.args.self c.args.x m z.result (z.ensures image t base) c.if-is_guaranteed_zero.true
 
 pub returns-in-Some : goal.returns-in-Some
 returns-in-Some c image t base m =
@@ -15,4 +15,4 @@ returns-in-Some c image t base m =
 pub returns-else-is_guaranteed_zero : goal.returns-else-is_guaranteed_zero
 returns-else-is_guaranteed_zero c image t base m =
     let z = c.is_guaranteed_zero in
-    filler_open image t base c.args.self c.args.x m z.result (z.ensures image t base) c.if-is_guaranteed_zero.left c.in-None.is
+    filler_open image t base c.args.self c.args.x m z.result (z.ensures image t base) c.if-is_guaranteed_zero.false c.in-None.is

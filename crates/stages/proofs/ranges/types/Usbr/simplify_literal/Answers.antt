@@ -6,19 +6,18 @@ pub returns-then-above : goal.returns-then-above
 returns-then-above c base m p =
     let a = c.args in
     literal_over a.image.now a.tree base a.self a.w c.requires.0 p c.static_val.result (c.static_val.ensures a.image.now a.tree base)
-    c.above.result (λ _. c.above.ensures) c.if-above.taken
+    c.above.result (λ _. c.above.ensures) c.if-above.true
 
 pub returns-in-Some : goal.returns-in-Some
 returns-in-Some c base m p =
     let a = c.args in
-    let e = c.enum_told-1.given in
     literal_ended a.image.now a.tree base a.self a.w c.requires.0 p c.static_val.result (c.static_val.ensures a.image.now a.tree base)
-    c.above.result (λ _. c.above.ensures) e.0.0 c.end_checked.result c.if-above.left e.1
+    c.above.result (λ _. c.above.ensures) c.in-Some.field-0 c.end_checked.result c.if-above.false c.in-Some.is
     (c.end_checked.ensures a.image.now a.tree base m p)
 
 pub returns-in-None : goal.returns-in-None
 returns-in-None c base m p =
     let a = c.args in
     literal_open a.image.now a.tree base a.self a.w c.requires.0 p c.static_val.result (c.static_val.ensures a.image.now a.tree base)
-    c.above.result (λ _. c.above.ensures) c.to_width.result c.if-above.left c.in-None.is
+    c.above.result (λ _. c.above.ensures) c.to_width.result c.if-above.false c.in-None.is
     (c.to_width.ensures base m.fits.start)
