@@ -42,7 +42,7 @@ bounds-words-at-5 c =
 -- src/component/keep.rt:140:1
 pub shape_of-words : goal.shape_of-words
 shape_of-words c =
-    length-set c.save_words-2.new.0 (c.args.at + 10)
+    length-set c.save_words-2.new.words (c.args.at + 10)
     c.args.r.literal
     ∙ c.save_words-2.auto.words ∙ long c
 
