@@ -10,24 +10,18 @@ stage4-requires c =
 pub stage5-requires : goal.stage5-requires
 stage5-requires c =
     let f = c.requires.1 in
-    let e = c.either-given in
-    let q = c.stage4 in (
+    (
       scanned_base c.args.image.now,
       f.ds,
       f.heads_long,
-      answers c.args.area.now c.requires.0 f c.args.how e.result e.ensures q.result q.ensures c.in-Ok.is,
+      answers c.args.area.now c.requires.0 f c.args.how c.either-given.result c.either-given.ensures c.stage4.result c.stage4.ensures c.in-Ok.is,
     )
 
 pub returns-in-Ok : goal.returns-in-Ok
 returns-in-Ok c =
-    let e = c.either-given in
-    let q = c.stage4 in
-    let w = c.stage5 in
-    judged_on c.args.area.now c.requires.0 c.requires.1 c.args.how e.result e.ensures q.result q.ensures
-    c.in-Ok.is w.result w.new.0 w.ensures
+    judged_on c.args.area.now c.requires.0 c.requires.1 c.args.how c.either-given.result c.either-given.ensures c.stage4.result c.stage4.ensures
+    c.in-Ok.is c.stage5.result c.stage5.new.area c.stage5.ensures
 
 pub returns-in-Refused : goal.returns-in-Refused
 returns-in-Refused c =
-    let e = c.either-given in
-    let q = c.stage4 in
-    judged_off c.args.area.now c.requires.0 c.requires.1 c.args.how e.result e.ensures q.result q.ensures c.in-Refused.is
+    judged_off c.args.area.now c.requires.0 c.requires.1 c.args.how c.either-given.result c.either-given.ensures c.stage4.result c.stage4.ensures c.in-Refused.is

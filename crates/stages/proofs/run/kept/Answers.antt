@@ -10,18 +10,14 @@ stage3-requires c =
 pub judged-requires : goal.judged-requires
 judged-requires c =
     let (fits, f) = c.requires in
-    let q = c.stage3 in
-    (fits, judged_fits fits f q.new.0 q.auto.0 q.result q.ensures c.in-Passed.is)
+    (fits, judged_fits fits f c.stage3.new.heads c.stage3.auto.heads c.stage3.result c.stage3.ensures c.in-Passed.is)
 
 pub returns-in-Passed : goal.returns-in-Passed
 returns-in-Passed c =
-    let q = c.stage3 in
-    let j = c.judged in
-    kept_on c.requires.0 c.requires.1 q.new.0 q.auto.0 q.result q.ensures c.args.how c.args.area.now
-    c.in-Passed.is j.result j.new.0 j.ensures
+    kept_on c.requires.0 c.requires.1 c.stage3.new.heads c.stage3.auto.heads c.stage3.result c.stage3.ensures c.args.how c.args.area.now
+    c.in-Passed.is c.judged.result c.judged.new.0 c.judged.ensures
 
 pub returns-in-Refused : goal.returns-in-Refused
 returns-in-Refused c how st =
-    let q = c.stage3 in
-    kept_off c.requires.0 c.requires.1 q.new.0 q.auto.0 q.result q.ensures how c.args.area.now
+    kept_off c.requires.0 c.requires.1 c.stage3.new.heads c.stage3.auto.heads c.stage3.result c.stage3.ensures how c.args.area.now
     c.in-Refused.is

@@ -11,9 +11,8 @@ stage2-requires c =
 
 pub kept-requires : goal.kept-requires
 kept-requires c =
-    let q = c.stage2 in
-    let l : 11 * (counts c.args.image.now).n ≤ length q.new.0 = rw q.auto.0 c.requires.2 in
-    (c.requires.0, read_fits q.ensures c.requires.1 l c.in-Passed.is)
+    let l : 11 * (counts c.args.image.now).n ≤ length c.stage2.new.words = rw c.stage2.auto.words c.requires.2 in
+    (c.requires.0, read_fits c.stage2.ensures c.requires.1 l c.in-Passed.is)
 
 pub returns-in-Passed : goal.returns-in-Passed
 returns-in-Passed c how st =

@@ -18,12 +18,11 @@ put_concatenation-requires c =
 pub loop-i-preserved : goal.loop-i-preserved
 loop-i-preserved c =
     let a = c.args in
-    let l = c.loop-i in
     let t = c.loop-i-test.true in
-    let p = c.put_concatenation in (
+    (
       omega arith,
-      p.auto.0 ∙ l.invariant.1,
-      λ ds n h k. blocks_next a.area.now l.area _ l.i ds (omega arith) (l.invariant.2 ds n h k) (λ rest d here. p.ensures ds rest d h k here),
+      c.put_concatenation.auto.area ∙ c.loop-i.invariant.1,
+      λ ds n h k. blocks_next a.area.now c.loop-i.area _ c.loop-i.i ds (omega arith) (c.loop-i.invariant.2 ds n h k) (λ rest d here. c.put_concatenation.ensures ds rest d h k here),
     )
 
 pub shape_of-area : goal.shape_of-area
@@ -32,6 +31,5 @@ shape_of-area c = c.loop-i.invariant.1
 pub returns : goal.returns
 returns c =
     let a = c.args in
-    let l = c.loop-i in
     let t = c.loop-i-test.false in
-    λ ds n h k. blocks_end a.area.now l.area l.i ds (omega arith) (l.invariant.2 ds n h k)
+    λ ds n h k. blocks_end a.area.now c.loop-i.area c.loop-i.i ds (omega arith) (c.loop-i.invariant.2 ds n h k)

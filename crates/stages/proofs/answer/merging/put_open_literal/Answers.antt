@@ -37,21 +37,19 @@ pub put_open-requires : goal.put_open-requires
 put_open-requires c =
     let a = c.args in
     let (d, ms, is, fixed, room, other, rests, kind) = c.requires in
-    let l = c.lengthen-o in
     let at = row_at is in
     let b = bits_at a.image.now a.words.now a.k d at (sym (kind_at a.image.now a.words.now a.k d at) ∙ kind) in (
       row_fits is,
-      open_room d a.image.now a.words.now a.k at b ms a.s l.result a.area.now _ rests fixed.bits room
-          l.ensures l.auto.0,
+      open_room d a.image.now a.words.now a.k at b ms a.s c.lengthen-o.result a.area.now _ rests fixed.bits room
+          c.lengthen-o.ensures c.lengthen-o.auto.area,
     )
 
 pub returns : goal.returns
 returns c =
     let a = c.args in
-    let l = c.lengthen-o in
     λ rests d is fixed other kind.
     let at = row_at is in
     let one = sym (kind_at a.image.now a.words.now a.k d at) ∙ kind in
     let b = bits_at a.image.now a.words.now a.k d at one in
-    open_other d a.image.now a.words.now a.k at b a.s l.result c.behind.result a.area.now _ _
-    c.well_formed.0.0 rests one l.ensures c.put_open.ensures c.behind.ensures
+    open_other d a.image.now a.words.now a.k at b a.s c.lengthen-o.result c.behind.result a.area.now _ _
+    c.well_formed.0.0 rests one c.lengthen-o.ensures c.put_open.ensures c.behind.ensures

@@ -23,11 +23,10 @@ put_open_literal-requires c =
 pub returns-then-flags-eq1 : goal.returns-then-flags-eq1
 returns-then-flags-eq1 c =
     let a = c.args in
-    let k = c.close-c in
     let (_, ms, _, _, room, _) = c.requires in
-    let (_, rests) = closed_rests a.s k.result a.area.now _ _ k.ensures room in
+    let (_, rests) = closed_rests a.s c.close-c.result a.area.now _ _ c.close-c.ensures room in
     λ d is fixed other.
-    other_one d a.s k.result c.put_open_literal.result a.area.now _ _ k.ensures
+    other_one d a.s c.close-c.result c.put_open_literal.result a.area.now _ _ c.close-c.ensures
     (c.put_open_literal.ensures rests d is fixed other c.if-flags-eq1.true)
 
 pub put_plain-requires : goal.put_plain-requires
@@ -40,13 +39,12 @@ put_plain-requires c =
 pub returns : goal.returns
 returns c =
     let a = c.args in
-    let k = c.close-c in
     let (_, ms, _, _, room, _) = c.requires in
-    let (_, rests) = closed_rests a.s k.result a.area.now _ _ k.ensures room in
-    let long = k.auto.0 in
+    let (_, rests) = closed_rests a.s c.close-c.result a.area.now _ _ c.close-c.ensures room in
+    let long = c.close-c.auto.area in
     let small = c.well_formed.0.0 in
     λ d is fixed other.
     let at = row_at is in
-    other_one d a.s k.result c.behind.result a.area.now _ _ k.ensures
-    (plain_other d a.image.now a.words.now a.k at k.result c.behind.result _ _ (omega arith) rests
+    other_one d a.s c.close-c.result c.behind.result a.area.now _ _ c.close-c.ensures
+    (plain_other d a.image.now a.words.now a.k at c.close-c.result c.behind.result _ _ (omega arith) rests
     (λ e. c.if-flags-eq1.false (kind_at a.image.now a.words.now a.k d at ∙ e)) c.put_plain.ensures c.behind.ensures)

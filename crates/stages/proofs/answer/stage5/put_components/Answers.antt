@@ -25,28 +25,25 @@ pub simplify-w-requires : goal.simplify-w-requires
 simplify-w-requires c =
     let a = c.args in
     let p = c.requires in
-    let l = c.loop-i in
-    turn_fits a.image.now a.words.now a.c (length (joined p.u)) a.area.now a.from (merged_all p.u) l.i l.k.0 l.area l.w
-    c.components_of-len.result c.loop-i-test.true p.few c.components_of-len.ensures (l.invariant.2 p.u p.count p.sizes_are p.kept p.fixed p.room)
+    turn_fits a.image.now a.words.now a.c (length (joined p.u)) a.area.now a.from (merged_all p.u) c.loop-i.i c.loop-i.k.0 c.loop-i.area c.loop-i.w
+    c.components_of-len.result c.loop-i-test.true p.few c.components_of-len.ensures (c.loop-i.invariant.2 p.u p.count p.sizes_are p.kept p.fixed p.room)
 
 pub overflow_add-k : goal.overflow_add-k
 overflow_add-k c =
     let a = c.args in
     let p = c.requires in
-    let l = c.loop-i in
-    let h = turn_few a.image.now a.words.now a.c (length (joined p.u)) a.area.now a.from (merged_all p.u) l.i l.k.0 l.area l.w
-    c.components_of-len.result c.loop-i-test.true p.few c.components_of-len.ensures (l.invariant.2 p.u p.count p.sizes_are p.kept p.fixed p.room) in
+    let h = turn_few a.image.now a.words.now a.c (length (joined p.u)) a.area.now a.from (merged_all p.u) c.loop-i.i c.loop-i.k.0 c.loop-i.area c.loop-i.w
+    c.components_of-len.result c.loop-i-test.true p.few c.components_of-len.ensures (c.loop-i.invariant.2 p.u p.count p.sizes_are p.kept p.fixed p.room) in
     omega arith
 
 pub loop-i-preserved : goal.loop-i-preserved
 loop-i-preserved c =
     let a = c.args in
-    let l = c.loop-i in
     let h = c.loop-i-test.true in (
       omega arith,
-      c.simplify-w.auto.1.0 ∙ l.invariant.1,
-      λ u n s k f r. placing_next a.image.now a.words.now a.c (length (joined u)) a.area.now a.from (merged_all u) l.i l.k.0 l.area l.w
-          c.components_of-len.result c.simplify-w.result _ h c.components_of-len.ensures c.simplify-w.ensures (l.invariant.2 u n s k f r),
+      c.simplify-w.auto.1.0 ∙ c.loop-i.invariant.1,
+      λ u n s k f r. placing_next a.image.now a.words.now a.c (length (joined u)) a.area.now a.from (merged_all u) c.loop-i.i c.loop-i.k.0 c.loop-i.area c.loop-i.w
+          c.components_of-len.result c.simplify-w.result _ h c.components_of-len.ensures c.simplify-w.ensures (c.loop-i.invariant.2 u n s k f r),
     )
 
 pub shape_of-area : goal.shape_of-area
@@ -55,6 +52,5 @@ shape_of-area c = c.loop-i.invariant.1
 pub returns : goal.returns
 returns c =
     let a = c.args in
-    let l = c.loop-i in
-    λ u n s k f r. placing_end a.image.now a.words.now a.c (length (joined u)) a.area.now a.from (merged_all u) l.i l.k.0 l.area l.w
-    c.loop-i-test.false (l.invariant.2 u n s k f r)
+    λ u n s k f r. placing_end a.image.now a.words.now a.c (length (joined u)) a.area.now a.from (merged_all u) c.loop-i.i c.loop-i.k.0 c.loop-i.area c.loop-i.w
+    c.loop-i-test.false (c.loop-i.invariant.2 u n s k f r)

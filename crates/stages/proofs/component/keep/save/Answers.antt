@@ -30,7 +30,7 @@ save_words-requires c = simp length-set (omega arith)
 pub save_words-requires-2 : goal.save_words-requires-2
 save_words-requires-2 c =
     let a = c.args in
-    let k = c.save_words.auto.words ∙ four_length a.words.now a.at a.r in
+    let k = c.save_words.auto.words ∙ four_length a.words.now a.«at» a.r in
     omega (arith, k, c.requires)
 
 -- src/component/keep.rt:152:5
@@ -42,7 +42,7 @@ bounds-words-at-5 c =
 -- src/component/keep.rt:140:1
 pub shape_of-words : goal.shape_of-words
 shape_of-words c =
-    length-set c.save_words-2.new.words (c.args.at + 10)
+    length-set c.save_words-2.new.words (c.args.«at» + 10)
     c.args.r.literal
     ∙ c.save_words-2.auto.words ∙ long c
 
@@ -50,4 +50,4 @@ shape_of-words c =
 pub returns : goal.returns
 returns c =
     let a = c.args in
-    saved a.words.now _ _ a.at a.r c.save_words.ensures c.save_words-2.ensures
+    saved a.words.now _ _ a.«at» a.r c.save_words.ensures c.save_words-2.ensures

@@ -62,8 +62,8 @@ single_bit-requires c =
     let a = c.args in
     let p = c.requires in
     let b = bracket_of a.image.now a.tree a.run a.last.0 p.1.0 p.1.1 p.1.2 p.1.3 p.1.4 in
-    let q = c.parse_range in (
-      single_fits a.image.now a.tree a.run a.last.0 p.0.0 p.0.1 p.1.0 p.1.1 p.1.2 p.1.3 b q.result q.ensures
+    (
+      single_fits a.image.now a.tree a.run a.last.0 p.0.0 p.0.1 p.1.0 p.1.1 p.1.2 p.1.3 b c.parse_range.result c.parse_range.ensures
           c.in-NoRange.is,
       (b.from + 1, inside_runs a.image.now a.tree a.run a.last.0 p.0.0 p.0.1 p.1.0 p.1.1 p.1.2 p.1.3 b),
     )
@@ -80,30 +80,27 @@ pub returns-in-Ok : goal.returns-in-Ok
 returns-in-Ok c base s literal mid i few e =
     let a = c.args in
     let b = bracket_of a.image.now a.tree a.run a.last.0 base s mid i e in
-    let q = c.parse_range in
     let l = typed_laid a.image.now a.tree a.run a.last.0 base s mid i b _ _ c.start_of-s.ensures c.start_of-t.ensures in
     let is = items i.inside_at i.inside in
-    bracket_range a.image.now a.tree base literal mid (bits_at a.image.now literal a.w) e.some _ q.result is
-    (q.ensures base (b.from + 1) is b.inside) _ c.in-Ok.is
+    bracket_range a.image.now a.tree base literal mid (bits_at a.image.now literal a.w) e.some _ c.parse_range.result is
+    (c.parse_range.ensures base (b.from + 1) is b.inside) _ c.in-Ok.is
     (λ fits. c.type_inv.ensures base literal a.run.r.0 a.last.0 mid few e.some l fits)
 
 pub returns-in-NoRange : goal.returns-in-NoRange
 returns-in-NoRange c base s literal mid i few e =
     let a = c.args in
     let b = bracket_of a.image.now a.tree a.run a.last.0 base s mid i e in
-    let q = c.parse_range in
     let l = typed_laid a.image.now a.tree a.run a.last.0 base s mid i b _ _ c.start_of-s.ensures c.start_of-t.ensures in
     let is = items i.inside_at i.inside in
     let u = c.single_bit.ensures base (b.from + 1) is b.inside in
-    bracket_single a.image.now a.tree base literal mid (bits_at a.image.now literal a.w) e.some _ q.result is
-    (q.ensures base (b.from + 1) is b.inside) c.single_bit.result c.in-NoRange.is u.0
+    bracket_single a.image.now a.tree base literal mid (bits_at a.image.now literal a.w) e.some _ c.parse_range.result is
+    (c.parse_range.ensures base (b.from + 1) is b.inside) c.single_bit.result c.in-NoRange.is u.0
     (c.typed-in-NoRange.ensures base literal a.run.r.0 a.last.0 mid few e.some l u.1)
 
 pub returns-in-Refused : goal.returns-in-Refused
 returns-in-Refused c base s literal mid i few e =
     let a = c.args in
     let b = bracket_of a.image.now a.tree a.run a.last.0 base s mid i e in
-    let q = c.parse_range in
     let is = items i.inside_at i.inside in
-    bracket_refused a.image.now a.tree base literal mid (bits_at a.image.now literal a.w) e.some _ q.result is
-    (q.ensures base (b.from + 1) is b.inside) _ c.in-Refused.is refl
+    bracket_refused a.image.now a.tree base literal mid (bits_at a.image.now literal a.w) e.some _ c.parse_range.result is
+    (c.parse_range.ensures base (b.from + 1) is b.inside) _ c.in-Refused.is refl

@@ -24,37 +24,32 @@ loop-at-init c =
 pub behind-next-requires : goal.behind-next-requires
 behind-next-requires c =
     let a = c.args in
-    let v = c.loop-at in
-    record_fits a.image.now a.tree a.stop.0 a.«end».0 v.at.0 v.s.0 v.invariant.0 c.loop-at-test.true
+    record_fits a.image.now a.tree a.stop.0 a.«end».0 c.loop-at.«at».0 c.loop-at.s.0 c.loop-at.invariant.0 c.loop-at-test.true
 
 pub start_or-t-requires : goal.start_or-t-requires
 start_or-t-requires c =
     let a = c.args in
-    let v = c.loop-at in
-    let n = runs_next a.image.now a.tree a.stop.0 a.«end».0 v.at.0 v.s.0 c.behind-next.result.0 _ v.invariant.0 c.loop-at-test.true c.behind-next.ensures refl in
+    let n = runs_next a.image.now a.tree a.stop.0 a.«end».0 c.loop-at.«at».0 c.loop-at.s.0 c.behind-next.result.0 _ c.loop-at.invariant.0 c.loop-at-test.true c.behind-next.ensures refl in
     (n.stop_order, λ l. (record_fits a.image.now a.tree a.stop.0 a.«end».0 c.behind-next.result.0 _ n.runs l).0)
 
 pub single-requires : goal.single-requires
 single-requires c =
     let a = c.args in
-    let v = c.loop-at in
-    let n = runs_next a.image.now a.tree a.stop.0 a.«end».0 v.at.0 v.s.0 c.behind-next.result.0 c.start_or-t.result.0 v.invariant.0 c.loop-at-test.true c.behind-next.ensures c.start_or-t.ensures in
+    let n = runs_next a.image.now a.tree a.stop.0 a.«end».0 c.loop-at.«at».0 c.loop-at.s.0 c.behind-next.result.0 c.start_or-t.result.0 c.loop-at.invariant.0 c.loop-at-test.true c.behind-next.ensures c.start_or-t.ensures in
     let o = n.text_fits in
-    let f = v.invariant.0.text_fits in
+    let f = c.loop-at.invariant.0.text_fits in
     (n.text_order, omega (arith, o, f))
 
 pub returns-then-seen-stop : goal.returns-then-seen-stop
 returns-then-seen-stop c = λ base s' is h.
     let a = c.args in
-    let v = c.loop-at in
-    seeing_found a.image.now a.tree base a.stop.0 a.«end».0 a.r.0 v.at.0 v.s.0 _ _ _ c.loop-at-test.true c.behind-next.ensures
-    c.start_or-t.ensures c.single.ensures is v.seen.0 (v.invariant.1 base s' is h) c.if-single-eq58.false c.if-seen-stop.true
+    seeing_found a.image.now a.tree base a.stop.0 a.«end».0 a.r.0 c.loop-at.«at».0 c.loop-at.s.0 _ _ _ c.loop-at-test.true c.behind-next.ensures
+    c.start_or-t.ensures c.single.ensures is c.loop-at.seen.0 (c.loop-at.invariant.1 base s' is h) c.if-single-eq58.false c.if-seen-stop.true
 
 pub loop-at-smaller-then-single-eq58 : goal.loop-at-smaller-then-single-eq58
 loop-at-smaller-then-single-eq58 c =
     let a = c.args in
-    let v = c.loop-at in
-    let n = runs_next a.image.now a.tree a.stop.0 a.«end».0 v.at.0 v.s.0 c.behind-next.result.0 c.start_or-t.result.0 v.invariant.0 c.loop-at-test.true c.behind-next.ensures c.start_or-t.ensures in
+    let n = runs_next a.image.now a.tree a.stop.0 a.«end».0 c.loop-at.«at».0 c.loop-at.s.0 c.behind-next.result.0 c.start_or-t.result.0 c.loop-at.invariant.0 c.loop-at-test.true c.behind-next.ensures c.start_or-t.ensures in
     let x = n.order in
     let y = n.stop_order in
     omega (arith, x, y)
@@ -62,18 +57,16 @@ loop-at-smaller-then-single-eq58 c =
 pub loop-at-preserved-then-single-eq58 : goal.loop-at-preserved-then-single-eq58
 loop-at-preserved-then-single-eq58 c =
     let a = c.args in
-    let v = c.loop-at in
-    let n = runs_next a.image.now a.tree a.stop.0 a.«end».0 v.at.0 v.s.0 c.behind-next.result.0 c.start_or-t.result.0 v.invariant.0 c.loop-at-test.true c.behind-next.ensures c.start_or-t.ensures in (
+    let n = runs_next a.image.now a.tree a.stop.0 a.«end».0 c.loop-at.«at».0 c.loop-at.s.0 c.behind-next.result.0 c.start_or-t.result.0 c.loop-at.invariant.0 c.loop-at-test.true c.behind-next.ensures c.start_or-t.ensures in (
       n.runs,
-      λ base s' is h. seeing_colon a.image.now a.tree base a.stop.0 a.«end».0 a.r.0 v.at.0 v.s.0 _ _ _ c.loop-at-test.true c.behind-next.ensures
-          c.start_or-t.ensures c.single.ensures is v.seen.0 _ (v.invariant.1 base s' is h) c.if-single-eq58.true c.opened-seen.ensures,
+      λ base s' is h. seeing_colon a.image.now a.tree base a.stop.0 a.«end».0 a.r.0 c.loop-at.«at».0 c.loop-at.s.0 _ _ _ c.loop-at-test.true c.behind-next.ensures
+          c.start_or-t.ensures c.single.ensures is c.loop-at.seen.0 _ (c.loop-at.invariant.1 base s' is h) c.if-single-eq58.true c.opened-seen.ensures,
     )
 
 pub loop-at-smaller : goal.loop-at-smaller
 loop-at-smaller c =
     let a = c.args in
-    let v = c.loop-at in
-    let n = runs_next a.image.now a.tree a.stop.0 a.«end».0 v.at.0 v.s.0 c.behind-next.result.0 c.start_or-t.result.0 v.invariant.0 c.loop-at-test.true c.behind-next.ensures c.start_or-t.ensures in
+    let n = runs_next a.image.now a.tree a.stop.0 a.«end».0 c.loop-at.«at».0 c.loop-at.s.0 c.behind-next.result.0 c.start_or-t.result.0 c.loop-at.invariant.0 c.loop-at-test.true c.behind-next.ensures c.start_or-t.ensures in
     let x = n.order in
     let y = n.stop_order in
     omega (arith, x, y)
@@ -81,15 +74,13 @@ loop-at-smaller c =
 pub loop-at-preserved : goal.loop-at-preserved
 loop-at-preserved c =
     let a = c.args in
-    let v = c.loop-at in
-    let n = runs_next a.image.now a.tree a.stop.0 a.«end».0 v.at.0 v.s.0 c.behind-next.result.0 c.start_or-t.result.0 v.invariant.0 c.loop-at-test.true c.behind-next.ensures c.start_or-t.ensures in (
+    let n = runs_next a.image.now a.tree a.stop.0 a.«end».0 c.loop-at.«at».0 c.loop-at.s.0 c.behind-next.result.0 c.start_or-t.result.0 c.loop-at.invariant.0 c.loop-at-test.true c.behind-next.ensures c.start_or-t.ensures in (
       n.runs,
-      λ base s' is h. seeing_other a.image.now a.tree base a.stop.0 a.«end».0 a.r.0 v.at.0 v.s.0 _ _ _ c.loop-at-test.true c.behind-next.ensures
-          c.start_or-t.ensures c.single.ensures is v.seen.0 (v.invariant.1 base s' is h) c.if-single-eq58.false c.if-seen-stop.false,
+      λ base s' is h. seeing_other a.image.now a.tree base a.stop.0 a.«end».0 a.r.0 c.loop-at.«at».0 c.loop-at.s.0 _ _ _ c.loop-at-test.true c.behind-next.ensures
+          c.start_or-t.ensures c.single.ensures is c.loop-at.seen.0 (c.loop-at.invariant.1 base s' is h) c.if-single-eq58.false c.if-seen-stop.false,
     )
 
 pub returns : goal.returns
 returns c = λ base s' is h.
     let a = c.args in
-    let v = c.loop-at in
-    seeing_end a.image.now a.tree base a.stop.0 a.«end».0 a.r.0 is v.seen.0 v.at.0 v.s.0 (v.invariant.1 base s' is h) c.loop-at-test.false
+    seeing_end a.image.now a.tree base a.stop.0 a.«end».0 a.r.0 is c.loop-at.seen.0 c.loop-at.«at».0 c.loop-at.s.0 (c.loop-at.invariant.1 base s' is h) c.loop-at-test.false

@@ -7,16 +7,11 @@ use Rattle.stages.proofs.concatenation.stage4.joined_at.Goals as goal
 pub returns-in-Ok : goal.returns-in-Ok
 returns-in-Ok c = λ image ds rest d h g e f.
     let s = c.args in
-    let p = c.p-1 in
-    let j = c.join_width in
-    let m = c.summary_at in
-    c.after.ensures ∙ ap (λ q. and_then q (ok (overall_of p.given.0.0))) (c.check_source.ensures image d f)
-    ∙ turn_on s.bare s.i d (overall_of s.o) (overall_of p.given.0.0)
-    (sym (ap answer_of p.given.1) ∙ j.ensures d (m.ensures.1 ds rest d h g e))
+    c.after.ensures ∙ ap (λ q. and_then q (ok (overall_of c.in-Ok.p))) (c.check_source.ensures image d f)
+    ∙ turn_on s.bare s.i d (overall_of s.o) (overall_of c.in-Ok.p)
+    (sym (ap answer_of c.in-Ok.is) ∙ c.join_width.ensures d (c.summary_at.ensures.1 ds rest d h g e))
 
 pub returns-in-Refused : goal.returns-in-Refused
 returns-in-Refused c = λ image ds rest d h g e f.
     let s = c.args in
-    let j = c.join_width in
-    let m = c.summary_at in
-    turn_off s.bare s.i d (overall_of s.o) _ (sym (ap answer_of c.in-Refused.is) ∙ j.ensures d (m.ensures.1 ds rest d h g e))
+    turn_off s.bare s.i d (overall_of s.o) _ (sym (ap answer_of c.in-Refused.is) ∙ c.join_width.ensures d (c.summary_at.ensures.1 ds rest d h g e))

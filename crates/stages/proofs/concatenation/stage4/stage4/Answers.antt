@@ -7,14 +7,11 @@ use Rattle.stages.proofs.concatenation.stage4.stage4.Goals as goal
 pub returns-in-Ok : goal.returns-in-Ok
 returns-in-Ok c = λ ds j.
     let s = c.args in
-    let o = c.o-1 in
-    let b = c.both in
-    let loop = c.overall_of.ensures ds j ∙ ap (λ t. overall_from t 0 ds (overall_start ds)) b.ensures in
-    c.checks.ensures ds j ∙ ends s.mode s.given ds (overall_of o.given.0.0) (sym loop ∙ ap answer_of o.given.1)
+    let loop = c.overall_of.ensures ds j ∙ ap (λ t. overall_from t 0 ds (overall_start ds)) c.both.ensures in
+    c.checks.ensures ds j ∙ ends s.mode s.given ds (overall_of c.in-Ok.o) (sym loop ∙ ap answer_of c.in-Ok.is)
 
 pub returns-in-Refused : goal.returns-in-Refused
 returns-in-Refused c = λ ds j.
     let s = c.args in
-    let b = c.both in
-    let loop = c.overall_of.ensures ds j ∙ ap (λ t. overall_from t 0 ds (overall_start ds)) b.ensures in
+    let loop = c.overall_of.ensures ds j ∙ ap (λ t. overall_from t 0 ds (overall_start ds)) c.both.ensures in
     refuses s.mode s.given ds _ (sym loop ∙ ap answer_of c.in-Refused.is)

@@ -13,15 +13,13 @@ part_of-requires c =
 pub returns-after-negative : goal.returns-after-negative
 returns-after-negative c image tree base between n =
     let a = c.args in
-    let f = c.if-negative in
     kept_number image tree base a.s.0 a.p.0 a.t.0 a.l a.negative between c.requires.0 c.requires.1 n c.part_of.result c.in-Some.x
-    f.part_of.0 c.in-Some.is (omega arith) (omega arith)
-    (⊎_elim (λ w. from_minus a.p.0 f.part_of.0 a.negative w.0.taken (ap (λ (x : PText). x.0) w.1))
-    (λ w. from_plus a.p.0 f.part_of.0 a.negative w.0.left (ap (λ (x : PText). x.0) w.1)) f.came) c.part_of.ensures
+    c.if-negative.part_of.0 c.in-Some.is (omega arith) (omega arith)
+    (⊎_elim (λ w. from_minus a.p.0 c.if-negative.part_of.0 a.negative w.0.taken (ap (λ (x : PText). x.0) w.1))
+    (λ w. from_plus a.p.0 c.if-negative.part_of.0 a.negative w.0.left (ap (λ (x : PText). x.0) w.1)) c.if-negative.came) c.part_of.ensures
 
 pub returns-in-None : goal.returns-in-None
 returns-in-None c image tree base between n =
     let a = c.args in
-    let p = c.part_of-in-None in
-    kept_whole image tree base a.s.0 a.p.0 a.t.0 a.l a.negative between c.requires.0 c.requires.1 n p.result c.new_s.result
-    c.in-None.is p.ensures c.new_s.ensures
+    kept_whole image tree base a.s.0 a.p.0 a.t.0 a.l a.negative between c.requires.0 c.requires.1 n c.part_of-in-None.result c.new_s.result
+    c.in-None.is c.part_of-in-None.ensures c.new_s.ensures

@@ -61,29 +61,27 @@ loop-j-smaller c =
 
 pub loop-j-preserved : goal.loop-j-preserved
 loop-j-preserved c =
-    let v = c.loop-j in
     let s = c.args in
     let x = s.self in
     let l = c.loop-j-test.true in
-    let now = eqb (get_or s.words.now (11 * (x.first.0 + v.j)) 0 / 32 % 2) 1 in
-    let is : c.if-not-now.m ≡ v.m + one_more_if v.was now =
-    added v.was now c.if-was.t-24 v.m c.if-not-now.m
+    let now = eqb (get_or s.words.now (11 * (x.first.0 + c.loop-j.j)) 0 / 32 % 2) 1 in
+    let is : c.if-not-now.m ≡ c.loop-j.m + one_more_if c.loop-j.was now =
+    added c.loop-j.was now c.if-was.t-24 c.loop-j.m c.if-not-now.m
     (⊎_elim (λ w. inl (w.0.taken, w.1)) (λ w. inr (w.0.left, w.1 ∙ w.0.left)) c.if-was.branch)
     (⊎_elim (λ w. inl (w.0.taken, w.1)) (λ w. inr (w.0.left, w.1)) c.if-not-now.branch) in (
       omega (arith, l),
-      rw is (one_at_most v.was now v.m v.j v.invariant.1),
+      rw is (one_at_most c.loop-j.was now c.loop-j.m c.loop-j.j c.loop-j.invariant.1),
       λ image cs e h.
-          count_on image s.words.now x.first.0 v.j cs (stored image s.words.now cs x.first.0 v.j x.len h e l) v.m
-          c.if-not-now.m v.was is
-          (v.invariant.2 image cs e h),
+          count_on image s.words.now x.first.0 c.loop-j.j cs (stored image s.words.now cs x.first.0 c.loop-j.j x.len h e l) c.loop-j.m
+          c.if-not-now.m c.loop-j.was is
+          (c.loop-j.invariant.2 image cs e h),
     )
 
 pub returns : goal.returns
 returns c =
-    let v = c.loop-j in
-    let b : v.m ≤ v.j = v.invariant.1 in
-    let a : v.j ≤ c.args.self.len = v.invariant.0 in (
+    let b : c.loop-j.m ≤ c.loop-j.j = c.loop-j.invariant.1 in
+    let a : c.loop-j.j ≤ c.args.self.len = c.loop-j.invariant.0 in (
       omega (arith, a, b),
-      λ image cs e h. count_end cs v.j c.args.self.len v.m v.was e c.loop-j-test.false
-          (v.invariant.2 image cs e h),
+      λ image cs e h. count_end cs c.loop-j.j c.args.self.len c.loop-j.m c.loop-j.was e c.loop-j-test.false
+          (c.loop-j.invariant.2 image cs e h),
     )
