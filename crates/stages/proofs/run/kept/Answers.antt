@@ -15,7 +15,7 @@ judged-requires c =
 pub returns-in-Passed : goal.returns-in-Passed
 returns-in-Passed c =
     kept_on c.requires.0 c.requires.1 c.stage3.new.heads c.stage3.auto.heads c.stage3.result c.stage3.ensures c.args.how c.args.area.now
-    c.in-Passed.is c.judged.result c.judged.new.0 c.judged.ensures
+    c.in-Passed.is c.judged.result c.judged.new.area c.judged.ensures
 
 pub returns-in-Refused : goal.returns-in-Refused
 returns-in-Refused c how st =

@@ -11,4 +11,4 @@ returns c =
     let o = c.answered-outcome in
     let how = with_default a.mode a.default.now in
     in_force_lem a.image.now (all_bytes a.image.now (λ i. (c.shared_slice_known-1.given i).fits)) how a.area.now
-    (outcome_of o.result) o.new.1.1.0 (o.ensures how (record { mode = refl; held = not_empty a.default.now })) c.told_by-start.result c.told_by-start.ensures
+    (outcome_of o.result) o.new.area (o.ensures how (record { mode = refl; held = not_empty a.default.now })) c.told_by-start.result c.told_by-start.ensures

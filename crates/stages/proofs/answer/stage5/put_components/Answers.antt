@@ -41,7 +41,7 @@ loop-i-preserved c =
     let a = c.args in
     let h = c.loop-i-test.true in (
       omega arith,
-      c.simplify-w.auto.1.0 ∙ c.loop-i.invariant.1,
+      c.simplify-w.auto.area ∙ c.loop-i.invariant.1,
       λ u n s k f r. placing_next a.image.now a.words.now a.c (length (joined u)) a.area.now a.from (merged_all u) c.loop-i.i c.loop-i.k.0 c.loop-i.area c.loop-i.w
           c.components_of-len.result c.simplify-w.result _ h c.components_of-len.ensures c.simplify-w.ensures (c.loop-i.invariant.2 u n s k f r),
     )

@@ -2,14 +2,6 @@ use Rattle.std.proofs.Common.{◌≡◌, ◌+◌, length, ◌∙◌, arith, leng
 use Rattle.stages.proofs.component.keep.Saving.{four_length, saved}
 use Rattle.stages.proofs.component.keep.save.Goals as goal
 
--- the length after the start's words
-long : (c : lts.After-slice-known3 (save-words-reads.Asked, save-words-reads.Learnt) reads.Pre reads.Post)
-    → length c.before.before.before.before.before.before.save_words.new.0
-    ≡ length c.before.before.before.before.before.before.before.before.before.before.before.args.words.now
-long c =
-    let a = c.before.before.before.before.before.before.before.before.before.before.before.args in
-    c.before.before.before.before.before.before.save_words.auto.0 ∙ four_length a.words.now a.at a.r
-
 -- src/component/keep.rt:147:5
 pub bounds-words-at-2 : goal.bounds-words-at-2
 bounds-words-at-2 c = simp length-set (omega arith)
@@ -36,7 +28,7 @@ save_words-requires-2 c =
 -- src/component/keep.rt:152:5
 pub bounds-words-at-5 : goal.bounds-words-at-5
 bounds-words-at-5 c =
-    let k = c.save_words-2.auto.words ∙ long c in
+    let k = c.save_words-2.auto.words ∙ c.save_words.auto.words ∙ four_length c.args.words.now c.args.«at» c.args.r in
     omega (arith, k, c.requires)
 
 -- src/component/keep.rt:140:1
@@ -44,7 +36,7 @@ pub shape_of-words : goal.shape_of-words
 shape_of-words c =
     length-set c.save_words-2.new.words (c.args.«at» + 10)
     c.args.r.literal
-    ∙ c.save_words-2.auto.words ∙ long c
+    ∙ c.save_words-2.auto.words ∙ c.save_words.auto.words ∙ four_length c.args.words.now c.args.«at» c.args.r
 
 -- src/component/keep.rt:140:1
 pub returns : goal.returns

@@ -84,7 +84,7 @@ returns-in-Ok c base s literal mid i few e =
     let is = items i.inside_at i.inside in
     bracket_range a.image.now a.tree base literal mid (bits_at a.image.now literal a.w) e.some _ c.parse_range.result is
     (c.parse_range.ensures base (b.from + 1) is b.inside) _ c.in-Ok.is
-    (λ fits. c.type_inv.ensures base literal a.run.r.0 a.last.0 mid few e.some l fits)
+    (λ fits. c.typed.ensures base literal a.run.r.0 a.last.0 mid few e.some l fits)
 
 pub returns-in-NoRange : goal.returns-in-NoRange
 returns-in-NoRange c base s literal mid i few e =

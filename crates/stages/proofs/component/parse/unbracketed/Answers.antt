@@ -25,7 +25,7 @@ returns-in-NoRange c base s literal is few h =
     let f = q.1.1.text_fits in
     let u = unbounded_is a.image.now a.tree base _ c.unbounded.ensures (omega (arith, f)) in
     plain_typed a.image.now a.tree base literal is (bits_at a.image.now literal a.w) l.0 _ c.parse_range.result (c.parse_range.ensures base s is h) c.unbounded.result
-    c.in-NoRange.is u.0 (c.type_inv.ensures base literal a.run.r.0 a.run.stop.0 is few l.0 l.1 u.1)
+    c.in-NoRange.is u.0 (c.typed.ensures base literal a.run.r.0 a.run.stop.0 is few l.0 l.1 u.1)
 
 pub returns-in-Refused : goal.returns-in-Refused
 returns-in-Refused c base s literal is few h =

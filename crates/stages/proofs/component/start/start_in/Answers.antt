@@ -25,7 +25,7 @@ colon_in-requires c =
       p.1.0,
       before_runs a.image.now a.tree a.run.stop.0 a.run.«end».0 a.run.r.0 l.result.0 p.1.0 _ w
           (last_at a.image.now a.tree a.run.stop.0 a.run.«end».0 a.run.r.0 l.result.0 p.0 l.ensures w.base p.1.0 w.items w.laid)
-          c.before.before.before.«record».ensures.1.0,
+          c.record-e.ensures.1.0,
     )
 
 pub value_before-requires : goal.value_before-requires
@@ -36,7 +36,7 @@ value_before-requires c =
     let w = p.1.1 in
     let v = before_runs a.image.now a.tree a.run.stop.0 a.run.«end».0 a.run.r.0 l.result.0 p.1.0 _ w
     (last_at a.image.now a.tree a.run.stop.0 a.run.«end».0 a.run.r.0 l.result.0 p.0 l.ensures w.base p.1.0 w.items w.laid)
-    c.before.before.before.before.«record».ensures.1.0 in
+    c.record-e.ensures.1.0 in
     colon_at a.image.now a.tree v.base l.result.0 _ a.run.r.0 p.1.0 _ v.items v.laid (c.colon_in.ensures v.base p.1.0 v.items v.laid)
     (runs_order a.image.now a.tree l.result.0 _ a.run.r.0 p.1.0 v).0 v.fits v.text_fits v.small
 
@@ -44,7 +44,7 @@ pub returns-then-e-eq3 : goal.returns-then-e-eq3
 returns-then-e-eq3 c base s is h =
     let a = c.args in
     let l = c.last_item-last in
-    let e = c.before.before.before.before.before.«record».ensures in
+    let e = c.record-e.ensures in
     let t = last_at a.image.now a.tree a.run.stop.0 a.run.«end».0 a.run.r.0 l.result.0 c.requires.0 l.ensures base s is h in
     let m = before_laid a.image.now a.tree a.run.stop.0 a.run.«end».0 a.run.r.0 l.result.0 base s is t _ e.0 _ e.1.0 in
     subst (λ (x : List Item). PrefixReads a.image.now a.tree base a.k.0 a.run.r.0 (split_colon x) c.value_before.result)
@@ -64,7 +64,7 @@ pub returns : goal.returns
 returns c base s is h =
     let a = c.args in
     let l = c.last_item-last in
-    let e = c.before.before.before.before.before.«record».ensures in
+    let e = c.record-e.ensures in
     let t = last_at a.image.now a.tree a.run.stop.0 a.run.«end».0 a.run.r.0 l.result.0 c.requires.0 l.ensures base s is h in
     subst (λ (x : List Item). PrefixReads a.image.now a.tree base a.k.0 a.run.r.0 (split_colon x) c.value_before-2.result)
     (mid_plain a.image.now a.tree a.run.stop.0 a.run.«end».0 a.run.r.0 l.result.0 base s is t _ e.0 c.if-e-eq3.false)

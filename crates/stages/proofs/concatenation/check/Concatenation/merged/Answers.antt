@@ -6,6 +6,7 @@ use Rattle.stages.specs.component.Kept.{KeptFrom}
 use Rattle.stages.proofs.concatenation.check.Counts.{one_more_if, count_from}
 use Rattle.stages.proofs.concatenation.check.Turns.{added, one_at_most, count_start, count_on, count_end}
 use Rattle.stages.proofs.component.Rows.{stored}
+use Rattle.stages.proofs.concatenation.check.Concatenation.merged.Goals.{then-was, else-was, then-not-now, else-not-now}
 use Rattle.stages.proofs.concatenation.check.Concatenation.merged.Goals as goal
 
 pub loop-j-init : goal.loop-j-init
@@ -66,9 +67,9 @@ loop-j-preserved c =
     let l = c.loop-j-test.true in
     let now = eqb (get_or s.words.now (11 * (x.first.0 + c.loop-j.j)) 0 / 32 % 2) 1 in
     let is : c.if-not-now.m ≡ c.loop-j.m + one_more_if c.loop-j.was now =
-    added c.loop-j.was now c.if-was.t-24 c.loop-j.m c.if-not-now.m
-    (⊎_elim (λ w. inl (w.0.taken, w.1)) (λ w. inr (w.0.left, w.1 ∙ w.0.left)) c.if-was.branch)
-    (⊎_elim (λ w. inl (w.0.taken, w.1)) (λ w. inr (w.0.left, w.1)) c.if-not-now.branch) in (
+    added c.loop-j.was now _ c.loop-j.m c.if-not-now.m
+    (elim c.if-was.branch [ then-was w ↦ inl (w.if-was.true, w.t-24-is) | else-was w ↦ inr (w.if-was.false, w.t-24-is ∙ w.if-was.false) ])
+    (elim c.if-not-now.branch [ then-not-now w ↦ inl (w.if-not-now.true-raw, w.m-is) | else-not-now w ↦ inr (w.if-not-now.false-raw, w.m-is) ]) in (
       omega (arith, l),
       rw is (one_at_most c.loop-j.was now c.loop-j.m c.loop-j.j c.loop-j.invariant.1),
       λ image cs e h.
