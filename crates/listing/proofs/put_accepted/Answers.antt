@@ -1,6 +1,5 @@
 -- `listing::put_accepted` meets its contract.
 use mathlib.Core.Path.{sym}
-use native.Mathlib.Omega.{arith}
 use lib.Seq.{length-take-le}
 use Rattle.listing.proofs.Whole.{put_all}
 use borrow.Author.Rules.{rules}

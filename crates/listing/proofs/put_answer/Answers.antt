@@ -1,6 +1,5 @@
 -- `listing::put_answer` meets its contract.
 use Rattle.listing.proofs.Whole.{put_answer_of}
-use borrow.Author.Rules.{rules}
 use Rattle.listing.proofs.put_answer.Goals as goal
 
 pub returns : goal.returns

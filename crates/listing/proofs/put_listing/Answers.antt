@@ -1,6 +1,5 @@
 -- `listing::put_listing` meets its contract.
 use Rattle.listing.proofs.Whole.{put_accepted, put_refused}
-use borrow.Author.Rules.{rules}
 use Rattle.listing.proofs.put_listing.Goals as goal
 
 pub returns-in-Accepted : goal.returns-in-Accepted

@@ -1,7 +1,6 @@
 -- `listing::write_listing` meets its contract.
 use Rattle.listing.proofs.Whole.{wrote_whole, wrote_cut}
 use native.Mathlib.Omega.{arith}
-use borrow.Author.Rules.{rules}
 use Rattle.listing.proofs.write_listing.Goals as goal
 
 pub returns-then-n-out : goal.returns-then-n-out

@@ -1,9 +1,8 @@
 -- `listing::digits::next` meets its contract.
-use mathlib.Core.Path.{◌≡◌, sym, ◌∙◌}
+use mathlib.Core.Path.{sym, ◌∙◌}
 use Prim.Native.Nat.{◌+◌}
 use native.Mathlib.Omega.{arith}
 use Rattle.listing.specs.digits.Put.{capped_small, capped_large}
-use borrow.Author.Rules.{rules}
 use Rattle.listing.proofs.digits.next.Goals as goal
 
 pub returns-then-at-lt18446744073709551615 : goal.returns-then-at-lt18446744073709551615

@@ -1,6 +1,5 @@
 -- `listing::digits::put_byte` meets its contract.
 use native.Mathlib.Omega.{arith}
-use borrow.Author.Rules.{rules}
 use Rattle.listing.specs.digits.Put.{put_one, put_past}
 use Rattle.listing.proofs.digits.put_byte.Goals as goal
 

@@ -1,8 +1,6 @@
-use Prim.Native.Nat.{◌≤◌, ◌-◌}
 use native.Mathlib.Omega.{arith}
 use borrow.Author.Rules.{rules}
-use lib.ListN.{length, take}
-use Rattle.listing.specs.digits.Put.{Put, put_nothing, put_length, put_all, put_next}
+use Rattle.listing.specs.digits.Put.{put_nothing, put_length, put_all, put_next}
 use Rattle.listing.proofs.digits.put_bytes.Goals as goal
 
 pub loop-i-init : goal.loop-i-init

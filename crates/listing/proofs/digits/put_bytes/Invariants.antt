@@ -1,9 +1,7 @@
 -- `listing::digits::put_bytes` meets its contract. The invariant: the first i bytes are written.
 use Prim.Native.Nat.{◌≤◌, ◌-◌}
-use native.Mathlib.Omega.{arith}
-use borrow.Author.Rules.{rules}
 use lib.ListN.{length, take}
-use Rattle.listing.specs.digits.Put.{Put, put_nothing, put_length, put_all, put_next}
+use Rattle.listing.specs.digits.Put.{Put}
 use Rattle.listing.proofs.digits.put_bytes.Given as goal
 
 abbrev pub invariant-loop-i : goal.invariant-loop-i

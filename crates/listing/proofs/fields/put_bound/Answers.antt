@@ -1,6 +1,5 @@
 -- `listing::fields::put_bound` meets its contract.
 use Rattle.listing.proofs.Components.{put_bound_of}
-use borrow.Author.Rules.{rules}
 use Rattle.listing.proofs.fields.put_bound.Goals as goal
 
 pub returns : goal.returns

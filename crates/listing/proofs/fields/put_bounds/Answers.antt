@@ -1,6 +1,5 @@
 -- `listing::fields::put_bounds` meets its contract.
 use Rattle.listing.proofs.Components.{put_two}
-use borrow.Author.Rules.{rules}
 use Rattle.listing.proofs.fields.put_bounds.Goals as goal
 
 pub returns : goal.returns

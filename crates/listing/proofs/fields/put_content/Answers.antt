@@ -1,7 +1,6 @@
 -- `listing::fields::put_content` meets its contract.
 use native.Mathlib.Omega.{arith}
 use Rattle.listing.proofs.Components.{put_literal, put_variable, put_no_content}
-use borrow.Author.Rules.{rules}
 use Rattle.listing.proofs.fields.put_content.Goals as goal
 
 pub returns-then-kind-eq1 : goal.returns-then-kind-eq1

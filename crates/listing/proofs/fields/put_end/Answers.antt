@@ -1,6 +1,5 @@
 -- `listing::fields::put_end` meets its contract.
 use Rattle.listing.proofs.Components.{put_no_end, put_end_of}
-use borrow.Author.Rules.{rules}
 use Rattle.listing.proofs.fields.put_end.Goals as goal
 
 pub returns-then-u32_at-eq0 : goal.returns-then-u32_at-eq0

@@ -1,6 +1,5 @@
 -- `listing::fields::put_field` meets its contract.
 use Rattle.listing.proofs.Components.{put_field_of}
-use borrow.Author.Rules.{rules}
 use Rattle.listing.proofs.fields.put_field.Goals as goal
 
 pub returns : goal.returns

@@ -1,7 +1,6 @@
 -- `listing::fields::put_kind` meets its contract.
 use Rattle.definition.specs.Basics.{ascii}
 use Rattle.listing.proofs.Components.{put_kind_of, put_kind_filler}
-use borrow.Author.Rules.{rules}
 use Rattle.listing.proofs.fields.put_kind.Goals as goal
 
 pub returns-then-kind-eq1 : goal.returns-then-kind-eq1

@@ -1,6 +1,5 @@
 -- `listing::fields::put_text_at` meets its contract.
 use Rattle.listing.proofs.Components.{put_text_of}
-use borrow.Author.Rules.{rules}
 use Rattle.listing.proofs.fields.put_text_at.Goals as goal
 
 pub returns : goal.returns

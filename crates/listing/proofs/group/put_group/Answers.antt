@@ -1,6 +1,5 @@
 -- `listing::group::put_group` meets its contract.
 use Rattle.listing.proofs.group.Groups.{put_group_of}
-use borrow.Author.Rules.{rules}
 use Rattle.listing.proofs.group.put_group.Goals as goal
 
 pub returns : goal.returns

@@ -1,8 +1,6 @@
-use Prim.Native.Nat.{◌-◌}
 use native.Mathlib.Omega.{arith}
-use Rattle.listing.specs.digits.Put.{Toward, toward_start, toward, toward_length}
-use Rattle.listing.proofs.Concatenations.{field_lines, field_next, fields_end}
-use borrow.Author.Rules.{rules}
+use Rattle.listing.specs.digits.Put.{toward_start, toward, toward_length}
+use Rattle.listing.proofs.Concatenations.{field_next, fields_end}
 use Rattle.listing.proofs.groups.put_fields.Goals as goal
 
 pub loop-k-init : goal.loop-k-init

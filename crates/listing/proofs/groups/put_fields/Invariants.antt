@@ -1,9 +1,7 @@
 -- `listing::groups::put_fields` meets its contract.
 use Prim.Native.Nat.{◌-◌}
-use native.Mathlib.Omega.{arith}
-use Rattle.listing.specs.digits.Put.{Toward, toward_start, toward, toward_length}
-use Rattle.listing.proofs.Concatenations.{field_lines, field_next, fields_end}
-use borrow.Author.Rules.{rules}
+use Rattle.listing.specs.digits.Put.{Toward}
+use Rattle.listing.proofs.Concatenations.{field_lines}
 use Rattle.listing.proofs.groups.put_fields.Given as goal
 
 abbrev pub invariant-loop-k : goal.invariant-loop-k

@@ -1,8 +1,7 @@
-use mathlib.Core.Path.{◌≡◌}
-use Prim.Native.Nat.{ℕ, ◌-◌, ◌≤◌}
+use Prim.Native.Nat.{ℕ, ◌≤◌}
 use native.Mathlib.Omega.{arith}
-use Rattle.listing.specs.digits.Put.{Toward, toward_start, toward_length}
-use Rattle.listing.proofs.Concatenations.{groups_from, groups_next, groups_end, stop_within}
+use Rattle.listing.specs.digits.Put.{toward_start, toward_length}
+use Rattle.listing.proofs.Concatenations.{groups_next, groups_end, stop_within}
 use borrow.Author.Rules.{rules}
 use Rattle.listing.proofs.groups.put_groups.Goals as goal
 

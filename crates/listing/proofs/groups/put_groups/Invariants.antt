@@ -1,10 +1,7 @@
 -- `listing::groups::put_groups` meets its contract. The invariant: the lines from concatenation i and component k on are still to come.
-use mathlib.Core.Path.{◌≡◌}
-use Prim.Native.Nat.{ℕ, ◌-◌, ◌≤◌}
-use native.Mathlib.Omega.{arith}
-use Rattle.listing.specs.digits.Put.{Toward, toward_start, toward_length}
-use Rattle.listing.proofs.Concatenations.{groups_from, groups_next, groups_end, stop_within}
-use borrow.Author.Rules.{rules}
+use Prim.Native.Nat.{◌-◌, ◌≤◌}
+use Rattle.listing.specs.digits.Put.{Toward}
+use Rattle.listing.proofs.Concatenations.{groups_from}
 use Rattle.listing.proofs.groups.put_groups.Given as goal
 
 abbrev pub invariant-loop-i : goal.invariant-loop-i

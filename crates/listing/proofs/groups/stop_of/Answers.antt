@@ -1,7 +1,6 @@
 -- `listing::groups::stop_of` meets its contract.
 use Prim.Native.Nat.{◌-◌}
 use borrow.Author.Tests.{le-leb, lt-leb}
-use borrow.Author.Rules.{rules}
 use Rattle.listing.proofs.groups.stop_of.Goals as goal
 
 pub returns-then-size-count : goal.returns-then-size-count

@@ -1,7 +1,6 @@
 -- `listing::heads::put_head` meets its contract.
 use Rattle.definition.specs.Basics.{ascii}
 use Rattle.listing.proofs.Headings.{put_head_of}
-use borrow.Author.Rules.{rules}
 use Rattle.listing.proofs.heads.put_head.Goals as goal
 
 pub returns : goal.returns

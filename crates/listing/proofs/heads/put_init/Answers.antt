@@ -1,6 +1,5 @@
 -- `listing::heads::put_init` meets its contract.
 use Rattle.listing.proofs.Headings.{put_init_of, put_no_init}
-use borrow.Author.Rules.{rules}
 use Rattle.listing.proofs.heads.put_init.Goals as goal
 
 pub returns-then-flags-eq1 : goal.returns-then-flags-eq1

@@ -1,7 +1,6 @@
 -- `listing::refusal::put_refusal` meets its contract.
 use Rattle.definition.specs.Basics.{ascii}
 use Rattle.listing.proofs.refusal.Refusing.{put_refusal_of}
-use borrow.Author.Rules.{rules}
 use Rattle.listing.proofs.refusal.put_refusal.Goals as goal
 
 pub returns : goal.returns

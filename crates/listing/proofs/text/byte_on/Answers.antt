@@ -2,7 +2,6 @@
 use mathlib.Core.Path.{sym}
 use native.Mathlib.Omega.{arith}
 use lib.ListN.{get_or-eq_default}
-use borrow.Author.Rules.{rules}
 use Rattle.listing.proofs.text.byte_on.Goals as goal
 
 pub returns-then-s-at : goal.returns-then-s-at

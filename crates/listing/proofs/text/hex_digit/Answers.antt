@@ -1,6 +1,5 @@
--- `listing::digits::shown::hex_digit` meets its contract.
+-- `listing::text::hex_digit` meets its contract.
 use borrow.Author.Tests.{lt-ltb, le-ltb}
-use borrow.Author.Rules.{rules}
 use Rattle.listing.proofs.text.hex_digit.Goals as goal
 
 pub returns-then-d-lt10 : goal.returns-then-d-lt10

@@ -1,7 +1,6 @@
--- `listing::digits::shown::is_plain` meets its contract.
+-- `listing::text::is_plain` meets its contract.
 use native.Mathlib.Omega.{arith}
 use borrow.Author.Tests.{le-leb, lt-leb}
-use borrow.Author.Rules.{rules}
 use Rattle.listing.proofs.text.is_plain.Goals as goal
 
 pub returns-then-b-lt33 : goal.returns-then-b-lt33

@@ -1,6 +1,5 @@
--- `listing::digits::shown::put_hex` meets its contract.
+-- `listing::text::put_hex` meets its contract.
 use Rattle.listing.proofs.text.Texts.{put_two}
-use borrow.Author.Rules.{rules}
 use Rattle.listing.proofs.text.put_hex.Goals as goal
 
 pub returns : goal.returns

@@ -1,8 +1,6 @@
-use Prim.Native.Nat.{◌-◌}
 use native.Mathlib.Omega.{arith}
-use Rattle.listing.specs.digits.Put.{Toward, toward, toward_length}
-use Rattle.listing.proofs.text.Texts.{hexes, hexes_start, hexes_next, hexes_all}
-use borrow.Author.Rules.{rules}
+use Rattle.listing.specs.digits.Put.{toward, toward_length}
+use Rattle.listing.proofs.text.Texts.{hexes_start, hexes_next, hexes_all}
 use Rattle.listing.proofs.text.put_number.Goals as goal
 
 pub loop-i-init : goal.loop-i-init

@@ -1,9 +1,7 @@
--- `listing::digits::shown::put_number` meets its contract. The invariant: all but the highest i bytes are still to come.
+-- `listing::text::put_number` meets its contract. The invariant: all but the highest i bytes are still to come.
 use Prim.Native.Nat.{◌-◌}
-use native.Mathlib.Omega.{arith}
-use Rattle.listing.specs.digits.Put.{Toward, toward, toward_length}
-use Rattle.listing.proofs.text.Texts.{hexes, hexes_start, hexes_next, hexes_all}
-use borrow.Author.Rules.{rules}
+use Rattle.listing.specs.digits.Put.{Toward}
+use Rattle.listing.proofs.text.Texts.{hexes}
 use Rattle.listing.proofs.text.put_number.Given as goal
 
 abbrev pub invariant-loop-i : goal.invariant-loop-i

@@ -1,6 +1,5 @@
--- `listing::digits::shown::put_shown` meets its contract.
+-- `listing::text::put_shown` meets its contract.
 use Rattle.listing.proofs.text.Texts.{put_plain, put_escape}
-use borrow.Author.Rules.{rules}
 use Rattle.listing.proofs.text.put_shown.Goals as goal
 
 pub returns-then-is_plain : goal.returns-then-is_plain

@@ -1,9 +1,5 @@
-use mathlib.Core.Path.{◌≡◌}
-use Prim.Native.Nat.{◌≤◌, ◌-◌}
 use native.Mathlib.Omega.{arith}
-use Rattle.definition.specs.Image.{bytes_at}
-use Rattle.definition.specs.Listing.{shown}
-use Rattle.listing.specs.digits.Put.{Put, put_length}
+use Rattle.listing.specs.digits.Put.{put_length}
 use Rattle.listing.proofs.text.Texts.{put_text_none, put_text_next, put_text_all}
 use borrow.Author.Rules.{rules}
 use Rattle.listing.proofs.text.put_text.Goals as goal

@@ -1,12 +1,8 @@
--- `listing::digits::shown::put_text` meets its contract. The invariant: the first i bytes are written.
-use mathlib.Core.Path.{◌≡◌}
+-- `listing::text::put_text` meets its contract. The invariant: the first i bytes are written.
 use Prim.Native.Nat.{◌≤◌, ◌-◌}
-use native.Mathlib.Omega.{arith}
 use Rattle.definition.specs.Image.{bytes_at}
 use Rattle.definition.specs.Listing.{shown}
-use Rattle.listing.specs.digits.Put.{Put, put_length}
-use Rattle.listing.proofs.text.Texts.{put_text_none, put_text_next, put_text_all}
-use borrow.Author.Rules.{rules}
+use Rattle.listing.specs.digits.Put.{Put}
 use Rattle.listing.proofs.text.put_text.Given as goal
 
 abbrev pub invariant-loop-i : goal.invariant-loop-i

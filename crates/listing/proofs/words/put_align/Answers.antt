@@ -1,7 +1,6 @@
 -- `listing::words::put_align` meets its contract.
 use Rattle.definition.specs.Basics.{ascii}
 use Rattle.listing.proofs.words.Wording.{put_aligned}
-use borrow.Author.Rules.{rules}
 use Rattle.listing.proofs.words.put_align.Goals as goal
 
 pub returns-then-align-eq0 : goal.returns-then-align-eq0

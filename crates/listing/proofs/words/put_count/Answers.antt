@@ -1,6 +1,5 @@
--- `lines_out::words::put_count` meets its contract.
+-- `listing::words::put_count` meets its contract.
 use Rattle.listing.proofs.words.Wording.{put_counted}
-use borrow.Author.Rules.{rules}
 use Rattle.listing.proofs.words.put_count.Goals as goal
 
 pub returns : goal.returns

@@ -1,6 +1,5 @@
--- `lines_out::words::put_flag` meets its contract.
+-- `listing::words::put_flag` meets its contract.
 use Rattle.listing.proofs.words.Wording.{put_flag_set, put_flag_clear}
-use borrow.Author.Rules.{rules}
 use Rattle.listing.proofs.words.put_flag.Goals as goal
 
 pub returns-then-set : goal.returns-then-set

@@ -2,7 +2,6 @@
 use native.Mathlib.Omega.{arith}
 use Rattle.definition.specs.Basics.{ascii}
 use Rattle.listing.proofs.words.Wording.{put_aligned, put_multiple}
-use borrow.Author.Rules.{rules}
 use Rattle.listing.proofs.words.put_later_align.Goals as goal
 
 pub returns-then-align-eq3 : goal.returns-then-align-eq3

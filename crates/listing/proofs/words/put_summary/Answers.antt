@@ -1,6 +1,5 @@
--- `lines_out::words::put_summary` meets its contract.
+-- `listing::words::put_summary` meets its contract.
 use Rattle.listing.proofs.words.Wording.{put_summed}
-use borrow.Author.Rules.{rules}
 use Rattle.listing.proofs.words.put_summary.Goals as goal
 
 pub returns : goal.returns

@@ -1,6 +1,5 @@
--- `lines_out::words::put_width` meets its contract.
+-- `listing::words::put_width` meets its contract.
 use Rattle.listing.proofs.words.Wording.{put_no_width, put_width_of}
-use borrow.Author.Rules.{rules}
 use Rattle.listing.proofs.words.put_width.Goals as goal
 
 pub returns-then-width-eq0 : goal.returns-then-width-eq0

@@ -2,7 +2,6 @@
 use mathlib.Core.Path.{refl, ap}
 use Prim.Native.Nat.{ℕ, ◌+◌}
 use native.Mathlib.Omega.{arith}
-use borrow.Author.Rules.{rules}
 use Rattle.listing.proofs.digits.Decimals.{upper_fits, divided}
 use Rattle.listing.proofs.digits.decimal.divide_by_ten.Goals as goal
 

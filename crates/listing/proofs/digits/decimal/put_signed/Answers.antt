@@ -1,7 +1,6 @@
 -- `listing::digits::decimal::put_signed` meets its contract.
 use native.Mathlib.Omega.{arith}
 use Rattle.listing.proofs.digits.Signs.{put_plus, put_minus_low, put_minus}
-use borrow.Author.Rules.{rules}
 use Rattle.listing.proofs.digits.decimal.put_signed.Goals as goal
 
 pub returns-then-high-lt9223372036854775808 : goal.returns-then-high-lt9223372036854775808
