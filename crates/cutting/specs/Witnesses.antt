@@ -154,7 +154,3 @@ two_right = refl
 pub prefixed_right : found prefixed ≡ claimed prefixed
 unfolding opened prefixed
 prefixed_right = refl
-
--- the premises of the claim can be met
-pub met : Premises two × Premises prefixed
-met = (meets two two_right, meets prefixed prefixed_right)
