@@ -7,7 +7,8 @@ use Rattle.definition.specs.Component.{Component}
 use Rattle.definition.specs.Concatenation.{merge}
 use Rattle.definition.specs.Answer.{components_bytes}
 use Rattle.answer_facts.specs.fits.Fixed.{Fixed, AllFixed, one_more}
-use Rattle.answer_facts.specs.merge.Runs.{closed, merge_from, merge_from_lem, from_end}
+use Rattle.answer_facts.specs.merge.Runs.{closed, merge_from, from_end}
+use Rattle.answer_facts.proofs.merge.Runs.{merge_from_lem}
 use Rattle.stages.specs.component.Kept.{KeptFrom}
 use Rattle.stages.specs.answer.merging.Put.{put_all, written_to, Room}
 use Rattle.stages.specs.answer.merging.Blocks.{Same, same_then}
