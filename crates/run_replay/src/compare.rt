@@ -39,7 +39,7 @@ fn same_front(out: &[u8], n: usize, told: &[u8]) -> bool
     if out.len() < n {
         return false;
     }
-    check::same(&out[..n], told)
+    &out[..n] == told
 }
 
 // No listing has more bytes than these.
