@@ -1,20 +1,20 @@
 -- The lines of the concatenations: what is still to come, and how it begins.
-use mathlib.Core.Path.{◌≡◌, refl, sym, ap, ◌∙◌}
+use mathlib.Core.Path.{◌≡◌, ap, ◌∙◌}
 use mathlib.Core.List.{append_assoc}
 use Prim.Native.Nat.{◌≤◌, ◌<◌}
 use native.Mathlib.Numerals.{add-one}
 use native.Mathlib.Omega.{arith}
 use lib.Seq.{take_at, drop_at, take_all}
 use lib.ListN.{drop_of_length-le}
-use borrow.Author.Tests.{le-leb, lt-leb, leb-true, leb-false}
+use borrow.Author.Tests.{leb-true, leb-false}
 use Rattle.laws.specs.Lists.{length_tab, tab_add}
 use Rattle.laws.specs.Tests.{by_test}
-use Rattle.definition.specs.Prelude.{ℕ, zero, suc, ◌+◌, ◌*◌, ◌-◌, List, [], ◌∷◌, ◌++◌, map, length, take, drop, leb}
-use Rattle.definition.specs.Basics.{if◌then◌else◌, tab, joined, ascii}
+use Rattle.definition.specs.Prelude.{ℕ, suc, ◌+◌, ◌*◌, ◌-◌, List, [], ◌∷◌, ◌++◌, map, length, take, drop, leb}
+use Rattle.definition.specs.Basics.{tab, joined}
 use Rattle.definition.specs.Image.{u32_at}
-use Rattle.definition.specs.Answer.{width_at, concat_at, field_at}
-use Rattle.definition.specs.Listing.{line, decimal, summary_words, field_line, concat_lines}
-use Rattle.listing.specs.digits.Put.{Put, ◌⨾◌, read_as, Toward, toward, toward_end}
+use Rattle.definition.specs.Answer.{concat_at, field_at}
+use Rattle.definition.specs.Listing.{field_line, concat_lines}
+use Rattle.listing.specs.digits.Put.{Put, ◌⨾◌, Toward, toward, toward_end}
 use Rattle.listing.specs.group.Line.{group_line}
 use Rattle.listing.specs.Outcomes.{stop_of}
 

@@ -1,13 +1,13 @@
 -- The whole listing.
-use mathlib.Core.Path.{◌≡◌, refl, sym, ap, ◌∙◌}
+use mathlib.Core.Path.{◌≡◌, sym}
 use Prim.Native.Nat.{◌≤◌, ◌<◌}
 use native.Mathlib.Omega.{arith}
 use lib.Seq.{take_all}
-use Rattle.definition.specs.Prelude.{ℕ, ◌+◌, ◌*◌, ◌/◌, ◌%◌, List, [], ◌∷◌, ◌++◌, length, take, drop}
-use Rattle.definition.specs.Basics.{Result, ok, refused, tab, ascii}
+use Rattle.definition.specs.Prelude.{ℕ, List, [], ◌++◌, length, take, drop}
+use Rattle.definition.specs.Basics.{tab}
 use Rattle.definition.specs.Image.{u32_at}
-use Rattle.definition.specs.Answer.{width_at, text_at, concat_at, field_at, read_answer}
-use Rattle.definition.specs.Listing.{line, decimal, shown, flag_word, summary_words, concat_lines, answer_lines, listing}
+use Rattle.definition.specs.Answer.{concat_at, field_at, read_answer}
+use Rattle.definition.specs.Listing.{concat_lines, answer_lines, listing}
 use Rattle.errors.specs.Refused.{refused_as}
 use Rattle.errors.specs.declared.Refusal.{Refusal}
 use Rattle.listing.specs.digits.Put.{Put, ◌⨾◌, read_as, put_front, put_whole, put_cut}

@@ -144,9 +144,9 @@ fn answered(image: &[u8], how: Choices, area: &mut [u8]) -> Outcome
 // For every image, mode number, default and area: the outcome, the area at exit and the starting value in force are the definition's, and
 // it is told where the answer's own head says.
 pub fn run(image: &[u8], mode: u32, default: &[u8], area: &mut [u8]) -> Ran
-    ensures { ((outcomeOf result.outcome, area.new, partIn image.now default.now result.start)
-        ≡ ranOn image.now (withDefault mode default.now) area.old)
-        × (result.start ≡ place_in image.now (run_of image.now (withDefault mode default.now) (length area.old))) }
+    ensures { ((outcome_of result.outcome, area.new, part_in image.now default.now result.start)
+        ≡ ran_on image.now (with_default mode default.now) area.old)
+        × (result.start ≡ place_in image.now (run_of image.now (with_default mode default.now) (length area.old))) }
 {
     let how = Choices {
         mode,

@@ -33,7 +33,7 @@ fn one(b: bool) -> u64
 // What token k weighs, d groups being open.
 fn weight(list: &[u8], text: &[u8], k: usize, d: usize) -> Tally
     requires { (k < count list.now) × (tokens_right list.now text.now ≡ true) }
-    ensures { (tally_of result ≡ tokenTally d (tokenAt list.now text.now k) (drop (k + 1) (tokens list.now text.now)))
+    ensures { (tally_of result ≡ token_tally d (token_at list.now text.now k) (drop (k + 1) (tokens list.now text.now)))
         × Small result }
 {
     let semicolon = divides(list, text, k, d, b';');

@@ -25,7 +25,7 @@ fn put_concatenation(
 ) -> Pen
     requires { (cs : List Stream) × Concatenation list.now text.now base a b pen cs }
     ensures { (cs : List Stream) → Concatenation list.now text.now base a b pen cs
-        → NodesWritten base pen (nodesOf cs) area.old area.new result }
+        → NodesWritten base pen (nodes_of cs) area.old area.new result }
 {
     let mut p = pen;
     let mut e = b;

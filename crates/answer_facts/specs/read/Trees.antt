@@ -84,7 +84,7 @@ module _ (txt : List ℕ) where
           ])
       go none r = given missing
       go (some p) (found r) = after (with_places 0 k (need (not (is_empty p.after)) empty_after_colon)) λ _. given (found (run_part r.0))
-  start_kept k (every_cons h (every_cons h' hs)) = start_kept (suc k) (every_cons h' hs)
+  start_kept k (every_cons h (every_cons {a = u} h' hs)) = start_kept (suc k) (every_cons {a = u} h' hs)
 
   first_kept : (last : Bool) (u : Placed Unparsed) → Begins u → Yields (λ c. Within c × (size_of c ≤ size_before u)) (keep_base stage1_component last u)
   first_kept last u h = bound (stage1_kept (drop u.base txt) u.value h last) λ c k. given (k.0, omega arith)

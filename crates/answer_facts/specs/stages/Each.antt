@@ -72,9 +72,13 @@ module _ {A B : Type 0} (f : Bool → A → Result B) where
 
   -- ── Lists one after the other ──
 
+  -- `join`, with m before what the recursion is on
+  joined_to : (s : Bool) (m : List A) {l : List A} {l' m' : List B} → Read f (s && is_empty m) l l' → Read f s m m' → Read f s (l ++ m) (l' ++ m')
+  joined_to s m done r = r
+  joined_to s m (more {l = l} p q) r = more (rw (both_empty s l m) at p) (joined_to s m q r)
+
   pub join : (s : Bool) {l : List A} {l' : List B} (m : List A) {m' : List B} → Read f (s && is_empty m) l l' → Read f s m m' → Read f s (l ++ m) (l' ++ m')
-  join s m done r = r
-  join s m (more {l = l} p q) r = more (rw (both_empty s l m) at p) (join s m q r)
+  join s m p r = joined_to s m p r
 
   record Parts (s : Bool) (l m : List A) (out : List B) : Type 0 where
     lower : List B

@@ -99,8 +99,8 @@ split_mid : (at : ℕ) (f : Forest) → (split_range (items_of at (chunks_of f))
 unfolding split_range items_of chunks_of unranged
 split_mid at end = refl
 split_mid at (word s end) = refl
-split_mid at (word s (word s' rest)) = ap (λ is. item_of at (word_chunk s) ∷ is) (split_mid _ (word s' rest))
-split_mid at (word s (group k inside rest)) = ap (λ is. item_of at (word_chunk s) ∷ is) (split_mid _ (group k inside rest))
+split_mid at (word s (word s' rest)) = ap (λ is. item_of at (word_chunk s) ∷ is) (split_mid (at + length (text_of (word_chunk s))) (word s' rest))
+split_mid at (word s (group k inside rest)) = ap (λ is. item_of at (word_chunk s) ∷ is) (split_mid (at + length (text_of (word_chunk s))) (group k inside rest))
 split_mid at (group k inside end) = go (eqb k kinds.bracket) (some (items (at + 1) (drop_last (flat inside ++ closer k ∷ []))))
   where
     go : (t : Bool) (r : Option (List Item)) →
@@ -108,8 +108,8 @@ split_mid at (group k inside end) = go (eqb k kinds.bracket) (some (items (at + 
         ≡ items_of at (chunks_of (if t then end else group k inside end))
     go true r = refl
     go false r = refl
-split_mid at (group k inside (word s rest)) = ap (λ is. item_of at (group_chunk k inside) ∷ is) (split_mid _ (word s rest))
-split_mid at (group k inside (group k' inside' rest)) = ap (λ is. item_of at (group_chunk k inside) ∷ is) (split_mid _ (group k' inside' rest))
+split_mid at (group k inside (word s rest)) = ap (λ is. item_of at (group_chunk k inside) ∷ is) (split_mid (at + length (text_of (group_chunk k inside))) (word s rest))
+split_mid at (group k inside (group k' inside' rest)) = ap (λ is. item_of at (group_chunk k inside) ∷ is) (split_mid (at + length (text_of (group_chunk k inside))) (group k' inside' rest))
 
 drop_last_snoc : {A : Type 0} (xs : List A) (a : A) → drop_last (xs ++ a ∷ []) ≡ xs
 drop_last_snoc [] a = refl
@@ -145,8 +145,8 @@ bracketed_behind at c g f (inner, q) =
 split_bracket : (at : ℕ) (g f : Forest) → Bracketed at (chunks_of (g ⊕ bracket f)) (chunks_of g) f
 unfolding split_range items_of chunks_of ◌⊕◌
 split_bracket at end f = (at + 1, ap {B = Split} (λ rs. record { mid = []; range = some (items (at + 1) rs) }) (drop_last_snoc (flat f) (closer kinds.bracket)))
-split_bracket at (word s g) f = bracketed_behind at (word_chunk s) g f (split_bracket _ g f)
-split_bracket at (group k inside g) f = bracketed_behind at (group_chunk k inside) g f (split_bracket _ g f)
+split_bracket at (word s g) f = bracketed_behind at (word_chunk s) g f (split_bracket (at + length (text_of (word_chunk s))) g f)
+split_bracket at (group k inside g) f = bracketed_behind at (group_chunk k inside) g f (split_bracket (at + length (text_of (group_chunk k inside))) g f)
 
 opened_bracket : (g f : Forest) → Opened g → Opened (g ⊕ bracket f)
 unfolding ◌⊕◌

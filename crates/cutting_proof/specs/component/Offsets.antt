@@ -2,12 +2,13 @@
 use Rattle.std.specs.Prelude.{◌≡◌, refl}
 use Rattle.std.proofs.Common.{sym, ap, ap₂, ◌∙◌}
 use Rattle.std.proofs.Math.Path.{fun_ext}
-use Rattle.definition.specs.Prelude.{ℕ, zero, suc, Bool, true, false, ◌&&◌, Option, none, some, List, [], ◌∷◌, ◌++◌, map, take, drop, eqb, ℤ, pos, ◌+ℤ◌, ◌-ℤ◌}
+use Rattle.definition.specs.Prelude.{ℕ, zero, suc, ◌+◌, Bool, true, false, ◌&&◌, Option, none, some, List, [], ◌∷◌, ◌++◌, map, length, take, drop, eqb, ℤ, pos, ◌+ℤ◌, ◌-ℤ◌}
 use Rattle.definition.specs.Basics.{Result, ok, refused, ◌>>=◌, if◌then◌else◌}
 use Rattle.definition.specs.Characters.{char}
 use Rattle.definition.specs.Numbers.{narrow}
 use Rattle.definition.specs.Refusals.{Reason, need, refuse, not_one_token, bound_overflow}
 use Rattle.definition.specs.Image.{Rec, kinds}
+use Rattle.definition.specs.Tree.{text_of}
 use Rattle.definition.specs.Text.{Part, no_text, Item, chunks, item_of, items_of, items, is_group, is_token, bytes_of, part_of}
 use Rattle.definition.specs.Ranges.{Usb, Usbr, val, text, with_x, Cut, behind, cut_last, begins_with, cut_pair, or_else, cut_bound, number_in, join_sides, read_bound, parse_usb, Scan, scan_step, scan_from, scan_dots, parse_start, parse_end, parse_range, single_bit}
 
@@ -43,8 +44,9 @@ bare_cut c = record { before = bare_items c.before; sign = bare_item c.sign; aft
 same_items : (at at' : ℕ) (cs : List (List Rec)) → bare_items (items_of at cs) ≡ bare_items (items_of at' cs)
 unfolding items_of
 same_items at at' [] = refl
-same_items at at' ([] ∷ cs) = ap (λ is. item_of 0 [] ∷ is) (same_items _ _ cs)
-same_items at at' ((r ∷ rs) ∷ cs) = ap (λ is. bare_item (item_of 0 (r ∷ rs)) ∷ is) (same_items _ _ cs)
+same_items at at' ([] ∷ cs) = ap (λ is. item_of 0 [] ∷ is) (same_items (at + length (text_of [])) (at' + length (text_of [])) cs)
+same_items at at' ((r ∷ rs) ∷ cs) =
+    ap (λ is. bare_item (item_of 0 (r ∷ rs)) ∷ is) (same_items (at + length (text_of (r ∷ rs))) (at' + length (text_of (r ∷ rs))) cs)
 
 -- ── Bounds ──
 

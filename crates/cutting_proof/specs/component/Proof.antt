@@ -52,9 +52,9 @@ abbrev middle_as : Bool → List Item → List Item
 middle_as false mid = mid
 middle_as true mid = elim (split_colon mid) [ none ↦ mid | some p ↦ p.after ]
 
-middle_as : (s : Bool) (u : Unparsed) → middle s u ≡ middle_as s (split_of u).mid
-middle_as false u = refl
-middle_as true u = refl
+middle_as_lem : (s : Bool) (u : Unparsed) → middle s u ≡ middle_as s (split_of u).mid
+middle_as_lem false u = refl
+middle_as_lem true u = refl
 
 -- a forest's part after the colon, and its items
 abbrev prefix_in : Option Colon → Forest
@@ -123,7 +123,7 @@ begins_anywhere at at' ((r ∷ rs) ∷ cs) = refl
 
 stage1_split : (s : Bool) (u : Unparsed) {parts : Split} → split_of u ≡ parts → stage1_component s u ≡ parse_component (middle_as s parts.mid) parts.range u.bits
 stage1_split s u e =
-    ap (λ mid. parse_component mid (split_of u).range u.bits) (middle_as s u)
+    ap (λ mid. parse_component mid (split_of u).range u.bits) (middle_as_lem s u)
     ∙ ap (λ parts. parse_component (middle_as s parts.mid) parts.range u.bits) e
 
 -- a component whose items before the range begin like a literal
@@ -153,7 +153,7 @@ piece_reads s n a b sound h f c d r lt le = (lower (lower-split n o s f) (middle
     highest : (inner : ℕ) × (split_of (unparsed (piece s n (prefix_part s n.forest) f)) ≡ record { mid = (split_of (unparsed n)).mid; range = some (items inner (flat f)) }) →
         ReadAs s (piece s n (prefix_part s n.forest) f) n.bits c d
     highest (inner, e) =
-        read_as s (piece s n (prefix_part s n.forest) f) (split_of (unparsed n)).mid inner f c d e (ap is_literal (sym (middle_as s (unparsed n))) ∙ l.begins) l.wide r lt le
+        read_as s (piece s n (prefix_part s n.forest) f) (split_of (unparsed n)).mid inner f c d e (ap is_literal (sym (middle_as_lem s (unparsed n))) ∙ l.begins) l.wide r lt le
 
 -- ── The starting value ──
 

@@ -188,7 +188,7 @@ module _ (g : Given) (can : Cuttable g) where
       go : (low : List Node) (f : Forest) → new_pieces g ≡ low ++ (piece (scanned g) g.node (prefix_part (scanned g) g.node.forest) f ∷ [])
           → starting_value 0 (source (around g (map bare (new_pieces g)))) ≡ ok v
       go low f e =
-          rw (e, map-append)
+          rw (e, map-append bare low (piece (scanned g) g.node (prefix_part (scanned g) g.node.forest) f ∷ []))
           (tree_starts (bare_tree g.concatenations_below) (map bare g.below) (bare g.node) (map bare low) (bare (piece (scanned g) g.node (prefix_part (scanned g) g.node.forest) f))
           (map bare g.above) (bare_tree g.concatenations_above)
           (λ x y. prefix_kept pre (scanned g) g.node can.sound f (sym (told_scanned g) ∙ ap₂ ◌&&◌ x y)) v h)

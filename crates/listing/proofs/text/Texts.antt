@@ -7,7 +7,7 @@ use native.Mathlib.Omega.{arith}
 use lib.Seq.{get_or-drop}
 use Rattle.laws.specs.Lists.{joined_append}
 use Rattle.definition.specs.Prelude.{ℕ, zero, suc, ◌+◌, ◌-◌, ◌/◌, ◌%◌, ◌^◌, Bool, true, false, ◌&&◌, not, List, [], ◌∷◌, ◌++◌, map, reverse, length, get_or, drop, eqb}
-use Rattle.definition.specs.Basics.{if◌then◌else◌, within, joined}
+use Rattle.definition.specs.Basics.{within, joined}
 use Rattle.definition.specs.Image.{padded, bytes_at}
 use Rattle.definition.specs.Listing.{hex_digit, hex, shown_byte, shown}
 use Rattle.listing.specs.digits.Put.{Put, ◌⨾◌, read_as, put_nothing, Toward, toward_start, toward_end}

@@ -3,8 +3,8 @@ use mathlib.Core.Path.{◌≡◌, ap}
 use mathlib.Core.List.{append-nil}
 use native.Mathlib.Omega.{arith}
 use Prim.Native.Nat.{◌≤◌}
-use borrow.Author.Tests.{eq-eqb, ne_eqb}
-use Rattle.definition.specs.Prelude.{ℕ, ◌+◌, ◌*◌, ◌^◌, Bool, true, false, List, [], ◌∷◌, ◌++◌}
+use borrow.Author.Tests.{ne_eqb}
+use Rattle.definition.specs.Prelude.{ℕ, ◌+◌, ◌*◌, ◌^◌, Bool, true, false, List, [], ◌∷◌}
 use Rattle.definition.specs.Basics.{ascii}
 use Rattle.definition.specs.Answer.{is_set}
 use Rattle.definition.specs.Listing.{decimal, width_word, align_word, flag_word, summary_words}

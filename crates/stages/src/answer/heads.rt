@@ -27,7 +27,7 @@ fn flag(b: bool, n: u32) -> u32
 fn put_concatenation(area: &mut [u8], heads: &[u64], i: u32)
     requires { (2 * i + 2 ≤ length heads.now) × (52 + 20 * i ≤ length area.old) }
     ensures { (ds rest : List Def.Concatenation) (d : Def.Concatenation) → HeadsAre heads.now ds → AllChecked ds → drop i ds ≡ d ∷ rest
-        → area.new ≡ sets area.old (32 + 20 * i) (concatenationBytes (merged d)) }
+        → area.new ≡ sets area.old (32 + 20 * i) (concatenation_bytes (merged d)) }
 {
     let at = limits::HEAD_SIZE + limits::CONCATENATION_SIZE * (i as usize);
     let s = summary_at(heads, i);
@@ -74,8 +74,8 @@ fn flags_of(o: Overall, s: Start) -> u32
 // The head's 32 bytes.
 pub(crate) fn put_head(area: &mut [u8], c: u32, m: u32, o: Overall, s: Start)
     requires { 32 ≤ length area.old }
-    ensures { area.new ≡ sets area.old 0 (head_of c m (widthNumber o.width)
-        (flagOf o.deterministic 1 + flagOf o.nonzero 2 + flagOf (not (s.after.0 == 0)) 4) (alignNumber (align_of o.align)) (textWordBy s.s)) }
+    ensures { area.new ≡ sets area.old 0 (head_of c m (width_number o.width)
+        (flag_of o.deterministic 1 + flag_of o.nonzero 2 + flag_of (not (s.after.0 == 0)) 4) (align_number (align_of o.align)) (text_word_by s.s)) }
 {
     let width = o.width;
     let align = o.align;

@@ -87,9 +87,9 @@ fn close(area: &mut [u8], s: Merging) -> Merging
 // Component k, a literal that is not static: its bits are a run of its own. No run is open.
 fn put_open_literal(area: &mut [u8], image: &[u8], words: &[u64], k: usize, s: Merging) -> Merging
     requires { (d : Placed Component) × (ms : List (Placed Component)) × IsAt image.now words.now k d × Fixed d × Closable area.old s (d ∷ ms)
-        × (isStaticLiteral d.value ≡ false) × (s.running ≡ false) × (slice_index words.now (11 * k) % 4 ≡ 1) }
+        × (is_static_literal d.value ≡ false) × (s.running ≡ false) × (slice_index words.now (11 * k) % 4 ≡ 1) }
     ensures { s.running ≡ false → (d : Placed Component) → IsAt image.now words.now k d → Fixed d
-        → isStaticLiteral d.value ≡ false → slice_index words.now (11 * k) % 4 ≡ 1 → OtherIs d s result area.old area.new }
+        → is_static_literal d.value ≡ false → slice_index words.now (11 * k) % 4 ≡ 1 → OtherIs d s result area.old area.new }
 {
     let w = 11 * k;
     let o = lengthen(area, image, words[w + 1], words[w + 10], s);
@@ -108,9 +108,9 @@ fn put_open_literal(area: &mut [u8], image: &[u8], words: &[u64], k: usize, s: M
 // Component k, that is no static literal, behind a run that is closed.
 fn put_other(area: &mut [u8], image: &[u8], words: &[u64], k: usize, s: Merging) -> Merging
     requires { (d : Placed Component) × (ms : List (Placed Component)) × IsAt image.now words.now k d × Fixed d × Closable area.old s (d ∷ ms)
-        × (isStaticLiteral d.value ≡ false) }
+        × (is_static_literal d.value ≡ false) }
     ensures { (d : Placed Component) → IsAt image.now words.now k d → Fixed d
-        → isStaticLiteral d.value ≡ false → OtherIs d s result area.old area.new }
+        → is_static_literal d.value ≡ false → OtherIs d s result area.old area.new }
 {
     let w = 11 * k;
     let flags = words[w];

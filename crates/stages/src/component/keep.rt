@@ -107,7 +107,7 @@ fn words_of(u: Usb) -> Words
 fn row_of(c: Component, literal: usize) -> Row
     requires { Ordered c.c_type }
     ensures { (image : List ℕ) (t : TreeIn) (base : ℕ) → ComponentStaged image t base c → EndGiven image t base c
-        → result ≡ row_by (kindFlags (componentOf image t base literal c)) c literal }
+        → result ≡ row_by (kind_flags (component_of image t base literal c)) c literal }
 {
     let t = c.c_type;
     let r = c.range;
@@ -154,7 +154,7 @@ fn save(words: &mut [u64], at: usize, r: Row)
 pub(crate) fn keep(words: &mut [u64], k: usize, c: Component, literal: usize)
     requires { Ordered c.c_type × (11 * k + 11 ≤ length words.old) }
     ensures { (image : List ℕ) (t : TreeIn) (base : ℕ) → ComponentStaged image t base c → EndGiven image t base c
-        → words.new ≡ sets words.old (11 * k) (fields_of (keptRow image t base c literal)) }
+        → words.new ≡ sets words.old (11 * k) (fields_of (kept_row image t base c literal)) }
 {
     save(words, 11 * k, row_of(c, literal));
 }

@@ -41,7 +41,7 @@ fn typed(image: &[u8], tree: Tree, s: PText, t: PText, w: u32, range: Usbr) -> C
     ensures { (base literal r stop : ℕ) (mid : List Item) → w ≤ 4096 → 1 ≤ length mid
         → Laid image.now tree base stop t.0 r s.0 mid → UsbrFits image.now tree base range
         → ComponentReads image.now tree base literal result
-        (typed_of mid (bits_at image.now literal w) (usbrOf image.now tree base range)) }
+        (typed_of mid (bits_at image.now literal w) (usbr_of image.now tree base range)) }
 {
     if begins_number(byte_at(image, tree, s)) {
         if w == 0 {
@@ -58,7 +58,7 @@ fn bracketed(image: &[u8], tree: Tree, run: Run, last: PBind, w: u32) -> Compone
         × ((base : ℕ) × (s : ℕ) × (mid : List Item) × (i : Item) × Ended image.now tree run last.0 base s mid i) }
     ensures { (base s literal : ℕ) (mid : List Item) (i : Item) → w ≤ 4096 → Ended image.now tree run last.0 base s mid i
         → ComponentReads image.now tree base literal result
-        (parseComponent mid (some (items i.inside-at i.inside)) (bits_at image.now literal w)) }
+        (parse_component mid (some (items i.inside_at i.inside)) (bits_at image.now literal w)) }
 {
     let r = run.r;
     let stop = run.stop;
@@ -81,7 +81,7 @@ fn unbracketed(image: &[u8], tree: Tree, run: Run, w: u32) -> ComponentResult
     requires { (run.r.0 < run.stop.0) × ((s : ℕ) × Runs image.now tree run.stop.0 run.«end».0 run.r.0 s) }
     ensures { (base s literal : ℕ) (is : List Item) → w ≤ 4096
         → Laid image.now tree base run.stop.0 run.«end».0 run.r.0 s is
-        → ComponentReads image.now tree base literal result (parseComponent is none (bits_at image.now literal w)) }
+        → ComponentReads image.now tree base literal result (parse_component is none (bits_at image.now literal w)) }
 {
     let r = run.r;
     let end = run.end;
@@ -98,7 +98,7 @@ pub(crate) fn parse_component(image: &[u8], tree: Tree, run: Run, w: u32) -> Com
     requires { (run.r.0 < run.stop.0) × ((s : ℕ) × Runs image.now tree run.stop.0 run.«end».0 run.r.0 s) }
     ensures { (base s literal : ℕ) (is : List Item) → w ≤ 4096
         → Laid image.now tree base run.stop.0 run.«end».0 run.r.0 s is
-        → ComponentReads image.now tree base literal result (parseItems is (bits_at image.now literal w)) }
+        → ComponentReads image.now tree base literal result (parse_items is (bits_at image.now literal w)) }
 {
     let r = run.r;
     let stop = run.stop;

@@ -45,7 +45,7 @@ pub(crate) fn read(image: &[u8], tree: Tree, run: Run, w: u32) -> ReadResult
     requires { (w ≤ 4096) × (run.r.0 < run.stop.0)
         × ((s : ℕ) × Runs image.now tree run.stop.0 run.«end».0 run.r.0 s) }
     ensures { (base s at : ℕ) (is : List Item) → Laid image.now tree base run.stop.0 run.«end».0 run.r.0 s is
-        → ReadIs image.now tree base at result (parseItems is (bits_at image.now at w)) }
+        → ReadIs image.now tree base at result (parse_items is (bits_at image.now at w)) }
 {
     match parse_component(image, tree, run, w) {
         ComponentResult::Ok(c) => staged(c.simplify(image, tree)),

@@ -16,7 +16,7 @@ use numbers::{I128, OptionI128};
 
 fn with_type(c_type: ComponentType, q: Simplified) -> ComponentResult
     ensures { (image : List ℕ) (t : TreeIn) (base literal : ℕ) (m : Result Ranges.Usbr) → TypeFits image t base c_type
-        → SimplifiedReads image t base q m → StagedReads image t base literal result (withType (type_of image t base literal c_type) m) }
+        → SimplifiedReads image t base q m → StagedReads image t base literal result (with_type (type_of image t base literal c_type) m) }
 {
     match q {
         Simplified::Ok(range, width) => ComponentResult::Ok(Component {
@@ -67,9 +67,9 @@ fn cut_both(x: I128, y: I128, width: OptionI128) -> ComponentResult
 // "with a number end it is cut there, and with a number start too it loses the bits below and starts at 0"
 fn cut(w: u32, range: Usbr, width: OptionI128) -> ComponentResult
     requires { (image : List ℕ) × (t : TreeIn) × (base : ℕ) × Within w (usbr_of image t base range) }
-    ensures { (image : List ℕ) (t : TreeIn) (base at : ℕ) → w ≤ 4096 → Within w (usbrOf image t base range)
+    ensures { (image : List ℕ) (t : TreeIn) (base at : ℕ) → w ≤ 4096 → Within w (usbr_of image t base range)
         → Measured image t base range width
-        → StagedReads image t base at result (ok (cutLiteral (bits_at image at w) (usbrOf image t base range))) }
+        → StagedReads image t base at result (ok (cut_literal (bits_at image at w) (usbr_of image t base range))) }
 {
     let end = range.end;
     let b = end_or_zero(end);
@@ -88,7 +88,7 @@ fn cut(w: u32, range: Usbr, width: OptionI128) -> ComponentResult
 fn cut_of(w: u32, q: Simplified) -> ComponentResult
     requires { (image : List ℕ) × (t : TreeIn) × (base : ℕ) × (v : Ranges.Usbr) × Positive v × SimplifiedReads image t base q (literal_range w v) }
     ensures { (image : List ℕ) (t : TreeIn) (base at : ℕ) (v : Ranges.Usbr) → w ≤ 4096 → Positive v
-        → SimplifiedReads image t base q (literalRange w v) → StagedReads image t base at result (cutAll (bits_at image at w) (literalRange w v)) }
+        → SimplifiedReads image t base q (literal_range w v) → StagedReads image t base at result (cut_all (bits_at image at w) (literal_range w v)) }
 {
     match q {
         Simplified::Ok(range, width) => cut(w, range, width),
@@ -106,8 +106,8 @@ fn by_type(
 ) -> ComponentResult
     requires { (base : ℕ) × TypeParsed image.now tree base c_type × Measured image.now tree base range x × Positive (usbr_of image.now tree base range) }
     ensures { (base at : ℕ) → TypeParsed image.now tree base c_type → Measured image.now tree base range x
-        → Positive (usbrOf image.now tree base range)
-        → StagedReads image.now tree base at result (byType (type_of image.now tree base at c_type) (usbrOf image.now tree base range)) }
+        → Positive (usbr_of image.now tree base range)
+        → StagedReads image.now tree base at result (by_type (type_of image.now tree base at c_type) (usbr_of image.now tree base range)) }
 {
     match c_type {
         ComponentType::Literal(b) => cut_of(b.to, range.simplify_literal(image, tree, b.to, x)),
@@ -121,7 +121,7 @@ impl Component {
     pub(crate) fn simplify(self, image: &[u8], tree: Tree) -> ComponentResult
         requires { (base : ℕ) × ComponentParsed image.now tree base self }
         ensures { (base at : ℕ) → ComponentParsed image.now tree base self
-            → StagedReads image.now tree base at result (simplifyOf (componentOf image.now tree base at self)) }
+            → StagedReads image.now tree base at result (simplify_of (component_of image.now tree base at self)) }
     {
         let c_type = self.c_type;
         let range = self.range;

@@ -51,7 +51,7 @@ fn opened(seen: PBind, at: PBind, stop: PBind) -> PBind
 fn colon_in(image: &[u8], tree: Tree, r: PBind, stop: PBind, end: PText) -> PBind
     requires { (s : ℕ) × Runs image.now tree stop.0 «end».0 r.0 s }
     ensures { (base s : ℕ) (is : List Item) → Laid image.now tree base stop.0 «end».0 r.0 s is
-        → result.0 ≡ colonPlace image.now tree r.0 stop.0 (splitColon is) }
+        → result.0 ≡ colon_place image.now tree r.0 stop.0 (split_colon is) }
 {
     let mut at = r;
     let mut s = start_or(image, tree, r, stop, end);
@@ -74,8 +74,8 @@ fn colon_in(image: &[u8], tree: Tree, r: PBind, stop: PBind, end: PText) -> PBin
 fn value_before(image: &[u8], tree: Tree, k: PVal, r: PBind, colon: PBind, to: PBind) -> StartResult
     requires { ColonAt image.now tree r.0 colon.0 to.0 }
     ensures { (base s tail : ℕ) (mid : List Item) → Laid image.now tree base to.0 tail r.0 s mid
-        → colon.0 ≡ colonPlace image.now tree r.0 to.0 (splitColon mid)
-        → PrefixReads image.now tree base k.0 r.0 (splitColon mid) result }
+        → colon.0 ≡ colon_place image.now tree r.0 to.0 (split_colon mid)
+        → PrefixReads image.now tree base k.0 r.0 (split_colon mid) result }
 {
     if colon.0 == to.0 {
         return StartResult::Ok(Start {
@@ -101,7 +101,7 @@ fn value_before(image: &[u8], tree: Tree, k: PVal, r: PBind, colon: PBind, to: P
 fn start_in(image: &[u8], tree: Tree, k: PVal, run: Run) -> StartResult
     requires { (run.r.0 < run.stop.0) × ((s : ℕ) × Runs image.now tree run.stop.0 run.«end».0 run.r.0 s) }
     ensures { (base s : ℕ) (is : List Item) → Laid image.now tree base run.stop.0 run.«end».0 run.r.0 s is
-        → PrefixReads image.now tree base k.0 run.r.0 (splitColon (splitRange is).mid) result }
+        → PrefixReads image.now tree base k.0 run.r.0 (split_colon (split_range is).mid) result }
 {
     let r = run.r;
     let stop = run.stop;

@@ -53,7 +53,7 @@ impl Component {
     pub(crate) fn has_full_range(self) -> bool
         requires { Ordered self.c_type }
         ensures { (image : List ℕ) (t : TreeIn) (base at : ℕ) → EndPositive image t base self
-            → result ≡ hasFullRange (componentOf image t base at self) }
+            → result ≡ has_full_range (component_of image t base at self) }
     {
         let c_type = self.c_type;
         let range = self.range;

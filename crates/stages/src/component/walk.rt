@@ -90,7 +90,7 @@ fn turns(
 
 // Stages 1 and 2: the first refusal of stage 1, or else of stage 2; every component is kept.
 pub(crate) fn stage2(words: &mut [u64], image: &[u8], t: Tables, after: PBind) -> Checked
-    requires { (g : Grown image.now) × (t ≡ tablesIn image.now) × (11 * (counts image.now).n ≤ length words.old)
+    requires { (g : Grown image.now) × (t ≡ tables_in image.now) × (11 * (counts image.now).n ≤ length words.old)
         × AfterTree image.now t.tree after.0 0 0 g.tree }
     ensures { StagesAre image.now result words.new }
 {

@@ -75,7 +75,7 @@ impl Concatenation {
     pub(crate) fn check(self, words: &[u64]) -> Advanced
         requires { Lies self (length words.now) }
         ensures { (image : List ℕ) (cs : List (Placed Component)) → length cs ≡ self.len → KeptFrom image words.now self.first.0 cs
-            → concatenationOf cs result ≡ checkOf self.i cs }
+            → concatenation_of cs result ≡ check_of self.i cs }
     {
         let k = self.first;
         let mut a = Advanced {
@@ -126,7 +126,7 @@ impl Concatenation {
     pub(crate) fn filler(self, words: &[u64], unbounded: bool) -> Place
         requires { Lies self (length words.now) }
         ensures { (image : List ℕ) (cs : List (Placed Component)) → length cs ≡ self.len
-            → KeptFrom image words.now self.first.0 cs → place_of result ≡ placeFrom (asked unbounded) 0 cs }
+            → KeptFrom image words.now self.first.0 cs → place_of result ≡ place_from (asked unbounded) 0 cs }
     {
         let k = self.first;
         let mut j = 0;

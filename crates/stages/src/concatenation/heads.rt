@@ -114,7 +114,7 @@ fn width_from(n: u64) -> OptionUsize
 // Concatenation i. One is deterministic where it has no unbounded filler.
 pub(crate) fn summary_at(heads: &[u64], i: u32) -> Summary
     requires { 2 * i + 2 ≤ length heads.now }
-    ensures { (result ≡ summaryBy (slice_index heads.now (2 * i)) (slice_index heads.now (2 * i + 1)))
+    ensures { (result ≡ summary_by (slice_index heads.now (2 * i)) (slice_index heads.now (2 * i + 1)))
         × ((ds rest : List Def.Concatenation) (d : Def.Concatenation) → HeadsAre heads.now ds → AllChecked ds → drop i ds ≡ d ∷ rest → HasSummary d result) }
 {
     let at = 2 * (i as usize);

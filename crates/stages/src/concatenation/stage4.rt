@@ -46,7 +46,7 @@ fn refused_by(number: u32, i: u32, p: Place) -> Checked
 fn check_source(bare: bool, i: u32, words: &[u64], n: u32) -> Checked
     requires { (11 * n ≤ length words.now) × (n ≤ 256) }
     ensures { (image : List ℕ) (c : Def.Concatenation) → (i ≡ 0 → (length c.comps ≡ n) × KeptFrom image words.now 0 c.comps)
-        → result_of result ≡ checkSource bare i c }
+        → result_of result ≡ check_source bare i c }
 {
     if !both(bare, i == 0) {
         return Checked::Passed;
@@ -64,7 +64,7 @@ fn joined_at(bare: bool, heads: &[u64], words: &[u64], n: u32, i: u32, o: Overal
     requires { (2 * i + 2 ≤ length heads.now) × (11 * n ≤ length words.now) × (n ≤ 256) }
     ensures { (image : List ℕ) (ds rest : List Def.Concatenation) (d : Def.Concatenation) → HeadsAre heads.now ds → AllChecked ds
         → drop i ds ≡ d ∷ rest → (i ≡ 0 → (length d.comps ≡ n) × KeptFrom image words.now 0 d.comps)
-        → answer_of result ≡ turn bare i d (overallOf o) }
+        → answer_of result ≡ turn bare i d (overall_of o) }
 {
     match join_width(i, summary_at(heads, i), o) {
         OverallResult::Ok(p) => after(check_source(bare, i, words, n), OverallResult::Ok(p)),
@@ -75,7 +75,7 @@ fn joined_at(bare: bool, heads: &[u64], words: &[u64], n: u32, i: u32, o: Overal
 fn overall_of(bare: bool, heads: &[u64], words: &[u64], image: &[u8], c: u32) -> OverallResult
     requires { (cc : List (List (Placed Component))) × CountsFit image.now cc c (length words.now) (length heads.now) }
     ensures { (ds : List Def.Concatenation) → Judged image.now words.now heads.now c ds
-        → answer_of result ≡ overallFrom bare 0 ds (overallStart ds) }
+        → answer_of result ≡ overall_from bare 0 ds (overall_start ds) }
 {
     let n = components_of(image, 0);
     let mut o = start(c as usize, summary_at(heads, 0));
@@ -99,7 +99,7 @@ fn overall_of(bare: bool, heads: &[u64], words: &[u64], image: &[u8], c: u32) ->
 fn middle_at(x: Concatenation, words: &[u64], align: FillerAlign) -> Checked
     requires { Lies x (length words.now) }
     ensures { (image : List ℕ) (d : Def.Concatenation) → align_of align ≡ d.align → length d.comps ≡ x.len
-        → KeptFrom image words.now x.first.0 d.comps → result_of result ≡ middleAt x.i d }
+        → KeptFrom image words.now x.first.0 d.comps → result_of result ≡ middle_at x.i d }
 {
     if is_align(align, FillerAlign::Mid) {
         return refused_by(44, x.i, x.filler(words, true));
@@ -110,7 +110,7 @@ fn middle_at(x: Concatenation, words: &[u64], align: FillerAlign) -> Checked
 fn middle_of(heads: &[u64], words: &[u64], image: &[u8], c: u32) -> Checked
     requires { (cc : List (List (Placed Component))) × CountsFit image.now cc c (length words.now) (length heads.now) }
     ensures { (ds : List Def.Concatenation) → Judged image.now words.now heads.now c ds
-        → result_of result ≡ middleFrom 0 ds }
+        → result_of result ≡ middle_from 0 ds }
 {
     let mut k = PVal(0);
     let mut i: u32 = 0;
@@ -135,7 +135,7 @@ fn middle_of(heads: &[u64], words: &[u64], image: &[u8], c: u32) -> Checked
 fn find_opposite(align: FillerAlign, heads: &[u64], c: u32, from: u32) -> Place
     requires { (c ≤ 16) × (from ≤ c) × (2 * c ≤ length heads.now) }
     ensures { (ds : List Def.Concatenation) (d : Def.Concatenation) → length ds ≡ c → HeadsAre heads.now ds → AllChecked ds → align_of align ≡ d.align
-        → place_of result ≡ placeFrom (isOpposite d) from (drop from ds) }
+        → place_of result ≡ place_from (is_opposite d) from (drop from ds) }
 {
     let mut j = from;
     while j < c {
@@ -153,7 +153,7 @@ fn find_opposite(align: FillerAlign, heads: &[u64], c: u32, from: u32) -> Place
 fn opposite_at(heads: &[u64], c: u32, i: u32) -> Checked
     requires { (c ≤ 16) × (i < c) × (2 * c ≤ length heads.now) }
     ensures { (ds : List Def.Concatenation) (d : Def.Concatenation) → length ds ≡ c → HeadsAre heads.now ds → AllChecked ds
-        → drop i ds ≡ d ∷ drop (i + 1) ds → result_of result ≡ oppositeAt i d (drop (i + 1) ds) }
+        → drop i ds ≡ d ∷ drop (i + 1) ds → result_of result ≡ opposite_at i d (drop (i + 1) ds) }
 {
     let s = summary_at(heads, i);
     let align = s.align;
@@ -220,7 +220,7 @@ fn check_middle(deterministic: bool, heads: &[u64], words: &[u64], image: &[u8],
 fn check_opposite(deterministic: bool, align: FillerAlign, heads: &[u64], c: u32) -> Checked
     requires { (c ≤ 16) × (2 * c ≤ length heads.now) }
     ensures { (ds : List Def.Concatenation) → length ds ≡ c → HeadsAre heads.now ds → AllChecked ds
-        → result_of result ≡ oppositeOf deterministic (align_of align) ds }
+        → result_of result ≡ opposite_of deterministic (align_of align) ds }
 {
     if deterministic {
         return Checked::Passed;
@@ -242,7 +242,7 @@ fn checks(
 ) -> OverallResult
     requires { (cc : List (List (Placed Component))) × CountsFit image.now cc c (length words.now) (length heads.now) }
     ensures { (ds : List Def.Concatenation) → Judged image.now words.now heads.now c ds
-        → answer_of result ≡ checksOf mode ds (overallOf o) }
+        → answer_of result ≡ checks_of mode ds (overall_of o) }
 {
     let width = o.width;
     let align = o.align;
@@ -267,7 +267,7 @@ pub(crate) fn stage4(
 ) -> OverallResult
     requires { (cc : List (List (Placed Component))) × CountsFit image.now cc c (length words.now) (length heads.now) }
     ensures { (ds : List Def.Concatenation) → Judged image.now words.now heads.now c ds
-        → answer_of result ≡ stage4Of mode given ds }
+        → answer_of result ≡ stage4_of mode given ds }
 {
     match overall_of(both(1 <= mode, !given), heads, words, image, c) {
         OverallResult::Ok(o) => checks(mode, heads, words, image, c, o),

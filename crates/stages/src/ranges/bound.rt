@@ -14,7 +14,7 @@ use crate::token_tree::{PBind, PText, Tree, part_of, record, single, start_of};
 fn group(image: &[u8], tree: Tree, r: PBind, stop: PBind, s: PText, end: PText) -> UsbResult
     requires { (1 ≤ r.0) × Runs image.now tree stop.0 «end».0 r.0 s.0 }
     ensures { (base : ℕ) (is : List Item) → base ≤ s.0 → Laid image.now tree base stop.0 «end».0 r.0 s.0 is
-        → UsbReads image.now tree base result (readBound is) }
+        → UsbReads image.now tree base result (read_bound is) }
 {
     let c = cut_in(image, tree, r, stop, end);
     if c.0 == 0 {
@@ -27,7 +27,7 @@ fn group(image: &[u8], tree: Tree, r: PBind, stop: PBind, s: PText, end: PText) 
 fn token(image: &[u8], tree: Tree, s: PText, end: PText) -> UsbResult
     requires { (s.0 < «end».0) × (tree.text + «end».0 ≤ length image.now) }
     ensures { (base stop r : ℕ) (i : Item) → Laid image.now tree base stop «end».0 r s.0 (i ∷ [])
-        → UsbReads image.now tree base result (readBound (i ∷ [])) }
+        → UsbReads image.now tree base result (read_bound (i ∷ [])) }
 {
     let b = single(image, tree, s, end);
     if b == b'+' {
@@ -43,7 +43,7 @@ fn token(image: &[u8], tree: Tree, s: PText, end: PText) -> UsbResult
 pub(crate) fn parse_usb(image: &[u8], tree: Tree, r: PBind, stop: PBind, end: PText) -> UsbResult
     requires { (r.0 < stop.0) × ((s : ℕ) × Runs image.now tree stop.0 «end».0 r.0 s) }
     ensures { (base s : ℕ) (is : List Item) → Laid image.now tree base stop.0 «end».0 r.0 s is
-        → UsbReads image.now tree base result (parseUsb is) }
+        → UsbReads image.now tree base result (parse_usb is) }
 {
     let e = record(image, tree, r);
     let s = e.start;

@@ -32,8 +32,8 @@ fn end_zero(end: OptionUsb) -> bool
 
 // 25 to 27, of a range that has an end.
 fn end_checked(range: Usbr, w: u32, x: OptionI128) -> Simplified
-    ensures { (image : List ℕ) (t : TreeIn) (base : ℕ) → Measured image t base range x → Positive (usbrOf image t base range)
-        → SimplifiedReads image t base result (endChecked w (usbrOf image t base range)) }
+    ensures { (image : List ℕ) (t : TreeIn) (base : ℕ) → Measured image t base range x → Positive (usbr_of image t base range)
+        → SimplifiedReads image t base result (end_checked w (usbr_of image t base range)) }
 {
     let end = range.end;
     if above(end_val(end), w) {
@@ -52,7 +52,7 @@ fn end_checked(range: Usbr, w: u32, x: OptionI128) -> Simplified
 fn to_width(image: &[u8], tree: Tree, start: Usb, w: u32) -> Simplified
     requires { (base : ℕ) × UsbFits image.now tree base start }
     ensures { (base : ℕ) → UsbFits image.now tree base start
-        → SimplifiedReads image.now tree base result (toWidth w (usbOf image.now tree base start)) }
+        → SimplifiedReads image.now tree base result (to_width w (usb_of image.now tree base start)) }
 {
     let high = 0;
     let r = Usbr {
@@ -75,8 +75,8 @@ impl Usbr {
         x: OptionI128,
     ) -> Simplified
         requires { (1 ≤ w) × ((base : ℕ) × Measured image.now tree base self x × Positive (usbr_of image.now tree base self)) }
-        ensures { (base : ℕ) → Measured image.now tree base self x → Positive (usbrOf image.now tree base self)
-            → SimplifiedReads image.now tree base result (literalRange w (usbrOf image.now tree base self)) }
+        ensures { (base : ℕ) → Measured image.now tree base self x → Positive (usbr_of image.now tree base self)
+            → SimplifiedReads image.now tree base result (literal_range w (usbr_of image.now tree base self)) }
     {
         let start = self.start;
         let end = self.end;
@@ -92,7 +92,7 @@ impl Usbr {
     // 28.
     pub(crate) fn simplify_filler(self, x: OptionI128) -> Simplified
         ensures { (image : List ℕ) (t : TreeIn) (base : ℕ) → Measured image t base self x
-            → SimplifiedReads image t base result (fillerRange (usbrOf image t base self)) }
+            → SimplifiedReads image t base result (filler_range (usbr_of image t base self)) }
     {
         let start = self.start;
         let end = self.end;

@@ -23,7 +23,7 @@ fn parse_start(image: &[u8], tree: Tree, r: PBind, stop: PBind) -> UsbResult
         × ((s : ℕ) × Runs image.now tree stop.0 (start_in image.now tree stop.0) r.0 s) }
     ensures { (base s : ℕ) (is : List Item)
         → Laid image.now tree base stop.0 (start_in image.now tree stop.0) r.0 s is
-        → UsbReads image.now tree base result (parseStart is) }
+        → UsbReads image.now tree base result (parse_start is) }
 {
     if r.0 == stop.0 {
         return UsbResult::Ok(Usb::zero());
@@ -34,7 +34,7 @@ fn parse_start(image: &[u8], tree: Tree, r: PBind, stop: PBind) -> UsbResult
 // "`..=` adds 1 to x of the end if there is one"
 fn including(inclusive: bool, b: UsbResult) -> UsbResult
     ensures { (image : List ℕ) (t : TreeIn) (base : ℕ) (m : Result Ranges.Usb) → UsbReads image t base b m
-        → UsbReads image t base result (raisedBy inclusive m) }
+        → UsbReads image t base result (raised_by inclusive m) }
 {
     match b {
         UsbResult::Ok(u) => {
@@ -59,7 +59,7 @@ fn parse_end(
     requires { (s : ℕ) × Runs image.now tree run.stop.0 run.«end».0 hi.0 s }
     ensures { (base s : ℕ) (is : List Item) → UsbFits image.now tree base start
         → Laid image.now tree base run.stop.0 run.«end».0 hi.0 s is
-        → RangeReads image.now tree base result (endedRange inclusive (usbOf image.now tree base start) is) }
+        → RangeReads image.now tree base result (ended_range inclusive (usb_of image.now tree base start) is) }
 {
     let stop = run.stop;
     let end = run.end;
@@ -91,7 +91,7 @@ fn ranged(image: &[u8], tree: Tree, run: Run, d: Dots) -> RangeResult
 pub(crate) fn parse_range(image: &[u8], tree: Tree, run: Run) -> RangeResult
     requires { (s : ℕ) × Runs image.now tree run.stop.0 run.«end».0 run.r.0 s }
     ensures { (base s : ℕ) (is : List Item) → Laid image.now tree base run.stop.0 run.«end».0 run.r.0 s is
-        → RangeReads image.now tree base result (parseRange is) }
+        → RangeReads image.now tree base result (parse_range is) }
 {
     let r = run.r;
     let stop = run.stop;
@@ -113,7 +113,7 @@ pub(crate) fn parse_range(image: &[u8], tree: Tree, run: Run) -> RangeResult
 pub(crate) fn single_bit(image: &[u8], tree: Tree, run: Run) -> Usbr
     requires { (run.r.0 < run.stop.0) × ((s : ℕ) × Runs image.now tree run.stop.0 run.«end».0 run.r.0 s) }
     ensures { (base s : ℕ) (is : List Item) → Laid image.now tree base run.stop.0 run.«end».0 run.r.0 s is
-        → (usbrOf image.now tree base result ≡ singleBit is) × UsbrFits image.now tree base result }
+        → (usbr_of image.now tree base result ≡ single_bit is) × UsbrFits image.now tree base result }
 {
     let r = run.r;
     let end = run.end;

@@ -118,7 +118,7 @@ fn at_stop(d: Dots, stop: PBind) -> Dots
 pub(crate) fn dots_in(image: &[u8], tree: Tree, r: PBind, stop: PBind, end: PText) -> Dots
     requires { (s : ℕ) × Runs image.now tree stop.0 «end».0 r.0 s }
     ensures { (base s : ℕ) (is : List Item) → Laid image.now tree base stop.0 «end».0 r.0 s is
-        → result ≡ dotsIn image.now tree r.0 is }
+        → result ≡ dots_in image.now tree r.0 is }
 {
     let mut d = refuse(0);
     let mut at = r;

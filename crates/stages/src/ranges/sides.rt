@@ -38,7 +38,7 @@ fn joined(negative: bool, l: I128, r: I128) -> OptionI128
 // 16.
 fn with_x(s: Part, n: OptionI128) -> UsbResult
     ensures { (image : List ℕ) (t : TreeIn) (base : ℕ) → PartFits image t base s
-        → UsbReads image t base result (boundOf (part_of image t base s) (optionOf n)) }
+        → UsbReads image t base result (bound_of (part_of image t base s) (option_of n)) }
 {
     match n {
         OptionI128::Some(x) => UsbResult::Ok(Usb { s, x }),
@@ -50,8 +50,8 @@ fn with_x(s: Part, n: OptionI128) -> UsbResult
 fn number_right(negative: bool, p: PText, s: PText, l: OptionI128, r: I128) -> UsbResult
     requires { s.0 ≤ p.0 }
     ensures { (image : List ℕ) (t : TreeIn) (base : ℕ) → Between image t base s.0 p.0
-        → optionOf l ≡ number_in (textIn image t base s.0 p.0)
-        → UsbReads image t base result (movedBy (side_of (textIn image t base s.0 p.0)) negative (value_of r)) }
+        → option_of l ≡ number_in (text_in image t base s.0 p.0)
+        → UsbReads image t base result (moved_by (side_of (text_in image t base s.0 p.0)) negative (value_of r)) }
 {
     match l {
         OptionI128::Some(x) => with_x(no_text(), joined(negative, x, r)),
@@ -63,9 +63,9 @@ fn number_right(negative: bool, p: PText, s: PText, l: OptionI128, r: I128) -> U
 fn text_right(negative: bool, p: PText, s: PText, t: PText, l: OptionI128) -> UsbResult
     requires { (s.0 ≤ p.0) × (p.0 < t.0) }
     ensures { (image : List ℕ) (tree : TreeIn) (base : ℕ) → Between image tree base s.0 t.0
-        → optionOf l ≡ number_in (textIn image tree base s.0 p.0)
-        → UsbReads image tree base result (textKept (textIn image tree base s.0 t.0) (textIn image tree base s.0 p.0)
-        (if negative then textIn image tree base p.0 t.0 else textIn image tree base (p.0 + 1) t.0)) }
+        → option_of l ≡ number_in (text_in image tree base s.0 p.0)
+        → UsbReads image tree base result (text_kept (text_in image tree base s.0 t.0) (text_in image tree base s.0 p.0)
+        (if negative then text_in image tree base p.0 t.0 else text_in image tree base (p.0 + 1) t.0)) }
 {
     match l {
         OptionI128::Some(x) => UsbResult::Ok(Usb {

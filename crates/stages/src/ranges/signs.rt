@@ -58,7 +58,7 @@ fn signed(g: Signs, r: PBind, b: u8) -> Signs
 fn signs_in(image: &[u8], tree: Tree, r: PBind, stop: PBind, end: PText) -> Signs
     requires { (1 ≤ r.0) × ((s : ℕ) × Runs image.now tree stop.0 «end».0 r.0 s) }
     ensures { (base s : ℕ) (is : List Item) → Laid image.now tree base stop.0 «end».0 r.0 s is
-        → result ≡ signsIn image.now tree r.0 is }
+        → result ≡ signs_in image.now tree r.0 is }
 {
     let mut g = Signs {
         plus: PBind(0),
@@ -96,7 +96,7 @@ fn cut_of(g: Signs) -> PBind
 pub(crate) fn cut_in(image: &[u8], tree: Tree, r: PBind, stop: PBind, end: PText) -> PBind
     requires { (1 ≤ r.0) × ((s : ℕ) × Runs image.now tree stop.0 «end».0 r.0 s) }
     ensures { (base s : ℕ) (is : List Item) → Laid image.now tree base stop.0 «end».0 r.0 s is
-        → result.0 ≡ cutPlace image.now tree r.0 (cutBound is) }
+        → result.0 ≡ cut_place image.now tree r.0 (cut_bound is) }
 {
     cut_of(signs_in(image, tree, r, stop, end))
 }

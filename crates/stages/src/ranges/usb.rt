@@ -43,7 +43,7 @@ impl Usb {
     pub(crate) fn simplify(self, image: &[u8], tree: Tree) -> UsbResult
         requires { (base : ℕ) × UsbFits image.now tree base self }
         ensures { (base : ℕ) → UsbFits image.now tree base self
-            → UsbReads image.now tree base result (simplifyUsb (usbOf image.now tree base self)) }
+            → UsbReads image.now tree base result (simplify_usb (usb_of image.now tree base self)) }
     {
         let s = self.s;
         let len = s.len as usize;
@@ -69,7 +69,7 @@ impl Usb {
     // The end of `..=`: 16.
     pub(crate) fn raised(self) -> UsbResult
         ensures { (image : List ℕ) (t : TreeIn) (base : ℕ) → UsbFits image t base self
-            → UsbReads image t base result (raisedOne (usbOf image t base self)) }
+            → UsbReads image t base result (raised_one (usb_of image t base self)) }
     {
         let s = self.s;
         match numbers::sums::checked_add(self.x, I128 { high: 0, low: 1 }) {

@@ -61,7 +61,7 @@ fn both(a: OptionI128, b: OptionI128) -> OptionRange
 // The range from a start to an end that is there or refused.
 pub(crate) fn ended(start: Usb, b: UsbResult) -> RangeResult
     ensures { (image : List ℕ) (t : TreeIn) (base : ℕ) (m : Result Ranges.Usb) → UsbFits image t base start → UsbReads image t base b m
-        → RangeReads image t base result (endedWith (usbOf image t base start) m) }
+        → RangeReads image t base result (ended_with (usb_of image t base start) m) }
 {
     match b {
         UsbResult::Ok(u) => RangeResult::Ok(Usbr {
@@ -75,7 +75,7 @@ pub(crate) fn ended(start: Usb, b: UsbResult) -> RangeResult
 fn simplified_end(image: &[u8], tree: Tree, start: Usb, end: OptionUsb) -> RangeResult
     requires { (base : ℕ) × EndFits image.now tree base «end» }
     ensures { (base : ℕ) → UsbFits image.now tree base start → EndFits image.now tree base «end»
-        → RangeReads image.now tree base result (endSimple (usbOf image.now tree base start) (end_of image.now tree base «end»)) }
+        → RangeReads image.now tree base result (end_simple (usb_of image.now tree base start) (end_of image.now tree base «end»)) }
 {
     match end {
         OptionUsb::Some(u) => ended(start, u.simplify(image, tree)),
@@ -96,7 +96,7 @@ impl Usbr {
     // Both bounds' numbers, where both are numbers.
     pub(crate) fn static_range(self) -> OptionRange
         ensures { (image : List ℕ) (t : TreeIn) (base : ℕ)
-            → range_of result ≡ bothOf (staticVal (usbOf image t base self.start)) (endVal (end_of image t base self.«end»)) }
+            → range_of result ≡ both_of (static_val (usb_of image t base self.start)) (end_val (end_of image t base self.«end»)) }
     {
         let start = self.start;
         let end = self.end;
@@ -124,7 +124,7 @@ impl Usbr {
     fn numbers(self, image: &[u8], tree: Tree) -> RangeResult
         requires { (base : ℕ) × UsbrFits image.now tree base self }
         ensures { (base : ℕ) → UsbrFits image.now tree base self
-            → RangeReads image.now tree base result (bothSimple (usbrOf image.now tree base self)) }
+            → RangeReads image.now tree base result (both_simple (usbr_of image.now tree base self)) }
     {
         let start = self.start;
         let end = self.end;
@@ -138,7 +138,7 @@ impl Usbr {
     fn checked(self, image: &[u8], tree: Tree) -> Simplified
         requires { (base : ℕ) × UsbrFits image.now tree base self }
         ensures { (base : ℕ) → UsbrFits image.now tree base self
-            → SimplifiedReads image.now tree base result (checkedRange (usbrOf image.now tree base self)) }
+            → SimplifiedReads image.now tree base result (checked_range (usbr_of image.now tree base self)) }
     {
         let start = self.start;
         let end = self.end;
@@ -160,7 +160,7 @@ impl Usbr {
     pub(crate) fn simplify(self, image: &[u8], tree: Tree) -> Simplified
         requires { (base : ℕ) × UsbrFits image.now tree base self }
         ensures { (base : ℕ) → UsbrFits image.now tree base self
-            → SimplifiedReads image.now tree base result (simplifyRange (usbrOf image.now tree base self)) }
+            → SimplifiedReads image.now tree base result (simplify_range (usbr_of image.now tree base self)) }
     {
         match self.numbers(image, tree) {
             RangeResult::Ok(r) => r.checked(image, tree),

@@ -88,7 +88,7 @@ fn put_leaf(
     m: Mark,
 ) -> Mark
     requires { LeafFits list.now text.now base k e m }
-    ensures { StepIs base (tokenAt list.now text.now k) (slice (k + 1) e (tokens list.now text.now))
+    ensures { StepIs base (token_at list.now text.now k) (slice (k + 1) e (tokens list.now text.now))
         area.old area.new m result }
 {
     let n = length_at(list, k) as usize;
@@ -133,7 +133,7 @@ fn put_token(
     m: Mark,
 ) -> Mark
     requires { StepFits list.now text.now base k e m }
-    ensures { StepIs base (tokenAt list.now text.now k) (slice (k + 1) e (tokens list.now text.now))
+    ensures { StepIs base (token_at list.now text.now k) (slice (k + 1) e (tokens list.now text.now))
         area.old area.new m result }
 {
     let kind = kind_at(list, k);
@@ -195,7 +195,7 @@ pub(crate) fn put_component(
 ) -> Pen
     requires { (c : Stream) × Component list.now text.now base s e pen c }
     ensures { (c : Stream) → Component list.now text.now base s e pen c
-        → NodesWritten base pen (nodesOf (c ∷ [])) area.old area.new result }
+        → NodesWritten base pen (nodes_of (c ∷ [])) area.old area.new result }
 {
     let m = put_tokens(list, text, area, base, s, e, pen);
     let records = ((m.record - pen.records) / 12) as u32;

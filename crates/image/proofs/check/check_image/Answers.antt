@@ -8,62 +8,81 @@ use Rattle.image.specs.token_tree.Tables.{counts_of, tables_of, tables_told}
 use Rattle.image.specs.check.Parts.{counts_in, offsets_in, Laid}
 use Rattle.image.proofs.check.Whole.{some_records, image_ends, records_sum, too_short, miscounted, misplaced, wrong_entry, all_but_records}
 use Rattle.image.proofs.check.check_image.Goals as goal
-use Rattle.image.proofs.check.check_image.Lts as lts
-
-counts-read : (c : lts.After-counts_right) → counts_right c.args.image.now ≡ c.counts_right.result
-counts-read c = sym (c.counts_right.ensures ∙ ap counts_in c.header-h.ensures)
-
--- the tables by the header's counts are the image's
-placed : (c : lts.After-tables_for-at) → tables_of c.tables_for-at.result ≡ tables c.args.image.now
-placed c =
-    tables_told c.args.image.now c.tables_for-at.result c.header-h.result c.tables_for-at.ensures c.header-h.ensures
-
-offsets-read : (c : lts.After-offsets_right) → offsets_right c.args.image.now ≡ c.offsets_right.result
-offsets-read c =
-    let image = c.args.image.now in
-    sym (c.offsets_right.ensures ∙ ap (offsets_in image) (placed c.before))
-
-laid : (c : lts.Else-not-offsets_right) → Laid c.args.image.now c.header-h.result c.tables_for-at.result
-laid c =
-    record {
-      counted = c.header-h.ensures;
-      placed = placed p.before;
-      some = some_records (counts_of c.header-h.result) (sym c.counts_right.ensures ∙ not-false c.counts_right.result c.if-not-counts_right.false);
-      ends = image_ends c.args.image.now (tables_of c.tables_for-at.result) (sym c.offsets_right.ensures ∙ not-false c.offsets_right.result c.if-not-offsets_right.false);
-    }
 
 pub returns-then-image-lt40 : goal.returns-then-image-lt40
 returns-then-image-lt40 c = c.refuse.ensures ∙ sym (too_short c.args.image.now c.if-image-lt40.true)
 
 pub returns-then-not-counts_right : goal.returns-then-not-counts_right
 returns-then-not-counts_right c =
-    c.refuse-then-not-counts_right.ensures ∙ sym (miscounted c.args.image.now c.if-image-lt40.false (counts-read n ∙ not-true c.counts_right.result c.if-not-counts_right.true))
+    let counts-read : (counts_right c.args.image.now ≡ c.counts_right.result) =
+      sym (c.counts_right.ensures ∙ ap counts_in c.header-h.ensures) in
+    c.refuse-then-not-counts_right.ensures ∙ sym (miscounted c.args.image.now c.if-image-lt40.false (counts-read ∙ c.if-not-counts_right.true))
 
 pub returns-then-not-offsets_right : goal.returns-then-not-offsets_right
 returns-then-not-offsets_right c =
+    let counts-read : (counts_right c.args.image.now ≡ c.counts_right.result) =
+      sym (c.counts_right.ensures ∙ ap counts_in c.header-h.ensures) in
+    let placed : (tables_of c.tables_for-at.result ≡ tables c.args.image.now) =
+      tables_told c.args.image.now c.tables_for-at.result c.header-h.result c.tables_for-at.ensures c.header-h.ensures in
+    let offsets-read : (offsets_right c.args.image.now ≡ c.offsets_right.result) =
+      let image = c.args.image.now in
+    sym (c.offsets_right.ensures ∙ ap (offsets_in image) placed) in
     c.refuse-then-not-offsets_right.ensures
-    ∙ sym (misplaced c.args.image.now c.if-image-lt40.false (counts-read n ∙ not-false c.counts_right.result c.if-not-counts_right.false)
-    (offsets-read p ∙ not-true c.offsets_right.result c.if-not-offsets_right.true))
+    ∙ sym (misplaced c.args.image.now c.if-image-lt40.false (counts-read ∙ c.if-not-counts_right.false)
+    (offsets-read ∙ c.if-not-offsets_right.true))
 
 pub entries_right-requires : goal.entries_right-requires
-entries_right-requires c = laid c
+entries_right-requires c =
+    let placed : (tables_of c.tables_for-at.result ≡ tables c.args.image.now) =
+      tables_told c.args.image.now c.tables_for-at.result c.header-h.result c.tables_for-at.ensures c.header-h.ensures in
+    let laid : (Laid c.args.image.now c.header-h.result c.tables_for-at.result) =
+      record {
+      counted = c.header-h.ensures;
+      placed = placed;
+      some = some_records (counts_of c.header-h.result) (sym c.counts_right.ensures ∙ c.if-not-counts_right.false);
+      ends = image_ends c.args.image.now (tables_of c.tables_for-at.result) (sym c.offsets_right.ensures ∙ c.if-not-offsets_right.false);
+    } in
+    laid
 
 pub returns-then-not-entries_right : goal.returns-then-not-entries_right
 returns-then-not-entries_right c =
+    let counts-read : (counts_right c.args.image.now ≡ c.counts_right.result) =
+      sym (c.counts_right.ensures ∙ ap counts_in c.header-h.ensures) in
+    let placed : (tables_of c.tables_for-at.result ≡ tables c.args.image.now) =
+      tables_told c.args.image.now c.tables_for-at.result c.header-h.result c.tables_for-at.ensures c.header-h.ensures in
+    let offsets-read : (offsets_right c.args.image.now ≡ c.offsets_right.result) =
+      let image = c.args.image.now in
+    sym (c.offsets_right.ensures ∙ ap (offsets_in image) placed) in
     c.refuse-then-not-entries_right.ensures
-    ∙ sym (wrong_entry c.args.image.now c.if-image-lt40.false (counts-read n ∙ not-false c.counts_right.result c.if-not-counts_right.false)
-    (offsets-read p ∙ not-false c.offsets_right.result c.if-not-offsets_right.false) (sym c.entries_right.ensures ∙ not-true c.entries_right.result c.if-not-entries_right.true))
+    ∙ sym (wrong_entry c.args.image.now c.if-image-lt40.false (counts-read ∙ c.if-not-counts_right.false)
+    (offsets-read ∙ c.if-not-offsets_right.false) (sym c.entries_right.ensures ∙ c.if-not-entries_right.true))
 
 pub records_check-requires : goal.records_check-requires
 records_check-requires c =
+    let placed : (tables_of c.tables_for-at.result ≡ tables c.args.image.now) =
+      tables_told c.args.image.now c.tables_for-at.result c.header-h.result c.tables_for-at.ensures c.header-h.ensures in
+    let laid : (Laid c.args.image.now c.header-h.result c.tables_for-at.result) =
+      record {
+      counted = c.header-h.ensures;
+      placed = placed;
+      some = some_records (counts_of c.header-h.result) (sym c.counts_right.ensures ∙ c.if-not-counts_right.false);
+      ends = image_ends c.args.image.now (tables_of c.tables_for-at.result) (sym c.offsets_right.ensures ∙ c.if-not-offsets_right.false);
+    } in
     (
-      laid e.before,
+      laid,
       records_sum c.args.image.now c.header-h.result c.header-h.ensures
-          (sym c.entries_right.ensures ∙ not-false c.entries_right.result c.if-not-entries_right.false),
+          (sym c.entries_right.ensures ∙ c.if-not-entries_right.false),
     )
 
 pub returns : goal.returns
 returns c =
+    let counts-read : (counts_right c.args.image.now ≡ c.counts_right.result) =
+      sym (c.counts_right.ensures ∙ ap counts_in c.header-h.ensures) in
+    let placed : (tables_of c.tables_for-at.result ≡ tables c.args.image.now) =
+      tables_told c.args.image.now c.tables_for-at.result c.header-h.result c.tables_for-at.ensures c.header-h.ensures in
+    let offsets-read : (offsets_right c.args.image.now ≡ c.offsets_right.result) =
+      let image = c.args.image.now in
+    sym (c.offsets_right.ensures ∙ ap (offsets_in image) placed) in
     c.records_check.ensures
-    ∙ sym (all_but_records c.args.image.now c.if-image-lt40.false (counts-read n ∙ not-false c.counts_right.result c.if-not-counts_right.false)
-    (offsets-read p ∙ not-false c.offsets_right.result c.if-not-offsets_right.false) (sym c.entries_right.ensures ∙ not-false c.entries_right.result c.if-not-entries_right.false))
+    ∙ sym (all_but_records c.args.image.now c.if-image-lt40.false (counts-read ∙ c.if-not-counts_right.false)
+    (offsets-read ∙ c.if-not-offsets_right.false) (sym c.entries_right.ensures ∙ c.if-not-entries_right.false))

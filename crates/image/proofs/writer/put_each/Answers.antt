@@ -21,7 +21,7 @@ loop-i-preserved c =
           ∙ ap (set v.area (a.at + v.i)) c.byte_on.ensures
           ∙ copy_next a.area.now a.at a.s.now a.from v.i v.invariant.0,
       omega arith,
-      c.put_on.auto.0 ∙ v.invariant.2,
+      c.put_on.auto.area ∙ v.invariant.2,
     )
 
 pub returns : goal.returns

@@ -9,10 +9,8 @@ use Rattle.definition.specs.Basics.{tab}
 use Rattle.definition.specs.Image.{u32_at}
 use Rattle.image.specs.check.Parts.{sizes_right}
 use Rattle.image.proofs.check.Sums.{sizes_again, sizes_end, place_next, step_fits}
+use Rattle.image.proofs.check.entries.sizes_right.Invariants.{size}
 use Rattle.image.proofs.check.entries.sizes_right.Goals as goal
-
-abbrev size : List ℕ → ℕ → ℕ → ℕ → ℕ
-size image from step i = u32_at image (from + step * i)
 
 pub loop-k-init : goal.loop-k-init
 loop-k-init c = (omega arith, rw (mul-zero, add-zero), omega arith, rw sub-zero)

@@ -12,6 +12,9 @@ use Rattle.image.specs.check.Parts.{sizes_right}
 use Rattle.image.proofs.check.Sums.{sizes_again, sizes_end, place_next, step_fits}
 use Rattle.image.proofs.check.entries.sizes_right.Given as goal
 
+abbrev pub size : List ℕ → ℕ → ℕ → ℕ → ℕ
+size image from step i = u32_at image (from + step * i)
+
 abbrev pub invariant-loop-k : goal.invariant-loop-k
 invariant-loop-k l =
     (l.k ≤ l.n) × (l.at ≡ l.from + l.step * l.k) × (l.sum ≤ 4294967296 * l.k)

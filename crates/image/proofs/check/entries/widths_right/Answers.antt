@@ -9,10 +9,8 @@ use Rattle.definition.specs.Basics.{tab}
 use Rattle.definition.specs.Image.{u32_at}
 use Rattle.image.specs.check.Parts.{widths_right}
 use Rattle.image.proofs.check.Sums.{widths_again, widths_end}
+use Rattle.image.proofs.check.entries.widths_right.Invariants.{width}
 use Rattle.image.proofs.check.entries.widths_right.Goals as goal
-
-abbrev width : List ℕ → ℕ → ℕ → ℕ
-width image components i = u32_at image (components + 8 * i + 4)
 
 pub loop-k-init : goal.loop-k-init
 loop-k-init c = (omega arith, omega arith, rw sub-zero)

@@ -12,6 +12,9 @@ use Rattle.image.specs.check.Parts.{widths_right}
 use Rattle.image.proofs.check.Sums.{widths_again, widths_end}
 use Rattle.image.proofs.check.entries.widths_right.Given as goal
 
+abbrev pub width : List ℕ → ℕ → ℕ → ℕ
+width image components i = u32_at image (components + 8 * i + 4)
+
 abbrev pub invariant-loop-k : goal.invariant-loop-k
 invariant-loop-k l =
     (l.k ≤ l.n) × (l.l ≤ 536870912 * l.k)

@@ -1,0 +1,12 @@
+-- `copy_bytes` meets its contract: before turn i the first i bytes are copied.
+use Rattle.std.proofs.Common.{◌≡◌, ◌+◌, ◌-◌, ◌<◌, ◌≤◌, length, take, drop, refl, ap, ◌∙◌, le_antisymm, arith, length-set, rules}
+use lib.Seq.{sets}
+use Rattle.stages.proofs.answer.merging.Whole.{copy_next}
+use Rattle.stages.proofs.answer.bits.copy_bytes.Given as goal
+
+abbrev pub invariant-loop-i : goal.invariant-loop-i
+invariant-loop-i l =
+    (l.area ≡ sets l.initial.area l.at (take l.i (drop l.from l.s))) × (l.i ≤ l.n) × (length l.area ≡ length l.initial.area)
+
+abbrev pub decreases-loop-i : goal.decreases-loop-i
+decreases-loop-i l = l.n - l.i

@@ -1,0 +1,8 @@
+use Rattle.std.proofs.Common.{rules}
+use Rattle.stages.proofs.answer.blocks.Joins.{open_put}
+use Rattle.stages.proofs.answer.blocks.put_open.Goals as goal
+
+pub returns : goal.returns
+returns c =
+    let a = c.args in
+    open_put a.area.now a.words.now a.at a.w a.bits a.offset c.put_literal.ensures c.put_range.ensures

@@ -1,0 +1,9 @@
+use Rattle.std.proofs.Common.{rules}
+use Rattle.stages.proofs.answer.blocks.Joins.{type_put}
+use Rattle.stages.proofs.answer.blocks.put_type.Goals as goal
+
+pub returns : goal.returns
+returns c =
+    let a = c.args in
+    type_put a.area.now a.at a.flags a.content c.put_u32.ensures c.put_u64.ensures c.put_u64-2.ensures
+    c.put_u32-2.ensures

@@ -1,0 +1,6 @@
+-- The pair, shifted down.
+use Rattle.std.proofs.Common.{rules}
+use Rattle.stages.proofs.answer.byte_bits.byte_of.Goals as goal
+
+pub returns : goal.returns
+returns c = rw c.pair.ensures

@@ -1,0 +1,16 @@
+-- The loop keeps what Colons says.
+use Rattle.std.proofs.Common.{ℕ, ◌-◌, List, refl, arith, rules}
+use Rattle.definition.specs.Text.{Item}
+use Rattle.stages.specs.token_tree.Laid.{Laid, Runs}
+use Rattle.stages.proofs.token_tree.Walks.{runs_start, runs_order, runs_next, record_fits}
+use Rattle.stages.proofs.component.start.Colons.{Seeing, seeing_start, seeing_end, seeing_colon, seeing_other, seeing_found}
+use Rattle.stages.proofs.component.start.colon_in.Given as goal
+
+abbrev pub invariant-loop-at : goal.invariant-loop-at
+invariant-loop-at l =
+    Runs l.image l.tree l.stop.0 l.«end».0 l.at.0 l.s.0
+    × ((base s' : ℕ) (is : List Item) → Laid l.image l.tree base l.stop.0 l.«end».0 l.initial.at.0 s' is
+    → Seeing l.image l.tree base l.stop.0 l.«end».0 l.initial.at.0 is l.seen.0 l.at.0 l.s.0)
+
+abbrev pub decreases-loop-at : goal.decreases-loop-at
+decreases-loop-at l = l.stop.0 - l.at.0

@@ -1,0 +1,71 @@
+use Rattle.std.proofs.Common.{arith, rules}
+use Rattle.stages.proofs.ranges.bound.Lone.{first_ends, parse_many, parse_token, parse_other, parse_group, token_order, group_order, inner_runs}
+use Rattle.stages.proofs.ranges.bound.parse_usb.Goals as goal
+
+pub overflow_add-r : goal.overflow_add-r
+overflow_add-r c =
+    let a = c.args in
+    let w = c.requires.1.1 in
+    let n = first_ends a.image.now a.tree w.base a.stop.0 a.«end».0 a.r.0 c.requires.1.0 w.items c.requires.0 w.laid in
+    omega (arith, n, c.record-e.ensures.1.1, w.fits, w.small)
+
+pub returns-then-r-e : goal.returns-then-r-e
+returns-then-r-e c base s is h =
+    let a = c.args in
+    parse_many a.image.now a.tree base a.stop.0 a.«end».0 a.r.0 s is c.requires.0 h c.record-e.result.kind c.record-e.result.start.0 c.record-e.result.skip
+    c.record-e.ensures.0 c.record-e.ensures.1.0 c.record-e.ensures.1.1 c.if-r-e.true
+
+pub token-requires : goal.token-requires
+token-requires c =
+    let a = c.args in
+    let w = c.requires.1.1 in (
+      token_order a.image.now a.tree w.base a.stop.0 a.«end».0 a.r.0 c.requires.1.0 w.items c.requires.0 w.laid c.record-e.result.kind
+          c.record-e.result.start.0 c.record-e.result.skip c.record-e.ensures.0 c.record-e.ensures.1.0 c.record-e.ensures.1.1 c.if-r-e.false,
+      w.text_fits,
+    )
+
+pub returns-then-e-eq0 : goal.returns-then-e-eq0
+returns-then-e-eq0 c base s is h =
+    let a = c.args in
+    parse_token a.image.now a.tree base a.stop.0 a.«end».0 a.r.0 s is c.requires.0 h c.record-e.result.kind c.record-e.result.start.0 c.record-e.result.skip
+    c.record-e.ensures.0 c.record-e.ensures.1.0 c.record-e.ensures.1.1 c.if-r-e.false c.if-e-eq0.true c.token.result c.token.ensures
+
+pub returns-then-e-ne2 : goal.returns-then-e-ne2
+returns-then-e-ne2 c base s is h =
+    let a = c.args in
+    parse_other a.image.now a.tree base a.stop.0 a.«end».0 a.r.0 s is c.requires.0 h c.record-e.result.kind c.record-e.result.start.0 c.record-e.result.skip
+    c.record-e.ensures.0 c.record-e.ensures.1.0 c.record-e.ensures.1.1 c.if-r-e.false c.if-e-eq0.false c.if-e-ne2.true
+
+pub overflow_add-s : goal.overflow_add-s
+overflow_add-s c =
+    let e = c.record-e in
+    let a = c.args in
+    let w = c.requires.1.1 in
+    let o = group_order a.image.now a.tree w.base a.stop.0 a.«end».0 a.r.0 c.requires.1.0 w.items c.requires.0 w.laid e.result.kind
+    e.result.start.0 e.result.skip e.ensures.0 e.ensures.1.0 e.ensures.1.1 c.if-r-e.false c.if-e-ne2.false in
+    omega (arith, o, w.text_small)
+
+pub overflow_sub-end : goal.overflow_sub-end
+overflow_sub-end c =
+    let e = c.record-e in
+    let a = c.args in
+    let w = c.requires.1.1 in
+    let o = group_order a.image.now a.tree w.base a.stop.0 a.«end».0 a.r.0 c.requires.1.0 w.items c.requires.0 w.laid e.result.kind
+    e.result.start.0 e.result.skip e.ensures.0 e.ensures.1.0 e.ensures.1.1 c.if-r-e.false c.if-e-ne2.false in
+    omega (arith, o)
+
+pub group-requires : goal.group-requires
+group-requires c =
+    let e = c.record-e in
+    let a = c.args in (
+      omega arith,
+      inner_runs a.image.now a.tree a.stop.0 a.«end».0 a.r.0 c.requires.1.0 c.requires.0 c.requires.1.1 e.result.kind
+          e.result.start.0 e.result.skip e.ensures.0 e.ensures.1.0 e.ensures.1.1 c.if-r-e.false c.if-e-ne2.false,
+    )
+
+pub returns : goal.returns
+returns c base s is h =
+    let e = c.record-e in
+    let a = c.args in
+    parse_group a.image.now a.tree base a.stop.0 a.«end».0 a.r.0 s is c.requires.0 h e.result.kind e.result.start.0 e.result.skip
+    e.ensures.0 e.ensures.1.0 e.ensures.1.1 c.if-r-e.false c.if-e-ne2.false c.group.result c.group.ensures

@@ -1,0 +1,16 @@
+-- The loop keeps what Scans says.
+use Rattle.std.proofs.Common.{ℕ, ◌-◌, List, refl, ◌∙◌, arith, rules}
+use Rattle.definition.specs.Text.{Item}
+use Rattle.stages.specs.token_tree.Laid.{Laid, Runs}
+use Rattle.stages.proofs.ranges.scan.Scans.{Scanning, scanning_start, scanning_next, scanning_end, scanning_few}
+use Rattle.stages.proofs.token_tree.Walks.{runs_start, runs_order, runs_next, record_fits}
+use Rattle.stages.proofs.ranges.scan.dots_in.Given as goal
+
+abbrev pub invariant-loop-at : goal.invariant-loop-at
+invariant-loop-at l =
+    Runs l.image l.tree l.stop.0 l.end.0 l.at.0 l.s.0
+    × ((base s' : ℕ) (is : List Item) → Laid l.image l.tree base l.stop.0 l.end.0 l.initial.at.0 s' is
+    → Scanning l.image l.tree base l.stop.0 l.end.0 l.initial.at.0 is l.d l.at.0 l.s.0)
+
+abbrev pub decreases-loop-at : goal.decreases-loop-at
+decreases-loop-at l = l.stop.0 - l.at.0

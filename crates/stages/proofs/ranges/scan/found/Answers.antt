@@ -1,0 +1,8 @@
+use Rattle.std.proofs.Common.{rules}
+use Rattle.stages.proofs.ranges.scan.found.Goals as goal
+
+pub returns-then-d : goal.returns-then-d
+returns-then-d c = rw (c.refuse.ensures, c.if-d.true)
+
+pub returns : goal.returns
+returns c = rw c.if-d.false

@@ -1,0 +1,22 @@
+-- Which way the kind went.
+use native.Mathlib.Omega.{arith}
+use native.Mathlib.Numerals.{add-one}
+use borrow.Author.Rules.{rules}
+use borrow.Author.Tests.{eq-eqb, ne_eqb, lt-ltb, le-ltb}
+use Rattle.token_stream.proofs.list.after.Goals as goal
+
+pub returns-then-d-eq0 : goal.returns-then-d-eq0
+returns-then-d-eq0 c = let a = c.args in rw (eq-eqb a.kind 7 c.if-kind-eq7.true) (omega arith)
+
+pub returns-else-d-eq0 : goal.returns-else-d-eq0
+returns-else-d-eq0 c = let a = c.args in rw (eq-eqb a.kind 7 c.if-kind-eq7.true)
+
+pub returns-then-kind-gt2 : goal.returns-then-kind-gt2
+returns-then-kind-gt2 c =
+    let a = c.args in
+    rw (ne_eqb a.kind 7 c.if-kind-eq7.false, lt-ltb 2 a.kind c.if-kind-gt2.true, add-one a.d)
+
+pub returns-else-kind-gt2 : goal.returns-else-kind-gt2
+returns-else-kind-gt2 c =
+    let a = c.args in
+    rw (ne_eqb a.kind 7 c.if-kind-eq7.false, le-ltb 2 a.kind (omega (arith, c.if-kind-gt2.false)))

@@ -1,0 +1,54 @@
+-- A token by its kind: a leaf, a closer, an opener.
+use mathlib.Core.Path.{ap}
+use Prim.Native.Nat.{ℕ}
+use native.Mathlib.Omega.{arith}
+use borrow.Author.Rules.{rules}
+use Rattle.token_stream.proofs.write.component.Steps.{put_closer, put_opener, opener_fits}
+use Rattle.token_stream.proofs.write.component.put_token.Goals as goal
+
+pub put_leaf-requires : goal.put_leaf-requires
+put_leaf-requires c =
+    let same = c.kind_at-kind.ensures in
+    let t = c.if-kind-lt3.true in
+    record { step = c.requires; leaf = omega arith }
+
+pub returns-then-kind-lt3 : goal.returns-then-kind-lt3
+returns-then-kind-lt3 c = c.put_leaf.ensures
+
+pub returns-then-kind-eq7 : goal.returns-then-kind-eq7
+returns-then-kind-eq7 c =
+    let a = c.args in
+    put_closer a.list.now a.text.now a.k c.kind_at-kind.result c.kind_at-kind.ensures a.base a.e
+    c.delimiter_of-d.result.closing a.area.now _ a.m _ c.if-kind-eq7.true
+    (ap (λ (r : record { opening : ℕ; closing : ℕ }). r.closing) c.delimiter_of-d.ensures) c.put_delimiter.ensures
+
+-- the open groups' kinds with that of the opener
+pub overflow_mul-groups : goal.overflow_mul-groups
+overflow_mul-groups c =
+    let kind = c.kind_at-kind in
+    let f =
+    opener_fits c.args.list.now c.args.text.now c.args.k kind.result kind.ensures c.args.m.groups
+    c.if-kind-lt3.false c.if-kind-eq7.false c.requires.nests in
+    omega arith
+
+pub overflow_add-groups : goal.overflow_add-groups
+overflow_add-groups c =
+    let kind = c.kind_at-kind in
+    let f =
+    opener_fits c.args.list.now c.args.text.now c.args.k kind.result kind.ensures c.args.m.groups
+    c.if-kind-lt3.false c.if-kind-eq7.false c.requires.nests in
+    omega arith
+
+pub overflow_cast-skip_at : goal.overflow_cast-skip_at
+overflow_cast-skip_at c =
+    let few = c.requires.few in
+    let most = c.skip_at.ensures.1 in
+    omega arith
+
+pub returns : goal.returns
+returns c =
+    let a = c.args in
+    put_opener a.list.now a.text.now a.k c.kind_at-kind.result c.kind_at-kind.ensures a.base a.e
+    c.delimiter_of-d-2.result.opening _ a.area.now _ a.m _ c.if-kind-lt3.false c.if-kind-eq7.false
+    (ap (λ (r : record { opening : ℕ; closing : ℕ }). r.opening) c.delimiter_of-d-2.ensures)
+    (c.skip_at.ensures.0 a.text.now) c.put_delimiter-2.ensures

@@ -1,0 +1,19 @@
+-- The loop keeps what Going says: once the concatenations that are left are written, all are.
+use mathlib.Core.Path.{◌≡◌, refl, ◌∙◌}
+use mathlib.Core.List.{List}
+use Prim.Native.Nat.{◌-◌}
+use native.Mathlib.Omega.{arith}
+use lib.ListN.{length}
+use borrow.Author.Rules.{rules}
+use Rattle.definition.specs.TokenStream.{Stream}
+use Rattle.token_stream.specs.write.Written.{Concatenations}
+use Rattle.token_stream.proofs.write.Rounds.{Going, going_start, here_round, steps, going_next, going_end}
+use Rattle.token_stream.proofs.write.put_concatenations.Given as goal
+
+abbrev pub invariant-loop-q : goal.invariant-loop-q
+invariant-loop-q l =
+    (length l.area ≡ length l.initial.area)
+    × ((cc : List (List Stream)) → Concatenations l.list l.text l.base l.at 0 l.initial.p cc → Going l.list l.text l.base l.at l.initial.p l.initial.area cc l.row l.a l.p l.area)
+
+abbrev pub decreases-loop-q : goal.decreases-loop-q
+decreases-loop-q l = l.n - l.a
