@@ -13,21 +13,17 @@ fn pattern(i: usize) -> u8 {
 }
 
 pub(crate) fn fill(area: &mut [u8]) {
-    let mut i = 0;
-    while i < area.len() {
-        area[i] = pattern(i);
-        i += 1;
+    for (i, byte) in area.iter_mut().enumerate() {
+        *byte = pattern(i);
     }
 }
 
 // Whether the pattern still stands from a place on.
 fn untouched(area: &[u8], from: usize) -> bool {
-    let mut i = from;
-    while i < area.len() {
+    for i in from..area.len() {
         if area[i] != pattern(i) {
             return false;
         }
-        i += 1;
     }
     true
 }
