@@ -1,7 +1,6 @@
 -- Numbers whose high half is 0, and the others.
 -- Assumes nothing.
-use Rattle.std.proofs.Common.{◌≡◌, ◌^◌, ◌<◌, eqb, ltb, pos, nat_abs, sym, ap, ◌∙◌, arith, le-ltb, lt-ltb, ne_eqb}
-use mathlib.Core.Option.{none, some}
+use Rattle.std.proofs.Common.{◌≡◌, ◌^◌, eqb, ltb, pos, nat_abs, sym, ap, ◌∙◌, arith, ne_eqb}
 use lib.Dec.{eqb-suc-zero}
 use Rattle.numbers.specs.declared.I128.{I128}
 use Rattle.numbers.specs.Value.{bits, value_of}

@@ -1,18 +1,16 @@
 -- Closed examples of what is easily stated wrongly: flags, heads and blocks against the definition's bytes.
 use Rattle.std.specs.Prelude.{◌≡◌, refl}
-use Rattle.definition.specs.Prelude.{ℕ, true, false, none, some, List, [], ◌∷◌, ◌++◌, pos, negsuc}
-use Rattle.definition.specs.Basics.{tab, same_bytes, sum}
+use Rattle.definition.specs.Prelude.{ℕ, true, false, none, some, List, [], ◌∷◌, pos, negsuc}
+use Rattle.definition.specs.Basics.{tab, same_bytes}
 use Rattle.definition.specs.Numbers.{half128}
-use Rattle.definition.specs.Image.{Placed}
-use Rattle.definition.specs.Text as Text
 use Rattle.definition.specs.Ranges.{val, text}
-use Rattle.definition.specs.Component.{Component, literal, variable, filler}
-use Rattle.definition.specs.Concatenation.{Concatenation, whole_literal, align_lsb, align_none, merge}
-use Rattle.definition.specs.Answer.{component_bytes, concatenation_bytes, usb_bytes}
+use Rattle.definition.specs.Component.{Component, variable, filler}
+use Rattle.definition.specs.Concatenation.{Concatenation, whole_literal, align_lsb, merge}
+use Rattle.definition.specs.Answer.{component_bytes, concatenation_bytes}
 use Rattle.stages.specs.component.Kept.{flags_of, text_word}
 use Rattle.stages.specs.concatenation.Check.{shape_by}
 use Rattle.stages.specs.concatenation.Heads.{head_words, summary_by}
-use Rattle.stages.specs.answer.Blocks.{fixed_block, plain_block, open_block, concatenation_block}
+use Rattle.stages.specs.answer.Blocks.{fixed_block, plain_block, concatenation_block}
 use Rattle.numbers.specs.declared.OptionI128.TheVariants as I
 use Rattle.numbers.specs.declared.OptionUsize.TheVariants as U
 use Rattle.stages.specs.declared.concatenation.alignment.align.FillerAlign.TheVariants as A

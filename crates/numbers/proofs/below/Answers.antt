@@ -1,6 +1,6 @@
 -- `numbers::below` meets its contract: the law of one half, cited for the low halves in base 1 and for the high ones in base 2^64.
 -- Assumes nothing.
-use Rattle.std.proofs.Common.{◌≡◌, ◌^◌, Bool, ltb, ap, ◌∙◌, add-zero, mul-one, arith, rules}
+use Rattle.std.proofs.Common.{◌≡◌, ◌^◌, Bool, ltb, ap, ◌∙◌, add-zero, mul-one, arith}
 use Rattle.numbers.specs.Steps.{order_of}
 use Rattle.numbers.proofs.Halves.{order}
 use Rattle.numbers.proofs.below.Goals as goal

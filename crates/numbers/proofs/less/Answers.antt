@@ -1,6 +1,6 @@
 -- `numbers::less` meets its contract: of one sign by the bits, else by the signs.
 -- Assumes nothing.
-use Rattle.std.proofs.Common.{true, false, sym, ◌∙◌, arith, rules}
+use Rattle.std.proofs.Common.{true, false, sym, ◌∙◌, arith}
 use Rattle.numbers.specs.Value.{bits, value_of}
 use Rattle.numbers.proofs.Words.{word, less_same, less_apart}
 use Rattle.numbers.proofs.less.Goals as goal

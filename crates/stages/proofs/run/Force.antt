@@ -1,6 +1,6 @@
 -- The run tells the starting value in force: where an accepted answer's head says that it stands, its bytes are the definition's.
-use Rattle.std.proofs.Common.{◌≡◌, ◌<◌, ◌≤◌, sym, refl, ap, ◌∙◌, append-nil, arith, length-drop, ne_eqb}
-use Rattle.definition.specs.Prelude.{ℕ, zero, suc, ◌+◌, Bool, true, false, not, List, [], ◌∷◌, ◌++◌, length, get_or, take, drop, leb, eqb}
+use Rattle.std.proofs.Common.{◌≡◌, ◌≤◌, sym, refl, ap, ◌∙◌, append-nil, arith, length-drop, ne_eqb}
+use Rattle.definition.specs.Prelude.{ℕ, zero, suc, ◌+◌, Bool, true, false, not, List, [], ◌∷◌, length, take, drop, eqb}
 use Rattle.definition.specs.Basics.{Result, ok, refused, ◌>>=◌, if◌then◌else◌, is_empty, area_after}
 use Rattle.definition.specs.Limits.{sizes}
 use Rattle.definition.specs.Image.{u32_at, padded, bytes_at, tables}
@@ -13,7 +13,7 @@ use Rattle.answer_facts.specs.read.Start.{answered, head_alone, start_lies}
 use Rattle.stages.specs.run.Run.{came_to}
 use Rattle.stages.specs.in_force.InForce.{part_at, part_in, Lies, told_in, told_by, place_in}
 use Rattle.stages.specs.declared.in_force.InForce.{InForce}
-use Rattle.stages.specs.declared.in_force.InForce.TheVariants.{Nothing, Image, Default}
+use Rattle.stages.specs.declared.in_force.InForce.TheVariants.{Image, Default}
 
 -- a default that is not empty, by its length
 pub not_empty : (d : List ℕ) → not (is_empty d) ≡ not (eqb (length d) 0)

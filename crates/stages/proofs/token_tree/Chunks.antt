@@ -3,7 +3,7 @@ use Rattle.std.proofs.Common.{◌≡◌, refl, ap, ◌∙◌, append_assoc, arit
 use Rattle.definition.specs.Prelude.{ℕ, ◌+◌, Bool, true, false, ◌&&◌, not, List, [], ◌∷◌, ◌++◌, length, ltb}
 use Rattle.definition.specs.Basics.{is_empty, all}
 use Rattle.definition.specs.Image.{Rec, kinds, opens, delimiter}
-use Rattle.definition.specs.Tree.{Forest, end, word, group, flat, text_of, sound_forest}
+use Rattle.definition.specs.Tree.{Forest, end, word, group, flat, sound_forest}
 use Rattle.definition.specs.Text.{more, chunks, items_of, items}
 
 abbrev pub word_rec : List ℕ → Rec

@@ -1,5 +1,5 @@
 -- The items of a sound forest stand in the table that its records are written to, and so do those inside its groups.
-use Rattle.std.proofs.Common.{◌≡◌, ◌<◌, ◌≤◌, sym, refl, ap, ◌∙◌, subst, append_assoc, add-zero, add_assoc, arith, length-append}
+use Rattle.std.proofs.Common.{◌≡◌, ◌<◌, ◌≤◌, sym, refl, ap, ◌∙◌, subst, append_assoc, add_assoc, arith, length-append}
 use Rattle.definition.specs.Prelude.{ℕ, ◌+◌, ◌*◌, ◌-◌, ◌^◌, Bool, true, false, ◌&&◌, not, List, [], ◌∷◌, ◌++◌, drop_last, length, get_or, ltb}
 use Rattle.definition.specs.Basics.{is_empty, all}
 use Rattle.definition.specs.Image.{Rec, u32_at, bytes_at, opens, delimiter}
@@ -10,7 +10,7 @@ use Rattle.laws.specs.Rows.{record_bytes_append, length_record_bytes}
 use Rattle.stages.proofs.token_tree.Chunks.{word_rec, opener, closer, word_chunk, group_chunk, chunks_of, items_flat, sound_opened}
 use Rattle.prepared.specs.Bytes.{Holds, holds_left, holds_right, bytes_at_holds, u32_at_next}
 use Rattle.prepared.specs.Groups.{text_of_append, nonempty}
-use Rattle.stages.specs.token_tree.Laid.{Planted, Inner, Stands, Laid}
+use Rattle.stages.specs.token_tree.Laid.{Planted, Stands, Laid}
 use Rattle.stages.specs.token_tree.Table.{skip_in}
 use Rattle.stages.specs.declared.token_tree.types.Tree.{Tree}
 

@@ -1,5 +1,5 @@
 -- What the functions of tables and texts make.
-use Rattle.std.proofs.Common.{◌≡◌, refl, eq-eqb, ne_eqb}
+use Rattle.std.proofs.Common.{◌≡◌, eq-eqb, ne_eqb}
 use Rattle.definition.specs.Prelude.{ℕ, ◌+◌, ◌*◌, ◌-◌, List}
 use Rattle.definition.specs.Image.{u32_at}
 use Rattle.stages.specs.declared.token_tree.types.PBind.{PBind}

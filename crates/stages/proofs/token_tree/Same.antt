@@ -1,5 +1,5 @@
 -- When two runs of bytes are the same.
-use Rattle.std.proofs.Common.{◌≡◌, ℕ, zero, suc, ◌+◌, ◌-◌, ◌<◌, ◌≤◌, Bool, true, false, ◌&&◌, eqb, List, [], ◌∷◌, get_or, drop, sym, refl, ap, ◌∙◌, arith, eq-eqb, ne_eqb}
+use Rattle.std.proofs.Common.{◌≡◌, ℕ, zero, suc, ◌+◌, ◌-◌, ◌<◌, ◌≤◌, Bool, true, false, ◌&&◌, eqb, List, [], ◌∷◌, get_or, drop, sym, refl, ap, arith, eq-eqb, ne_eqb}
 use Rattle.definition.specs.Basics.{same_bytes}
 use Rattle.definition.specs.Image.{padded, bytes_at}
 

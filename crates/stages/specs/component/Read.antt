@@ -1,7 +1,7 @@
 -- Stages 1 and 2 of one component after the other in one loop: what each function of the loop gives.
-use Rattle.std.specs.Prelude.{◌≡◌, ◌<◌, ◌≤◌}
+use Rattle.std.specs.Prelude.{◌≡◌, ◌≤◌}
 use Rattle.std.proofs.lemmas.List.Edits.{sets}
-use Rattle.definition.specs.Prelude.{ℕ, zero, suc, ◌+◌, ◌*◌, ◌/◌, ◌^◌, Bool, true, false, Option, none, some, List, [], ◌∷◌, length, take, eqb, leb}
+use Rattle.definition.specs.Prelude.{ℕ, ◌+◌, ◌*◌, ◌/◌, Bool, true, false, List, length, take, leb}
 use Rattle.definition.specs.Basics.{Result, ok, refused, refusal_of, ◌>>=◌, with_places, if◌then◌else◌, joined}
 use Rattle.definition.specs.Image.{Unparsed, Placed, bytes_for, tree_of}
 use Rattle.definition.specs.Tree.{Node, recs_of, all_recs, literals_of}
@@ -17,7 +17,6 @@ use Rattle.stages.specs.component.Values.{component_of, ComponentStaged, Ordered
 use Rattle.stages.specs.component.Kept.{EndGiven, fields_of, kept_row, RowIs, KeptFrom}
 use Rattle.stages.specs.declared.token_tree.types.Run.{Run}
 use Rattle.stages.specs.declared.token_tree.types.Tables.{Tables}
-use Rattle.stages.specs.declared.component.types.Component.{Component}
 use Rattle.stages.specs.declared.component.types.ComponentResult.{ComponentResult}
 use Rattle.stages.specs.declared.component.types.ComponentResult.TheVariants as R
 use Rattle.stages.specs.declared.component.keep.Row.{Row}

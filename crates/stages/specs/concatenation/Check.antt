@@ -1,6 +1,6 @@
 -- Stage 3 of one concatenation over its kept components.
-use Rattle.std.specs.Prelude.{◌≡◌, ◌<◌, ◌≤◌}
-use Rattle.definition.specs.Prelude.{ℕ, ◌+◌, ◌*◌, ◌/◌, ◌%◌, ◌^◌, Bool, true, false, some, List, get_or, eqb}
+use Rattle.std.specs.Prelude.{◌≡◌, ◌≤◌}
+use Rattle.definition.specs.Prelude.{ℕ, ◌+◌, ◌*◌, ◌/◌, ◌%◌, Bool, true, false, List, get_or, eqb}
 use Rattle.definition.specs.Basics.{Result, ok, ◌>>=◌, if◌then◌else◌}
 use Rattle.definition.specs.Image.{Placed}
 use Rattle.definition.specs.Ranges.{static_width}

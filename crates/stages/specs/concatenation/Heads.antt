@@ -1,6 +1,6 @@
 -- The two words of a concatenation, and stage 3 of all of them.
-use Rattle.std.specs.Prelude.{◌≡◌, ◌<◌, ◌≤◌}
-use Rattle.definition.specs.Prelude.{ℕ, ◌+◌, ◌*◌, ◌/◌, ◌%◌, ◌^◌, Bool, Option, none, some, List, [], ◌∷◌, map, length, eqb, leb}
+use Rattle.std.specs.Prelude.{◌≡◌, ◌≤◌}
+use Rattle.definition.specs.Prelude.{ℕ, ◌+◌, ◌*◌, ◌/◌, ◌%◌, ◌^◌, Option, none, some, List, [], ◌∷◌, map, length, eqb, leb}
 use Rattle.definition.specs.Basics.{if◌then◌else◌, ok, joined}
 use Rattle.definition.specs.Image.{Placed}
 use Rattle.definition.specs.Answer.{flag}

@@ -3,7 +3,6 @@ use Rattle.std.specs.Prelude.{◌≡◌, ◌≤◌, refl}
 use Rattle.definition.specs.Prelude.{ℕ, ◌+◌, Bool, Option, none, some, List, ◌∷◌, length, eqb, get_or, ℤ, pos, ◌+ℤ◌, ◌-ℤ◌}
 use Rattle.definition.specs.Basics.{Result, ok, ◌>>=◌, if◌then◌else◌}
 use Rattle.definition.specs.Characters.{char}
-use Rattle.definition.specs.Numbers.{narrow}
 use Rattle.definition.specs.Refusals.{refuse, bound_overflow, overflow}
 use Rattle.definition.specs.Text.{Part, no_text, is_token, part_of}
 use Rattle.definition.specs.Ranges.{Usb, Cut, text, with_x, number_in, side, join_sides}

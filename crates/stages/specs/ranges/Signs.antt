@@ -3,7 +3,7 @@ use Rattle.definition.specs.Prelude.{ℕ, ◌+◌, Option, none, some, List, len
 use Rattle.definition.specs.Basics.{if◌then◌else◌}
 use Rattle.definition.specs.Characters.{char}
 use Rattle.definition.specs.Text.{Item, is_token}
-use Rattle.definition.specs.Ranges.{Cut, cut_last, cut_pair, cut_bound}
+use Rattle.definition.specs.Ranges.{Cut, cut_last, cut_pair}
 use Rattle.stages.specs.token_tree.Laid.{place_of}
 use Rattle.stages.specs.declared.token_tree.types.Tree.{Tree}
 use Rattle.stages.specs.declared.ranges.signs.Signs.{Signs}

@@ -1,4 +1,3 @@
-use borrow.Author.Rules.{rules}
 use Rattle.image.proofs.check.counts_right.Goals as goal
 
 pub returns : goal.returns

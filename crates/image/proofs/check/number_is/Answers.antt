@@ -1,4 +1,3 @@
-use borrow.Author.Rules.{rules}
 use Rattle.image.proofs.check.number_is.Goals as goal
 
 pub returns : goal.returns

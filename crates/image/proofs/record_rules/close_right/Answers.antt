@@ -1,5 +1,4 @@
 use mathlib.Core.Path.{ap}
-use borrow.Author.Rules.{rules}
 use Rattle.image.specs.record_rules.Rules.{entry_with}
 use Rattle.image.proofs.record_rules.Delimiters.{closer_by}
 use Rattle.image.proofs.record_rules.close_right.Goals as goal

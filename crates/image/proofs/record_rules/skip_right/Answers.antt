@@ -1,4 +1,3 @@
-use borrow.Author.Rules.{rules}
 use Rattle.image.proofs.record_rules.skip_right.Goals as goal
 
 pub returns : goal.returns

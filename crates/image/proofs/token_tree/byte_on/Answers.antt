@@ -1,6 +1,5 @@
 -- Where there is no byte, `get_or` gives its default.
 use mathlib.Core.Path.{sym}
-use borrow.Author.Rules.{rules}
 use native.Mathlib.Omega.{arith}
 use lib.ListN.{get_or-eq_default}
 use Rattle.image.proofs.token_tree.byte_on.Goals as goal

@@ -1,6 +1,5 @@
 -- The lowest byte counts once.
 use native.Mathlib.Omega.{arith}
-use borrow.Author.Rules.{rules}
 use Rattle.image.proofs.words.join4.Goals as goal
 
 pub returns : goal.returns

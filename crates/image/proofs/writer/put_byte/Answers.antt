@@ -1,5 +1,4 @@
 -- A byte past the end is left out.
-use borrow.Author.Rules.{rules}
 use native.Mathlib.Omega.{arith}
 use mathlib.Core.List.{[], ◌∷◌}
 use Rattle.laws.specs.Writing.{sets_out}

@@ -1,6 +1,5 @@
 -- Bytes are copied where both tests say that they are there and fit.
 use mathlib.Core.Path.{sym, ◌∙◌}
-use borrow.Author.Rules.{rules}
 use borrow.Author.Tests.{leb-true}
 use Prim.Native.Nat.{◌+◌}
 use lib.ListN.{length}

@@ -1,5 +1,4 @@
 -- Five numbers, one next to the other.
-use borrow.Author.Rules.{rules}
 use Rattle.image.proofs.writer.Numbers.{five}
 use Rattle.image.proofs.writer.put_counts.Goals as goal
 

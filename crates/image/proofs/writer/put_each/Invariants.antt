@@ -1,13 +1,9 @@
 -- `put_each` meets its contract: before turn i the first i bytes are written.
-use borrow.Author.Rules.{rules}
-use mathlib.Core.Path.{◌≡◌, refl, ap, ◌∙◌}
-use Prim.Native.Nat.{◌+◌, ◌-◌, ◌≤◌}
-use native.Mathlib.Nat.{le_antisymm}
-use native.Mathlib.Omega.{arith}
-use lib.ListN.{length, set}
+use mathlib.Core.Path.{◌≡◌}
+use Prim.Native.Nat.{◌-◌, ◌≤◌}
+use lib.ListN.{length}
 use lib.Seq.{sets}
-use Rattle.definition.specs.Image.{bytes_at, padded}
-use Rattle.laws.specs.Writing.{copy_next}
+use Rattle.definition.specs.Image.{bytes_at}
 use Rattle.image.proofs.writer.put_each.Given as goal
 
 abbrev pub invariant-loop-i : goal.invariant-loop-i

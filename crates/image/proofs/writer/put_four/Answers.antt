@@ -1,6 +1,5 @@
 -- Four bytes, one next to the other.
 use mathlib.Core.Path.{refl}
-use borrow.Author.Rules.{rules}
 use native.Mathlib.Omega.{arith}
 use lib.ListN.{length-set}
 use Rattle.laws.specs.Writing.{four}

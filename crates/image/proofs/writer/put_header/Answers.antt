@@ -1,5 +1,4 @@
 -- The counts, and the offsets next to them.
-use borrow.Author.Rules.{rules}
 use Rattle.image.specs.token_tree.Tables.{counts_of}
 use Rattle.image.proofs.writer.Numbers.{header}
 use Rattle.image.proofs.writer.put_header.Goals as goal

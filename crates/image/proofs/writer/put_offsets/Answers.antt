@@ -1,5 +1,4 @@
 -- Five numbers, one next to the other: what four bytes hold of each.
-use borrow.Author.Rules.{rules}
 use Rattle.image.proofs.writer.Numbers.{five_low}
 use Rattle.image.proofs.writer.put_offsets.Goals as goal
 

@@ -1,5 +1,4 @@
 -- The row at the front of the part from its place on.
-use borrow.Author.Rules.{rules}
 use native.Mathlib.Omega.{arith}
 use Rattle.laws.specs.Sets.{sets_from}
 use Rattle.laws.specs.Writing.{sets_out}

@@ -1,5 +1,4 @@
 -- Four bytes, one next to the other.
-use borrow.Author.Rules.{rules}
 use Rattle.image.proofs.writer.Numbers.{four_on}
 use Rattle.image.proofs.writer.put_short.Goals as goal
 

@@ -1,5 +1,4 @@
 -- Three numbers, one next to the other.
-use borrow.Author.Rules.{rules}
 use Rattle.image.proofs.writer.Numbers.{three}
 use Rattle.image.proofs.writer.put_three.Goals as goal
 

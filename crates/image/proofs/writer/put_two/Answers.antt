@@ -1,6 +1,5 @@
 -- Two numbers, one next to the other.
 use mathlib.Core.Path.{refl}
-use borrow.Author.Rules.{rules}
 use Rattle.definition.specs.Tree.{u32}
 use Rattle.laws.specs.Writing.{and_then}
 use Rattle.image.proofs.writer.put_two.Goals as goal

@@ -1,5 +1,5 @@
 -- `numbers::parse::any_parse` meets its contract: a law for each way through it.
-use Rattle.std.proofs.Common.{sym, ap, ◌∙◌, rules}
+use Rattle.std.proofs.Common.{sym, ap, ◌∙◌}
 use Rattle.numbers.specs.Value.{option_of}
 use Rattle.numbers.specs.declared.OptionI128.{OptionI128}
 use Rattle.numbers.proofs.parse.Reading.{turned, try_empty, try_plain, try_minus}

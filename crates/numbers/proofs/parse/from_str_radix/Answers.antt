@@ -1,5 +1,5 @@
 -- `numbers::parse::from_str_radix` meets its contract: a law for each way through it.
-use Rattle.std.proofs.Common.{pos, ap, ◌∙◌, rules}
+use Rattle.std.proofs.Common.{pos, ap, ◌∙◌}
 use Rattle.definition.specs.Numbers.{signed_as}
 use Rattle.numbers.specs.parse.Parts.{negated}
 use Rattle.numbers.proofs.parse.Reading.{inner_empty, inner_minus, inner_plus, inner_bare}

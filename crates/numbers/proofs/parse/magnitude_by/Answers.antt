@@ -1,8 +1,5 @@
-use Rattle.std.proofs.Common.{◌≡◌, ◌-◌, ◌≤◌, length, drop, sym, refl, ap, ◌∙◌, rules}
-use mathlib.Core.Option.{some}
-use Rattle.definition.specs.Numbers.{digits_from}
-use Rattle.numbers.specs.parse.Halves.{number, number_of}
-use Rattle.numbers.specs.parse.Parts.{capped}
+use Rattle.std.proofs.Common.{sym, refl, ap, ◌∙◌, rules}
+use Rattle.numbers.specs.parse.Halves.{number_of}
 use Rattle.numbers.proofs.parse.Product.{halves_fit}
 use Rattle.numbers.proofs.parse.Digits.{nothing, finished, ended, passed, again}
 use Rattle.numbers.proofs.parse.magnitude_by.Goals as goal

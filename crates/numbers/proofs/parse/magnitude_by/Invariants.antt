@@ -1,11 +1,9 @@
 -- `numbers::parse::magnitude_by` meets its contract. The invariant: from place i on, the digits with v read so far give what the whole gives.
-use Rattle.std.proofs.Common.{◌≡◌, ◌-◌, ◌≤◌, length, drop, sym, refl, ap, ◌∙◌, rules}
+use Rattle.std.proofs.Common.{◌≡◌, ◌-◌, ◌≤◌, length, drop}
 use mathlib.Core.Option.{some}
 use Rattle.definition.specs.Numbers.{digits_from}
-use Rattle.numbers.specs.parse.Halves.{number, number_of}
+use Rattle.numbers.specs.parse.Halves.{number}
 use Rattle.numbers.specs.parse.Parts.{capped}
-use Rattle.numbers.proofs.parse.Product.{halves_fit}
-use Rattle.numbers.proofs.parse.Digits.{nothing, finished, ended, passed, again}
 use Rattle.numbers.proofs.parse.magnitude_by.Given as goal
 
 abbrev pub invariant-loop-i : goal.invariant-loop-i

@@ -1,5 +1,5 @@
 -- `numbers::parse::mul_small` meets its contract: sums and products by parts of 32 bits.
-use Rattle.std.proofs.Common.{◌/◌, ◌%◌, ◌^◌, mul-le-mul_left, arith, rules}
+use Rattle.std.proofs.Common.{◌/◌, ◌%◌, ◌^◌, mul-le-mul_left, arith}
 use Rattle.numbers.proofs.parse.Product.{by_parts}
 use Rattle.numbers.proofs.parse.mul_small.Goals as goal
 

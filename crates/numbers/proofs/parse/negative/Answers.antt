@@ -1,5 +1,5 @@
 -- `numbers::parse::negative` meets its contract: a law for each way through it.
-use Rattle.std.proofs.Common.{◌∙◌, rules}
+use Rattle.std.proofs.Common.{◌∙◌}
 use Rattle.numbers.proofs.parse.Signs.{negative_fits, negative_high, negative_low, negative_least}
 use Rattle.numbers.proofs.parse.negative.Goals as goal
 

@@ -1,5 +1,5 @@
 -- `numbers::parse::unsigned_parse` meets its contract: a law for each way through it.
-use Rattle.std.proofs.Common.{◌∙◌, arith, rules}
+use Rattle.std.proofs.Common.{◌∙◌, arith}
 use Rattle.numbers.proofs.parse.Reading.{short_decimal, decimal, no_radix, in_radix}
 use Rattle.numbers.proofs.parse.unsigned_parse.Goals as goal
 

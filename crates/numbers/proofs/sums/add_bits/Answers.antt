@@ -1,6 +1,6 @@
 -- `numbers::add_bits` meets its contract: the carry law of each half, joined.
 -- Assumes nothing.
-use Rattle.std.proofs.Common.{◌^◌, rules}
+use Rattle.std.proofs.Common.{◌^◌}
 use Rattle.numbers.proofs.Halves.{sum_whole}
 use Rattle.numbers.proofs.Words.{wraps}
 use Rattle.numbers.proofs.sums.add_bits.Goals as goal

@@ -1,6 +1,6 @@
 -- `numbers::add_carry` meets its contract: the carries of two steps are one carry.
 -- Assumes nothing.
-use Rattle.std.proofs.Common.{◌^◌, arith, rules}
+use Rattle.std.proofs.Common.{◌^◌, arith}
 use Rattle.numbers.proofs.Halves.{two_bits, carried}
 use Rattle.numbers.proofs.sums.add_carry.Goals as goal
 

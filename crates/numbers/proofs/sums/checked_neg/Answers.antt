@@ -1,6 +1,6 @@
 -- `numbers::checked_neg` meets its contract: 0 - z is -z.
 -- Assumes nothing.
-use Rattle.std.proofs.Common.{neg_ℤ, ap, ◌∙◌, rules}
+use Rattle.std.proofs.Common.{neg_ℤ, ap, ◌∙◌}
 use lib.IntN.{+ℤ_idl}
 use Rattle.definition.specs.Numbers.{narrow}
 use Rattle.numbers.specs.Value.{value_of}

@@ -1,6 +1,6 @@
 -- `numbers::checked_sub` meets its contract: a is the difference plus b, so three signs tell whether the difference is the true one.
 -- Assumes nothing.
-use Rattle.std.proofs.Common.{◌≡◌, ◌-ℤ◌, sym, arith, rules}
+use Rattle.std.proofs.Common.{◌≡◌, ◌-ℤ◌, sym, arith}
 use mathlib.Core.Option.{none, some}
 use Rattle.definition.specs.Basics.{if◌then◌else◌}
 use Rattle.definition.specs.Numbers.{narrow}
@@ -15,11 +15,11 @@ returns-then-overflows c =
     let b = c.args.b in
     let s = c.sub_bits-difference.result in
     let told : narrow (value_of a -ℤ value_of b) ≡ (if c.overflows.result then none else some (value_of s)) =
-      sub_told (value_of s) (value_of b) (value_of a) (bits s) (bits b) (bits a)
-      (word s (omega arith) (omega arith)) (word b (omega arith) (omega arith)) (word a (omega arith) (omega arith))
-      c.sub_bits-difference.ensures
-      c.is_negative.result c.is_negative-2.result c.is_negative-3.result c.overflows.result
-      c.is_negative.ensures c.is_negative-2.ensures c.is_negative-3.ensures c.overflows.ensures in
+    sub_told (value_of s) (value_of b) (value_of a) (bits s) (bits b) (bits a)
+    (word s (omega arith) (omega arith)) (word b (omega arith) (omega arith)) (word a (omega arith) (omega arith))
+    c.sub_bits-difference.ensures
+    c.is_negative.result c.is_negative-2.result c.is_negative-3.result c.overflows.result
+    c.is_negative.ensures c.is_negative-2.ensures c.is_negative-3.ensures c.overflows.ensures in
     sym (rw c.if-overflows.true at told)
 
 pub returns : goal.returns
@@ -28,9 +28,9 @@ returns c =
     let b = c.args.b in
     let s = c.sub_bits-difference.result in
     let told : narrow (value_of a -ℤ value_of b) ≡ (if c.overflows.result then none else some (value_of s)) =
-      sub_told (value_of s) (value_of b) (value_of a) (bits s) (bits b) (bits a)
-      (word s (omega arith) (omega arith)) (word b (omega arith) (omega arith)) (word a (omega arith) (omega arith))
-      c.sub_bits-difference.ensures
-      c.is_negative.result c.is_negative-2.result c.is_negative-3.result c.overflows.result
-      c.is_negative.ensures c.is_negative-2.ensures c.is_negative-3.ensures c.overflows.ensures in
+    sub_told (value_of s) (value_of b) (value_of a) (bits s) (bits b) (bits a)
+    (word s (omega arith) (omega arith)) (word b (omega arith) (omega arith)) (word a (omega arith) (omega arith))
+    c.sub_bits-difference.ensures
+    c.is_negative.result c.is_negative-2.result c.is_negative-3.result c.overflows.result
+    c.is_negative.ensures c.is_negative-2.ensures c.is_negative-3.ensures c.overflows.ensures in
     sym (rw c.if-overflows.false at told)

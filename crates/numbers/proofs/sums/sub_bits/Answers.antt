@@ -1,6 +1,6 @@
 -- `numbers::sub_bits` meets its contract: the borrow law of each half, joined.
 -- Assumes nothing.
-use Rattle.std.proofs.Common.{◌^◌, rules}
+use Rattle.std.proofs.Common.{◌^◌}
 use Rattle.numbers.proofs.Halves.{difference_whole}
 use Rattle.numbers.proofs.Words.{wraps}
 use Rattle.numbers.proofs.sums.sub_bits.Goals as goal

@@ -1,6 +1,6 @@
 -- `numbers::sub_borrow` meets its contract: the borrows of two steps are one borrow.
 -- Assumes nothing.
-use Rattle.std.proofs.Common.{◌^◌, arith, rules}
+use Rattle.std.proofs.Common.{◌^◌, arith}
 use Rattle.numbers.proofs.Halves.{two_bits, borrowed}
 use Rattle.numbers.proofs.sums.sub_borrow.Goals as goal
 

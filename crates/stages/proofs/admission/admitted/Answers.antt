@@ -1,5 +1,4 @@
 use Rattle.definition.specs.Run.{under}
-use Rattle.std.proofs.Common.{rules}
 use Rattle.stages.proofs.admission.Ways.{mode_above, image_refused, all_passed, area_short}
 use Rattle.stages.proofs.admission.admitted.Goals as goal
 

@@ -1,4 +1,3 @@
-use Rattle.std.proofs.Common.{rules}
 use Rattle.stages.proofs.admission.Ways.{enough_is}
 use Rattle.stages.proofs.admission.enough.Goals as goal
 

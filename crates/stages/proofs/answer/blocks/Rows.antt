@@ -1,7 +1,7 @@
 -- A row's bytes are the definition's block of its component.
 use Rattle.std.proofs.Common.{◌≡◌, ◌<◌, sym, refl, ap, ◌∙◌, ap₂, append_assoc, arith}
-use Rattle.definition.specs.Prelude.{ℕ, ◌+◌, ◌/◌, ◌%◌, ◌^◌, Bool, true, false, Option, none, some, List, ◌++◌, length, get_or, ℤ, pos}
-use Rattle.definition.specs.Basics.{if◌then◌else◌, tab}
+use Rattle.definition.specs.Prelude.{ℕ, ◌+◌, ◌/◌, ◌%◌, ◌^◌, Bool, true, false, Option, none, some, List, ◌++◌, length, get_or, ℤ}
+use Rattle.definition.specs.Basics.{tab}
 use Rattle.definition.specs.Image.{Placed}
 use Rattle.definition.specs.Tree.{u32}
 use Rattle.definition.specs.Text as Text
@@ -10,11 +10,11 @@ use Rattle.definition.specs.Ranges.{static_width, val}
 use Rattle.definition.specs.Component as Def
 use Rattle.definition.specs.Component.{has_end}
 use Rattle.definition.specs.Concatenation.{has_full_range, is_static_literal, whole_literal}
-use Rattle.definition.specs.Answer.{flag, text_bytes, x_bytes, usb_bytes, type_bytes, component_bytes}
+use Rattle.definition.specs.Answer.{flag, text_bytes, usb_bytes, component_bytes}
 use Rattle.stages.specs.answer.Blocks.{word_bytes, head_block, literal_block, plain_block, open_block, fixed_block}
-use Rattle.stages.specs.component.Kept.{text_word, end_or0, flags_of, fields_of, RowIs}
+use Rattle.stages.specs.component.Kept.{end_or0, flags_of, fields_of, RowIs}
 use Rattle.stages.specs.declared.component.keep.Row.{Row}
-use Rattle.stages.proofs.answer.blocks.Words.{u32_mod, text_word_lem, x_small, three_bytes, usb_words}
+use Rattle.stages.proofs.answer.blocks.Words.{text_word_lem, x_small, three_bytes, usb_words}
 
 abbrev join : List ℕ → List ℕ → List ℕ
 join a b = a ++ b

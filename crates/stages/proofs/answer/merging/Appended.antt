@@ -8,7 +8,7 @@ use Rattle.laws.specs.Tests.{and_iff}
 use Rattle.laws.specs.Lists.{length_tab}
 use Rattle.laws.specs.Padded.{length_padded}
 use Rattle.laws.specs.Sets.{sets_append, take_sets, drop_sets, sets_over}
-use Rattle.prepared.specs.Bits.{Bits, length_packed}
+use Rattle.prepared.specs.Bits.{length_packed}
 use Rattle.stages.specs.answer.literal_bits.Put.{bit_of, bits_from, with_bits, put_bits}
 use Rattle.stages.specs.answer.literal_bits.Places.{Small, put_fits}
 use Rattle.stages.specs.answer.literal_bits.Packing.{held_more, region_full}

@@ -1,7 +1,7 @@
 -- The run's bits, a component's block, and the end of a run.
 use Rattle.std.proofs.Common.{◌≡◌, ◌<◌, ◌≤◌, sym, refl, ap, ◌∙◌, subst, true≢false, arith, length-append, length-drop, take_all}
 use lib.Seq.{sets, length-sets}
-use Rattle.definition.specs.Prelude.{ℕ, ◌+◌, ◌*◌, ◌-◌, ◌%◌, ◌^◌, true, false, not, none, some, List, [], ◌∷◌, ◌++◌, length, take, drop}
+use Rattle.definition.specs.Prelude.{ℕ, ◌+◌, ◌-◌, ◌%◌, ◌^◌, true, false, not, none, some, List, [], ◌∷◌, ◌++◌, length, take, drop}
 use Rattle.definition.specs.Basics.{all, tab}
 use Rattle.definition.specs.Image.{Placed, bytes_for}
 use Rattle.definition.specs.Tree.{packed}
@@ -15,7 +15,7 @@ use Rattle.answer_facts.specs.merge.Runs.{Run, run_bits, literal_of, longer, clo
 use Rattle.stages.specs.answer.Blocks.{fixed_block}
 use Rattle.stages.specs.answer.literal_bits.Put.{bit_of, bits_from}
 use Rattle.stages.specs.answer.literal_bits.Packing.{bits_append}
-use Rattle.stages.specs.answer.merging.Blocks.{put_one, written_one, Same, same_one, length_literals}
+use Rattle.stages.specs.answer.merging.Blocks.{put_one, written_one, same_one, length_literals}
 use Rattle.stages.specs.answer.merging.Literals.{AppendIs}
 use Rattle.stages.specs.answer.merging.Put.{Room}
 use Rattle.stages.specs.answer.merging.State.{Holds, LongerIs, Closes, CloseIs, Closable, behind_by}

@@ -3,8 +3,8 @@ use Rattle.std.proofs.Common.{◌≡◌, ◌<◌, ◌≤◌, sym, refl, ap, ◌�
 use mathlib.Core.List.{map-map}
 use lib.ListN.{length-map}
 use lib.Seq.{sets, length-sets}
-use Rattle.definition.specs.Prelude.{ℕ, suc, ◌+◌, ◌*◌, ◌-◌, ◌%◌, ◌/◌, ◌^◌, Bool, true, false, not, Option, none, some, List, [], ◌∷◌, ◌++◌, map, length, drop, eqb}
-use Rattle.definition.specs.Basics.{if◌then◌else◌, is_empty, sum, joined}
+use Rattle.definition.specs.Prelude.{ℕ, ◌+◌, ◌*◌, ◌-◌, ◌^◌, Bool, true, false, not, Option, none, some, List, [], ◌∷◌, ◌++◌, map, length, drop, eqb}
+use Rattle.definition.specs.Basics.{if◌then◌else◌, sum, joined}
 use Rattle.definition.specs.Image.{Placed}
 use Rattle.definition.specs.Tree.{u32}
 use Rattle.definition.specs.Text as Text
@@ -17,13 +17,12 @@ use Rattle.laws.specs.Tests.{eqb_iff}
 use Rattle.numbers.specs.Value.{option_usize}
 use Rattle.numbers.specs.declared.OptionUsize.{OptionUsize}
 use Rattle.numbers.specs.declared.OptionUsize.TheVariants as U
-use Rattle.answer_facts.specs.fits.Fixed.{AllFixed}
 use Rattle.answer_facts.specs.fits.Statement.{literals_of}
 use Rattle.answer_facts.specs.read.Trees.{merged_comps}
 use Rattle.stages.specs.token_tree.Table.{tree_in}
-use Rattle.stages.specs.token_tree.Parts.{no_part, part_of, bytes_in, PartFits}
+use Rattle.stages.specs.token_tree.Parts.{part_of, bytes_in, PartFits}
 use Rattle.stages.specs.component.Kept.{text_word_by}
-use Rattle.stages.specs.component.Start.{start_of, TextFits}
+use Rattle.stages.specs.component.Start.{TextFits}
 use Rattle.stages.specs.concatenation.alignment.Align.{align_of}
 use Rattle.stages.specs.concatenation.Heads.{width_number, HeadsAre, AllChecked}
 use Rattle.stages.specs.answer.Blocks.{word_bytes, head_of}

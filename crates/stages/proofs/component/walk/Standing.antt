@@ -1,9 +1,9 @@
 -- Where a walk stands: what its numbers are, and that the next components fit, too.
-use Rattle.std.proofs.Common.{◌≡◌, ◌<◌, ◌≤◌, sym, refl, ap, ◌∙◌, subst, add-zero, arith, length-append, length-drop}
-use Rattle.definition.specs.Prelude.{ℕ, suc, ◌+◌, ◌*◌, ◌-◌, ◌^◌, Bool, ◌&&◌, List, [], ◌∷◌, ◌++◌, length, drop, eqb}
-use Rattle.definition.specs.Basics.{is_empty, joined}
+use Rattle.std.proofs.Common.{◌≡◌, ◌<◌, ◌≤◌, sym, ap, ◌∙◌, subst, add-zero, arith, length-append, length-drop}
+use Rattle.definition.specs.Prelude.{ℕ, suc, ◌+◌, ◌*◌, ◌^◌, List, [], ◌∷◌, ◌++◌, length}
+use Rattle.definition.specs.Basics.{joined}
 use Rattle.definition.specs.Image.{u32_at, bytes_for}
-use Rattle.definition.specs.Tree.{Node, recs_of, text_of, literals_of, packed}
+use Rattle.definition.specs.Tree.{Node, literals_of, packed}
 use Rattle.prepared.specs.Bits.{length_packed}
 use Rattle.stages.specs.token_tree.Table.{RunFits}
 use Rattle.stages.specs.token_tree.Rows.{Rooted, Rows, TablesFit}

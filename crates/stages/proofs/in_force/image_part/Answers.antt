@@ -1,4 +1,4 @@
-use Rattle.std.proofs.Common.{arith, rules}
+use Rattle.std.proofs.Common.{arith}
 use Rattle.stages.proofs.in_force.Parts.{part_outside, part_inside}
 use Rattle.stages.proofs.in_force.image_part.Goals as goal
 

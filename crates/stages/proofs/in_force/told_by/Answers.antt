@@ -1,4 +1,4 @@
-use Rattle.std.proofs.Common.{sym, ap, ◌∙◌, rules}
+use Rattle.std.proofs.Common.{sym, ap, ◌∙◌}
 use Rattle.errors.specs.Refused.{outcome_of}
 use Rattle.stages.specs.in_force.InForce.{told_by}
 use Rattle.stages.proofs.in_force.told_by.Goals as goal

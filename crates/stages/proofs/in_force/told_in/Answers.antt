@@ -1,4 +1,3 @@
-use Rattle.std.proofs.Common.{rules}
 use Rattle.stages.proofs.in_force.Heads.{told_image, told_default}
 use Rattle.stages.proofs.in_force.told_in.Goals as goal
 

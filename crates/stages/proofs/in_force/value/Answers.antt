@@ -1,4 +1,4 @@
-use Rattle.std.proofs.Common.{sym, ap, ◌∙◌, rules}
+use Rattle.std.proofs.Common.{sym, ap, ◌∙◌}
 use Rattle.stages.specs.in_force.InForce.{part_in}
 use Rattle.stages.proofs.in_force.value.Goals as goal
 

@@ -1,19 +1,18 @@
 -- Tests of a number that may be unknown against a literal's width, and 25 to 27 of a range that has an end.
-use Rattle.std.proofs.Common.{◌≡◌, ◌<◌, Bool, true, false, not, sym, refl, ap, ◌∙◌, subst, arith, ltb-false, ltb-true, lt-ltb, ne_eqb, le-leb}
+use Rattle.std.proofs.Common.{◌≡◌, Bool, true, false, not, sym, refl, ap, ◌∙◌, subst, arith, ltb-false, ltb-true, lt-ltb, le-leb}
 use lib.Dec.{eqb-suc-zero}
 use borrow.Author.Tests.{lt-leb}
-use Rattle.definition.specs.Prelude.{ℕ, zero, suc, ◌^◌, Option, none, some, List, ltb, leb, eqb, ℤ, pos, negsuc, lt_z, le_z, non_neg}
+use Rattle.definition.specs.Prelude.{ℕ, zero, suc, Option, none, some, List, ltb, leb, ℤ, pos, negsuc, lt_z, le_z, non_neg}
 use Rattle.definition.specs.Basics.{Result, ok, ◌>>=◌}
 use Rattle.definition.specs.Refusals.{need, end_above_width, range_above_width, end_zero_lem}
 use Rattle.definition.specs.Ranges as D
 use Rattle.definition.specs.Ranges.{static_val, static_width}
 use Rattle.definition.specs.Component.{if_static_end, if_known, is_zero}
 use Rattle.laws.specs.Tests.{by_test}
-use Rattle.numbers.specs.Value.{bits, value_of, option_of}
+use Rattle.numbers.specs.Value.{value_of, option_of}
 use Rattle.numbers.specs.declared.I128.{I128}
 use Rattle.numbers.specs.declared.OptionI128.{OptionI128}
 use Rattle.numbers.specs.declared.OptionI128.TheVariants as I
-use Rattle.numbers.proofs.Small.{small}
 use Rattle.stages.specs.ranges.Values.{Tree, usb_of, end_of, usbr_of, Measured, SimplifiedReads}
 use Rattle.stages.specs.ranges.Checks.{passes, end_val, end_zero, Positive, end_checked}
 use Rattle.stages.specs.declared.ranges.types.Usb.{Usb}

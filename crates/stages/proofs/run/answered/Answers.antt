@@ -1,4 +1,3 @@
-use Rattle.std.proofs.Common.{rules}
 use Rattle.stages.proofs.run.Ordered.{entered, whole_entered, whole_refused}
 use Rattle.stages.proofs.run.answered.Goals as goal
 

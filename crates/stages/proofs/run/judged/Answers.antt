@@ -1,4 +1,3 @@
-use Rattle.std.proofs.Common.{rules}
 use Rattle.stages.specs.component.Start.{scanned_base}
 use Rattle.stages.proofs.run.Outcomes.{judged_counts, judged_off, answers, judged_on}
 use Rattle.stages.proofs.run.judged.Goals as goal
@@ -9,8 +8,7 @@ stage4-requires c =
 
 pub stage5-requires : goal.stage5-requires
 stage5-requires c =
-    let f = c.requires.1 in
-    (
+    let f = c.requires.1 in (
       scanned_base c.args.image.now,
       f.ds,
       f.heads_long,

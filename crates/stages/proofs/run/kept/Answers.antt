@@ -1,4 +1,3 @@
-use Rattle.std.proofs.Common.{rules}
 use Rattle.stages.proofs.run.Outcomes.{read_counts, few_heads, judged_fits, kept_on, kept_off}
 use Rattle.stages.proofs.run.kept.Goals as goal
 

@@ -1,4 +1,4 @@
-use Rattle.std.proofs.Common.{refl, rules}
+use Rattle.std.proofs.Common.{refl}
 use Rattle.definition.specs.Run.{with_default}
 use Rattle.errors.specs.Refused.{outcome_of}
 use Rattle.stages.proofs.run.Force.{in_force_lem, not_empty}

@@ -1,4 +1,3 @@
-use Rattle.std.proofs.Common.{rules}
 use Rattle.stages.proofs.run.Starting.{start_fits, start_refused}
 use Rattle.stages.proofs.run.Outcomes.{staged_on, staged_off}
 use Rattle.stages.proofs.run.staged.Goals as goal

@@ -1,4 +1,4 @@
-use Rattle.std.proofs.Common.{◌*◌, ◌≤◌, length, rules}
+use Rattle.std.proofs.Common.{◌*◌, ◌≤◌, length}
 use Rattle.definition.specs.Image.{counts}
 use Rattle.stages.proofs.run.Starting.{start_after}
 use Rattle.stages.proofs.run.Outcomes.{read_fits, started_on, started_off}

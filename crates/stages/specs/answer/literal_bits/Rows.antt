@@ -1,5 +1,5 @@
 -- Rows of bits, each from its place in its list, written one after another from the first bit of a region of zeros.
-use Rattle.std.specs.Prelude.{◌≡◌, ℕ, ◌+◌, ◌*◌, ◌^◌, ◌<◌, ◌≤◌, replicate}
+use Rattle.std.specs.Prelude.{◌≡◌, ℕ, ◌+◌, ◌*◌, ◌≤◌, replicate}
 use Rattle.std.proofs.Math.Path.{refl, ap}
 use Rattle.std.proofs.Common.{sym, ◌∙◌, append_assoc, append-nil, add-zero}
 use native.Mathlib.Omega.{arith}
@@ -7,13 +7,13 @@ use Rattle.std.proofs.Math.ListN.{length-append}
 use Rattle.std.proofs.Math.Seq.{sets}
 use Rattle.definition.specs.Prelude.{List, [], ◌∷◌, ◌++◌, map, length}
 use Rattle.definition.specs.Basics.{all, joined}
-use Rattle.definition.specs.Image.{padded, bytes_for}
+use Rattle.definition.specs.Image.{padded}
 use Rattle.definition.specs.Tree.{packed}
 use Rattle.laws.specs.Lists.{length_tab}
-use Rattle.prepared.specs.Bits.{Bits, length_packed}
-use Rattle.stages.specs.answer.literal_bits.Put.{bit_of, bits_from, with_bits, put_bits}
-use Rattle.stages.specs.answer.literal_bits.Places.{Small, put_fits}
-use Rattle.stages.specs.answer.literal_bits.Packing.{bits_more, region_empty, region_full, packed_more}
+use Rattle.prepared.specs.Bits.{Bits}
+use Rattle.stages.specs.answer.literal_bits.Put.{bit_of, bits_from, with_bits}
+use Rattle.stages.specs.answer.literal_bits.Places.{Small}
+use Rattle.stages.specs.answer.literal_bits.Packing.{bits_more, region_empty, packed_more}
 
 pub record Row : Type 0 where
   pub source : List ℕ

@@ -1,6 +1,6 @@
 -- The number of a row of bits, in parts; the bits of a number; a byte of which some bits are replaced.
-use Rattle.std.specs.Prelude.{◌≡◌, ℕ, zero, suc, ◌+◌, ◌-◌, ◌*◌, ◌/◌, ◌%◌, ◌^◌, ◌<◌, ◌≤◌, refl}
-use Rattle.std.proofs.Common.{sym, ap, ◌∙◌, add-zero, zero-add, add-suc, mul-zero, mul-one, one-mul, mul_comm, mul_left_comm, mul-add, mod-eq_of_lt, add-one, one-add, arith, pow-add, shr-shr, shr_lt}
+use Rattle.std.specs.Prelude.{◌≡◌, ℕ, zero, suc, ◌+◌, ◌-◌, ◌*◌, ◌/◌, ◌%◌, ◌^◌, ◌<◌, ◌≤◌}
+use Rattle.std.proofs.Common.{sym, ap, ◌∙◌, add-zero, zero-add, add-suc, mul-zero, mul_left_comm, mul-add, mod-eq_of_lt, add-one, one-add, arith, pow-add, shr-shr, shr_lt}
 use Rattle.std.proofs.Math.Nat.{mod-one}
 use Rattle.std.proofs.lemmas.Nat.{mod-pow-add}
 use Rattle.definition.specs.Basics.{sum, tab}

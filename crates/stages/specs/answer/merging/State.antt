@@ -5,9 +5,8 @@ use Rattle.definition.specs.Prelude.{ℕ, ◌+◌, ◌-◌, ◌^◌, Bool, true,
 use Rattle.definition.specs.Image.{Placed, bytes_for}
 use Rattle.definition.specs.Tree.{packed}
 use Rattle.definition.specs.Component.{Component}
-use Rattle.definition.specs.Concatenation.{bits_of, is_static_literal}
+use Rattle.definition.specs.Concatenation.{bits_of}
 use Rattle.prepared.specs.Bits as Prepared
-use Rattle.answer_facts.specs.fits.Fixed.{Fixed}
 use Rattle.answer_facts.specs.merge.Runs.{Run, run_bits, longer, closed, merge_from}
 use Rattle.stages.specs.answer.literal_bits.Put.{bits_from}
 use Rattle.stages.specs.answer.merging.Put.{Room}

@@ -1,13 +1,6 @@
-use mathlib.Core.Path.{◌≡◌, sym, ◌∙◌}
-use mathlib.Core.Bool.{◌&&◌}
-use mathlib.Core.List.{List}
-use Prim.Native.Nat.{ℕ, ◌+◌, ◌*◌, ◌-◌, ◌≤◌}
+use mathlib.Core.Path.{sym, ◌∙◌}
 use native.Mathlib.Nat.{sub-zero}
 use native.Mathlib.Omega.{arith}
-use borrow.Author.Rules.{rules}
-use Rattle.definition.specs.Basics.{tab}
-use Rattle.definition.specs.Image.{u32_at}
-use Rattle.image.specs.check.Parts.{widths_right}
 use Rattle.image.proofs.check.Sums.{widths_again, widths_end}
 use Rattle.image.proofs.check.entries.widths_right.Invariants.{width}
 use Rattle.image.proofs.check.entries.widths_right.Goals as goal

@@ -1,15 +1,11 @@
 -- The loop's invariant: what was seen is right and what is still to come is right, from literal byte l on, where the whole is right.
-use mathlib.Core.Path.{◌≡◌, sym, ◌∙◌}
+use mathlib.Core.Path.{◌≡◌}
 use mathlib.Core.Bool.{◌&&◌}
 use mathlib.Core.List.{List}
 use Prim.Native.Nat.{ℕ, ◌+◌, ◌*◌, ◌-◌, ◌≤◌}
-use native.Mathlib.Nat.{sub-zero}
-use native.Mathlib.Omega.{arith}
-use borrow.Author.Rules.{rules}
 use Rattle.definition.specs.Basics.{tab}
 use Rattle.definition.specs.Image.{u32_at}
 use Rattle.image.specs.check.Parts.{widths_right}
-use Rattle.image.proofs.check.Sums.{widths_again, widths_end}
 use Rattle.image.proofs.check.entries.widths_right.Given as goal
 
 abbrev pub width : List ℕ → ℕ → ℕ → ℕ

@@ -209,7 +209,7 @@ loop-left-preserved t c =
       omega (arith, v.invariant.1, fits),
       λ x says. v.invariant.2 x
           (group_goes a.t (entry_in image a.records a.text a.all a.t) a.depth v.k v.left c.loop-left-test.true e (c.numbers_at-e.ensures a.text)
-    fits closer (c.numbers_at-closer.ensures a.text) (read ∙ c.if-not-opener_right.false)
+          fits closer (c.numbers_at-closer.ensures a.text) (read ∙ c.if-not-opener_right.false)
           (omega (arith, c.if-depth-ge-DEPTH.false)) c.check_in-inside.result c.check_in-inside.ensures c.if-inside-ne0.false (shut ∙ c.if-not-close_right.false) x says),
     )
 

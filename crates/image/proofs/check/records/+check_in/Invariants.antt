@@ -1,6 +1,6 @@
 -- The record checker. The loop's invariant: whatever the records that are left say, all of them say. The loop's measure is what is
 -- left, the function's the count that it was given.
-use Rattle.std.proofs.Common.{◌≡◌, ℕ, ◌+◌, ◌≤◌}
+use Rattle.std.proofs.Common.{◌≡◌, ◌+◌, ◌≤◌}
 use Rattle.definition.specs.Basics.{Result}
 use Rattle.image.specs.token_tree.Tables.{entry_in}
 use Rattle.image.specs.check.Parts.{Says}

@@ -5,7 +5,6 @@ use native.Mathlib.Omega.{arith}
 use borrow.Author.Rules.{rules}
 use Rattle.definition.specs.Basics.{sum, tab}
 use Rattle.definition.specs.Image.{u32_at, record_count}
-use Rattle.definition.specs.Check.{check_components}
 use Rattle.image.specs.check.Parts.{answer_of}
 use Rattle.image.proofs.check.Answers.{answer_stops, answer_refused}
 use Rattle.image.proofs.check.Whole.{own, sum_goes, component_stops, component_goes, components_end}
@@ -26,19 +25,19 @@ four_at-count-requires c = omega arith
 pub check_in-part-requires : goal.check_in-part-requires
 check_in-part-requires c =
     let counted : (c.four_at-count.result ≡ record_count c.args.image.now c.loop-k.k) =
-      c.four_at-count.ensures ∙ ap (λ x. u32_at c.args.image.now (x + 8 * c.loop-k.k)) c.requires.2 in
+    c.four_at-count.ensures ∙ ap (λ x. u32_at c.args.image.now (x + 8 * c.loop-k.k)) c.requires.2 in
     let goes : (let g = record_count c.args.image.now in
     let v = c.loop-k in
     (v.from + c.four_at-count.result ≤ c.args.p.count)
     × (v.from + c.four_at-count.result + sum (tab g (v.k + 1) (c.args.n - (v.k + 1))) ≡ sum (tab g 0 c.args.n))) =
-      let v = c.loop-k in
+    let v = c.loop-k in
     sum_goes (record_count c.args.image.now) v.from v.k c.args.n c.four_at-count.result c.loop-k-test.true counted _ c.args.p.count v.invariant.1 c.requires.4 in
     (c.requires.0, goes.0, search rules)
 
 pub returns-then-part-ne0 : goal.returns-then-part-ne0
 returns-then-part-ne0 c =
     let counted : (c.four_at-count.result ≡ record_count c.args.image.now c.loop-k.k) =
-      c.four_at-count.ensures ∙ ap (λ x. u32_at c.args.image.now (x + 8 * c.loop-k.k)) c.requires.2 in
+    c.four_at-count.ensures ∙ ap (λ x. u32_at c.args.image.now (x + 8 * c.loop-k.k)) c.requires.2 in
     let a = c.args in
     let v = c.loop-k in
     c.refuse.ensures ∙ answer_refused c.check_in-part.result c.if-part-ne0.true
@@ -49,12 +48,12 @@ returns-then-part-ne0 c =
 pub overflow_add-from : goal.overflow_add-from
 overflow_add-from c =
     let counted : (c.four_at-count.result ≡ record_count c.args.image.now c.loop-k.k) =
-      c.four_at-count.ensures ∙ ap (λ x. u32_at c.args.image.now (x + 8 * c.loop-k.k)) c.requires.2 in
+    c.four_at-count.ensures ∙ ap (λ x. u32_at c.args.image.now (x + 8 * c.loop-k.k)) c.requires.2 in
     let goes : (let g = record_count c.args.image.now in
     let v = c.loop-k in
     (v.from + c.four_at-count.result ≤ c.args.p.count)
     × (v.from + c.four_at-count.result + sum (tab g (v.k + 1) (c.args.n - (v.k + 1))) ≡ sum (tab g 0 c.args.n))) =
-      let v = c.loop-k in
+    let v = c.loop-k in
     sum_goes (record_count c.args.image.now) v.from v.k c.args.n c.four_at-count.result c.loop-k-test.true counted _ c.args.p.count v.invariant.1 c.requires.4 in
     omega (arith, goes.0, c.requires.0)
 
@@ -67,12 +66,12 @@ loop-k-smaller c = omega arith
 pub loop-k-preserved : goal.loop-k-preserved
 loop-k-preserved c =
     let counted : (c.four_at-count.result ≡ record_count c.args.image.now c.loop-k.k) =
-      c.four_at-count.ensures ∙ ap (λ x. u32_at c.args.image.now (x + 8 * c.loop-k.k)) c.requires.2 in
+    c.four_at-count.ensures ∙ ap (λ x. u32_at c.args.image.now (x + 8 * c.loop-k.k)) c.requires.2 in
     let goes : (let g = record_count c.args.image.now in
     let v = c.loop-k in
     (v.from + c.four_at-count.result ≤ c.args.p.count)
     × (v.from + c.four_at-count.result + sum (tab g (v.k + 1) (c.args.n - (v.k + 1))) ≡ sum (tab g 0 c.args.n))) =
-      let v = c.loop-k in
+    let v = c.loop-k in
     sum_goes (record_count c.args.image.now) v.from v.k c.args.n c.four_at-count.result c.loop-k-test.true counted _ c.args.p.count v.invariant.1 c.requires.4 in
     let a = c.args in
     let v = c.loop-k in (

@@ -1,15 +1,9 @@
 -- The loop's invariant: what the components that are left say, from record `from` on, all of them say.
-use mathlib.Core.Path.{◌≡◌, ap, ◌∙◌}
-use Prim.Native.Nat.{◌+◌, ◌*◌, ◌-◌, ◌≤◌}
-use native.Mathlib.Nat.{sub-zero, zero-add}
-use native.Mathlib.Omega.{arith}
-use borrow.Author.Rules.{rules}
+use mathlib.Core.Path.{◌≡◌}
+use Prim.Native.Nat.{◌+◌, ◌-◌, ◌≤◌}
 use Rattle.definition.specs.Basics.{sum, tab}
-use Rattle.definition.specs.Image.{u32_at, record_count}
+use Rattle.definition.specs.Image.{record_count}
 use Rattle.definition.specs.Check.{check_components}
-use Rattle.image.specs.check.Parts.{answer_of}
-use Rattle.image.proofs.check.Answers.{answer_stops, answer_refused}
-use Rattle.image.proofs.check.Whole.{own, sum_goes, component_stops, component_goes, components_end}
 use Rattle.image.proofs.check.records.components_check.Given as goal
 
 abbrev pub invariant-loop-k : goal.invariant-loop-k

@@ -1,4 +1,3 @@
-use borrow.Author.Rules.{rules}
 use Rattle.image.specs.token_tree.Tables.{entry_in}
 use Rattle.image.proofs.check.records.numbers_at.Goals as goal
 

@@ -1,6 +1,5 @@
 use mathlib.Core.Path.{ap, ◌∙◌}
 use native.Mathlib.Omega.{arith}
-use borrow.Author.Rules.{rules}
 use Rattle.errors.specs.Refused.{result_of}
 use Rattle.image.proofs.check.Whole.{tables_told, places_own, start_refused, components_said}
 use Rattle.image.proofs.check.records.records_check.Goals as goal

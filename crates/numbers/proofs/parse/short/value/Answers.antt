@@ -1,5 +1,4 @@
-use Rattle.std.proofs.Common.{◌≡◌, ◌-◌, ◌^◌, ◌<◌, ◌≤◌, length, drop, refl, arith, rules}
-use Rattle.definition.specs.Numbers.{digits_from}
+use Rattle.std.proofs.Common.{refl, arith, rules}
 use Rattle.numbers.proofs.parse.ShortDecimal.{room, one_more, all_read}
 use Rattle.numbers.proofs.parse.short.value.Goals as goal
 

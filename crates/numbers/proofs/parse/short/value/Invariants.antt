@@ -1,7 +1,6 @@
 -- `numbers::parse::short::value` meets its contract. The invariant: n is below 10^i, and from place i on the digits give what the whole gives.
-use Rattle.std.proofs.Common.{◌≡◌, ◌-◌, ◌^◌, ◌<◌, ◌≤◌, length, drop, refl, arith, rules}
+use Rattle.std.proofs.Common.{◌≡◌, ◌-◌, ◌^◌, ◌<◌, ◌≤◌, length, drop}
 use Rattle.definition.specs.Numbers.{digits_from}
-use Rattle.numbers.proofs.parse.ShortDecimal.{room, one_more, all_read}
 use Rattle.numbers.proofs.parse.short.value.Given as goal
 
 abbrev pub invariant-loop-i : goal.invariant-loop-i

@@ -1,5 +1,5 @@
 -- Four bytes, one next to the other.
-use Rattle.std.proofs.Common.{refl, arith, length-set, rules}
+use Rattle.std.proofs.Common.{refl, arith, length-set}
 use Rattle.laws.specs.Writing.{four}
 use Rattle.stages.proofs.answer.area.put_four.Goals as goal
 

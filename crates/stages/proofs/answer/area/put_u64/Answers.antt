@@ -1,5 +1,5 @@
 -- Two numbers, one next to the other.
-use Rattle.std.proofs.Common.{◌/◌, ◌%◌, ◌^◌, refl, rules}
+use Rattle.std.proofs.Common.{◌/◌, ◌%◌, ◌^◌, refl}
 use Rattle.definition.specs.Tree.{u32}
 use Rattle.laws.specs.Writing.{and_then}
 use Rattle.stages.proofs.answer.area.put_u64.Goals as goal

@@ -1,4 +1,4 @@
-use Rattle.std.proofs.Common.{arith, rules}
+use Rattle.std.proofs.Common.{arith}
 use Rattle.stages.proofs.answer.merging.Appended.{out_of_area, from_place}
 use Rattle.stages.proofs.answer.bits.append_bits.Goals as goal
 

@@ -1,4 +1,4 @@
-use Rattle.std.proofs.Common.{arith, rules}
+use Rattle.std.proofs.Common.{arith}
 use Rattle.stages.proofs.answer.merging.Appended.{near_is, far_off, front}
 use Rattle.stages.proofs.answer.merging.Whole.{copied}
 use Rattle.stages.proofs.answer.bits.append_front.Goals as goal

@@ -1,4 +1,4 @@
-use Rattle.std.proofs.Common.{◌≡◌, ◌+◌, ◌-◌, ◌<◌, ◌≤◌, length, take, drop, refl, ap, ◌∙◌, le_antisymm, arith, length-set, rules}
+use Rattle.std.proofs.Common.{◌<◌, take, drop, refl, ap, ◌∙◌, le_antisymm, arith, length-set}
 use lib.Seq.{sets}
 use Rattle.stages.proofs.answer.merging.Whole.{copy_next}
 use Rattle.stages.proofs.answer.bits.copy_bytes.Goals as goal

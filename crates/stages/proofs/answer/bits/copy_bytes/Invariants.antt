@@ -1,7 +1,6 @@
 -- `copy_bytes` meets its contract: before turn i the first i bytes are copied.
-use Rattle.std.proofs.Common.{◌≡◌, ◌+◌, ◌-◌, ◌<◌, ◌≤◌, length, take, drop, refl, ap, ◌∙◌, le_antisymm, arith, length-set, rules}
+use Rattle.std.proofs.Common.{◌≡◌, ◌-◌, ◌≤◌, length, take, drop}
 use lib.Seq.{sets}
-use Rattle.stages.proofs.answer.merging.Whole.{copy_next}
 use Rattle.stages.proofs.answer.bits.copy_bytes.Given as goal
 
 abbrev pub invariant-loop-i : goal.invariant-loop-i

@@ -1,4 +1,3 @@
-use Rattle.std.proofs.Common.{rules}
 use Rattle.stages.proofs.answer.blocks.Joins.{fixed_put}
 use Rattle.stages.proofs.answer.blocks.put_fixed.Goals as goal
 

@@ -1,4 +1,3 @@
-use Rattle.std.proofs.Common.{rules}
 use Rattle.stages.proofs.answer.blocks.Joins.{plain_put}
 use Rattle.stages.proofs.answer.blocks.put_plain.Goals as goal
 

@@ -1,4 +1,4 @@
-use Rattle.std.proofs.Common.{◌+◌, get_or, rules}
+use Rattle.std.proofs.Common.{◌+◌, get_or}
 use Rattle.stages.proofs.answer.blocks.Joins.{three_words}
 use Rattle.stages.proofs.answer.blocks.put_usb.Goals as goal
 

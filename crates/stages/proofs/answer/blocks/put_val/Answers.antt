@@ -1,4 +1,3 @@
-use Rattle.std.proofs.Common.{rules}
 use Rattle.stages.proofs.answer.blocks.Joins.{three_words}
 use Rattle.stages.proofs.answer.blocks.put_val.Goals as goal
 

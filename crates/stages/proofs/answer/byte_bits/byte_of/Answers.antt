@@ -1,5 +1,4 @@
 -- The pair, shifted down.
-use Rattle.std.proofs.Common.{rules}
 use Rattle.stages.proofs.answer.byte_bits.byte_of.Goals as goal
 
 pub returns : goal.returns

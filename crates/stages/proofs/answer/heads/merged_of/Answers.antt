@@ -1,8 +1,5 @@
-use Rattle.std.proofs.Common.{◌≡◌, ◌-◌, ◌*◌, ◌<◌, ◌≤◌, List, map, length, take, refl, ◌∙◌, arith, rules}
-use Rattle.definition.specs.Basics.{sum}
-use Rattle.definition.specs.Concatenation.{Concatenation}
-use Rattle.stages.specs.concatenation.Heads.{HeadsAre, AllChecked}
-use Rattle.stages.proofs.answer.heads.Listed.{size_of, sum_start, sum_next, sum_end}
+use Rattle.std.proofs.Common.{arith}
+use Rattle.stages.proofs.answer.heads.Listed.{sum_start, sum_next, sum_end}
 use Rattle.stages.proofs.answer.heads.merged_of.Goals as goal
 
 pub loop-i-init : goal.loop-i-init

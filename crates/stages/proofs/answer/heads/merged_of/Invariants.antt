@@ -1,9 +1,9 @@
 -- Before turn i the sum of the first i sizes.
-use Rattle.std.proofs.Common.{◌≡◌, ◌-◌, ◌*◌, ◌<◌, ◌≤◌, List, map, length, take, refl, ◌∙◌, arith, rules}
+use Rattle.std.proofs.Common.{◌≡◌, ◌-◌, ◌*◌, ◌≤◌, List, map, length, take}
 use Rattle.definition.specs.Basics.{sum}
 use Rattle.definition.specs.Concatenation.{Concatenation}
 use Rattle.stages.specs.concatenation.Heads.{HeadsAre, AllChecked}
-use Rattle.stages.proofs.answer.heads.Listed.{size_of, sum_start, sum_next, sum_end}
+use Rattle.stages.proofs.answer.heads.Listed.{size_of}
 use Rattle.stages.proofs.answer.heads.merged_of.Given as goal
 
 abbrev pub invariant-loop-i : goal.invariant-loop-i

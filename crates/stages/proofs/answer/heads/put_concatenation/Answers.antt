@@ -1,4 +1,4 @@
-use Rattle.std.proofs.Common.{◌+◌, ◌*◌, rules}
+use Rattle.std.proofs.Common.{◌+◌, ◌*◌}
 use Rattle.stages.proofs.answer.heads.Headed.{concatenation_put}
 use Rattle.stages.proofs.answer.heads.put_concatenation.Goals as goal
 

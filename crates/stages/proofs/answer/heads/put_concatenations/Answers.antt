@@ -1,8 +1,5 @@
-use Rattle.std.proofs.Common.{◌≡◌, ◌-◌, ◌<◌, ◌≤◌, List, length, take, refl, ◌∙◌, arith, rules}
-use lib.Seq.{sets}
-use Rattle.definition.specs.Concatenation.{Concatenation}
-use Rattle.stages.specs.concatenation.Heads.{HeadsAre, AllChecked}
-use Rattle.stages.proofs.answer.heads.Listed.{blocks, blocks_start, blocks_next, blocks_end}
+use Rattle.std.proofs.Common.{refl, ◌∙◌, arith}
+use Rattle.stages.proofs.answer.heads.Listed.{blocks_start, blocks_next, blocks_end}
 use Rattle.stages.proofs.answer.heads.put_concatenations.Goals as goal
 
 pub loop-i-init : goal.loop-i-init
@@ -18,8 +15,7 @@ put_concatenation-requires c =
 pub loop-i-preserved : goal.loop-i-preserved
 loop-i-preserved c =
     let a = c.args in
-    let t = c.loop-i-test.true in
-    (
+    let t = c.loop-i-test.true in (
       omega arith,
       c.put_concatenation.auto.area ∙ c.loop-i.invariant.1,
       λ ds n h k. blocks_next a.area.now c.loop-i.area _ c.loop-i.i ds (omega arith) (c.loop-i.invariant.2 ds n h k) (λ rest d here. c.put_concatenation.ensures ds rest d h k here),

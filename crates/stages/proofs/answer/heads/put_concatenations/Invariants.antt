@@ -1,9 +1,9 @@
 -- Before turn i the blocks of the first i concatenations stand in the area.
-use Rattle.std.proofs.Common.{◌≡◌, ◌-◌, ◌<◌, ◌≤◌, List, length, take, refl, ◌∙◌, arith, rules}
+use Rattle.std.proofs.Common.{◌≡◌, ◌-◌, ◌≤◌, List, length, take}
 use lib.Seq.{sets}
 use Rattle.definition.specs.Concatenation.{Concatenation}
 use Rattle.stages.specs.concatenation.Heads.{HeadsAre, AllChecked}
-use Rattle.stages.proofs.answer.heads.Listed.{blocks, blocks_start, blocks_next, blocks_end}
+use Rattle.stages.proofs.answer.heads.Listed.{blocks}
 use Rattle.stages.proofs.answer.heads.put_concatenations.Given as goal
 
 abbrev pub invariant-loop-i : goal.invariant-loop-i

@@ -1,4 +1,3 @@
-use Rattle.std.proofs.Common.{rules}
 use Rattle.stages.proofs.answer.heads.Headed.{head_put}
 use Rattle.stages.proofs.answer.heads.put_head.Goals as goal
 

@@ -1,5 +1,4 @@
 -- The two bytes, shifted down.
-use Rattle.std.proofs.Common.{rules}
 use Rattle.stages.proofs.answer.literal_bits.bits_at.Goals as goal
 
 pub returns : goal.returns

@@ -1,6 +1,5 @@
 -- The three parts of the byte, by powers of two. Their sum is below 256, so each is.
-use Rattle.std.proofs.Common.{◌≡◌, ◌+◌, ◌*◌, ◌/◌, ◌%◌, ◌<◌, arith, rules}
-use Rattle.stages.specs.answer.literal_bits.Worth.{blended}
+use Rattle.std.proofs.Common.{◌+◌, ◌*◌, ◌/◌, ◌%◌, ◌<◌, arith}
 use Rattle.stages.proofs.answer.literal_bits.blend.Goals as goal
 
 pub nonzero_rem-result : goal.nonzero_rem-result
@@ -15,7 +14,7 @@ overflow_mul-result c =
     let low = c.two_to-low.result in
     let high = c.two_to-high.result in
     old % low + low * (c.args.bits % c.two_to.result) + high * (old / high) < 256) =
-      rw (c.two_to.ensures.0, c.two_to-high.ensures.0, c.two_to-low.ensures.0) c.requires.1 in
+    rw (c.two_to.ensures.0, c.two_to-high.ensures.0, c.two_to-low.ensures.0) c.requires.1 in
     omega (arith, total)
 
 pub overflow_add-result : goal.overflow_add-result
@@ -24,7 +23,7 @@ overflow_add-result c =
     let low = c.two_to-low.result in
     let high = c.two_to-high.result in
     old % low + low * (c.args.bits % c.two_to.result) + high * (old / high) < 256) =
-      rw (c.two_to.ensures.0, c.two_to-high.ensures.0, c.two_to-low.ensures.0) c.requires.1 in
+    rw (c.two_to.ensures.0, c.two_to-high.ensures.0, c.two_to-low.ensures.0) c.requires.1 in
     omega (arith, total)
 
 pub nonzero_div-result : goal.nonzero_div-result
@@ -36,7 +35,7 @@ overflow_mul-result-2 c =
     let low = c.two_to-low.result in
     let high = c.two_to-high.result in
     old % low + low * (c.args.bits % c.two_to.result) + high * (old / high) < 256) =
-      rw (c.two_to.ensures.0, c.two_to-high.ensures.0, c.two_to-low.ensures.0) c.requires.1 in
+    rw (c.two_to.ensures.0, c.two_to-high.ensures.0, c.two_to-low.ensures.0) c.requires.1 in
     omega (arith, total)
 
 pub overflow_add-result-2 : goal.overflow_add-result-2
@@ -45,7 +44,7 @@ overflow_add-result-2 c =
     let low = c.two_to-low.result in
     let high = c.two_to-high.result in
     old % low + low * (c.args.bits % c.two_to.result) + high * (old / high) < 256) =
-      rw (c.two_to.ensures.0, c.two_to-high.ensures.0, c.two_to-low.ensures.0) c.requires.1 in
+    rw (c.two_to.ensures.0, c.two_to-high.ensures.0, c.two_to-low.ensures.0) c.requires.1 in
     omega (arith, total)
 
 pub overflow_cast-result-2 : goal.overflow_cast-result-2
@@ -54,7 +53,7 @@ overflow_cast-result-2 c =
     let low = c.two_to-low.result in
     let high = c.two_to-high.result in
     old % low + low * (c.args.bits % c.two_to.result) + high * (old / high) < 256) =
-      rw (c.two_to.ensures.0, c.two_to-high.ensures.0, c.two_to-low.ensures.0) c.requires.1 in
+    rw (c.two_to.ensures.0, c.two_to-high.ensures.0, c.two_to-low.ensures.0) c.requires.1 in
     omega (arith, total)
 
 pub returns : goal.returns

@@ -1,5 +1,5 @@
 -- One byte is written.
-use Rattle.std.proofs.Common.{◌≡◌, ◌+◌, ◌%◌, ◌≤◌, sym, arith, rules}
+use Rattle.std.proofs.Common.{◌+◌, ◌%◌, ◌≤◌, sym, arith}
 use Rattle.stages.specs.answer.literal_bits.Places.{with_bits_byte, blended_bound}
 use Rattle.stages.proofs.answer.literal_bits.put_in.Goals as goal
 

@@ -1,5 +1,5 @@
 -- Past the end nothing is written; whole bytes begin at a byte's first bit.
-use Rattle.std.proofs.Common.{◌≡◌, ℕ, ◌*◌, ◌/◌, ◌%◌, ◌<◌, sym, ap, ◌∙◌, arith, rules}
+use Rattle.std.proofs.Common.{◌≡◌, ℕ, ◌*◌, ◌/◌, ◌%◌, ◌<◌, sym, ap, ◌∙◌, arith}
 use Rattle.stages.specs.answer.literal_bits.Put.{with_bits}
 use Rattle.stages.specs.answer.literal_bits.Places.{with_bits_past}
 use Rattle.stages.proofs.answer.literal_bits.put_some.Goals as goal

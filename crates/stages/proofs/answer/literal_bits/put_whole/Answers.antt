@@ -1,4 +1,4 @@
-use Rattle.std.proofs.Common.{◌≡◌, ℕ, ◌+◌, ◌-◌, ◌*◌, ◌/◌, ◌%◌, ◌<◌, ◌≤◌, List, length, set, sym, ap, ◌∙◌, arith, rules}
+use Rattle.std.proofs.Common.{◌≡◌, ℕ, ◌+◌, ◌*◌, List, length, set, sym, ap, ◌∙◌, arith}
 use Rattle.stages.specs.answer.literal_bits.Put.{with_bits}
 use Rattle.stages.specs.answer.literal_bits.Places.{length_with_bits, with_bits_none, whole_more}
 use Rattle.stages.proofs.answer.literal_bits.put_whole.Goals as goal

@@ -1,7 +1,6 @@
 -- The loop's invariant: the first i bytes are written.
-use Rattle.std.proofs.Common.{◌≡◌, ℕ, ◌+◌, ◌-◌, ◌*◌, ◌/◌, ◌%◌, ◌<◌, ◌≤◌, List, length, set, sym, ap, ◌∙◌, arith, rules}
+use Rattle.std.proofs.Common.{◌≡◌, ◌-◌, ◌*◌, ◌≤◌, length}
 use Rattle.stages.specs.answer.literal_bits.Put.{with_bits}
-use Rattle.stages.specs.answer.literal_bits.Places.{length_with_bits, with_bits_none, whole_more}
 use Rattle.stages.proofs.answer.literal_bits.put_whole.Given as goal
 
 abbrev pub invariant-loop-i : goal.invariant-loop-i

@@ -1,5 +1,5 @@
 -- A 1 that is shifted by at most 8 places is not shifted out.
-use Rattle.std.proofs.Common.{◌≡◌, ◌+◌, ◌*◌, ◌%◌, ◌^◌, ◌<◌, ◌∙◌, one-mul, arith, pow_pos, shl_exact, rules}
+use Rattle.std.proofs.Common.{◌≡◌, ◌*◌, ◌%◌, ◌^◌, ◌<◌, ◌∙◌, one-mul, arith, pow_pos, shl_exact}
 use Rattle.stages.proofs.answer.literal_bits.two_to.Goals as goal
 
 pub returns : goal.returns

@@ -1,5 +1,5 @@
 -- The least of the three counts is at most each.
-use Rattle.std.proofs.Common.{arith, rules}
+use Rattle.std.proofs.Common.{arith}
 use Rattle.stages.proofs.answer.literal_bits.whole.Goals as goal
 
 pub returns-then-at-ne0 : goal.returns-then-at-ne0

@@ -1,4 +1,4 @@
-use Rattle.std.proofs.Common.{◌≡◌, ℕ, ◌+◌, ◌-◌, ◌≤◌, min, List, length, set, replicate, sym, ap, ◌∙◌, arith, rules}
+use Rattle.std.proofs.Common.{◌≡◌, ℕ, ◌+◌, ◌-◌, min, List, length, set, replicate, sym, ap, ◌∙◌, arith}
 use lib.Seq.{sets, length-sets}
 use Rattle.laws.specs.Sets.{sets_past}
 use Rattle.stages.specs.answer.literal_bits.Runs.{sets_more, sets_cut}

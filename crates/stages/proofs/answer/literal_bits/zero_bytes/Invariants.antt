@@ -1,8 +1,6 @@
 -- The loop's invariant: the first i of the bytes are 0.
-use Rattle.std.proofs.Common.{◌≡◌, ℕ, ◌+◌, ◌-◌, ◌≤◌, min, List, length, set, replicate, sym, ap, ◌∙◌, arith, rules}
-use lib.Seq.{sets, length-sets}
-use Rattle.laws.specs.Sets.{sets_past}
-use Rattle.stages.specs.answer.literal_bits.Runs.{sets_more, sets_cut}
+use Rattle.std.proofs.Common.{◌≡◌, ◌-◌, ◌≤◌, length, replicate}
+use lib.Seq.{sets}
 use Rattle.stages.proofs.answer.literal_bits.zero_bytes.Given as goal
 
 abbrev pub invariant-loop-i : goal.invariant-loop-i

@@ -1,5 +1,4 @@
 use Rattle.stages.proofs.answer.merging.Closing.{behind_is}
-use Rattle.std.proofs.Common.{rules}
 use Rattle.stages.proofs.answer.merging.behind.Goals as goal
 
 pub returns : goal.returns

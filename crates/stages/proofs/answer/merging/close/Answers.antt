@@ -1,4 +1,3 @@
-use Rattle.std.proofs.Common.{rules}
 use Rattle.stages.proofs.answer.merging.Closing.{close_none, close_some, close_room}
 use Rattle.stages.proofs.answer.merging.close.Goals as goal
 

@@ -1,4 +1,4 @@
-use Rattle.std.proofs.Common.{◌/◌, ◌%◌, ◌^◌, rules}
+use Rattle.std.proofs.Common.{◌/◌, ◌%◌, ◌^◌}
 use Rattle.stages.proofs.answer.merging.Closing.{lengthened}
 use Rattle.stages.proofs.answer.merging.lengthen.Goals as goal
 

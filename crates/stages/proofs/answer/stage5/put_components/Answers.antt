@@ -1,13 +1,7 @@
-use Rattle.std.proofs.Common.{◌≡◌, ◌-◌, ◌≤◌, List, length, refl, ◌∙◌, arith, rules}
+use Rattle.std.proofs.Common.{length, refl, ◌∙◌, arith}
 use Rattle.definition.specs.Basics.{joined}
-use Rattle.definition.specs.Image.{Placed}
-use Rattle.definition.specs.Component.{Component}
-use Rattle.answer_facts.specs.fits.Fixed.{AllFixed}
-use Rattle.stages.specs.token_tree.Rows.{Sizes}
-use Rattle.stages.specs.component.Kept.{KeptFrom}
-use Rattle.stages.specs.answer.merging.Put.{Room}
 use Rattle.stages.specs.answer.Stage5.{merged_all}
-use Rattle.stages.proofs.answer.stage5.Placing.{Placing, placing_start, placing_next, placing_end, turn_fits, turn_few}
+use Rattle.stages.proofs.answer.stage5.Placing.{placing_start, placing_next, placing_end, turn_fits, turn_few}
 use Rattle.stages.proofs.answer.stage5.put_components.Goals as goal
 
 pub loop-i-init : goal.loop-i-init

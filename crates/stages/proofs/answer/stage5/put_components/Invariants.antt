@@ -1,5 +1,5 @@
 -- Before turn i what is still to be written are the concatenations from i on.
-use Rattle.std.proofs.Common.{◌≡◌, ◌-◌, ◌≤◌, List, length, refl, ◌∙◌, arith, rules}
+use Rattle.std.proofs.Common.{◌≡◌, ◌-◌, ◌≤◌, List, length}
 use Rattle.definition.specs.Basics.{joined}
 use Rattle.definition.specs.Image.{Placed}
 use Rattle.definition.specs.Component.{Component}
@@ -8,7 +8,7 @@ use Rattle.stages.specs.token_tree.Rows.{Sizes}
 use Rattle.stages.specs.component.Kept.{KeptFrom}
 use Rattle.stages.specs.answer.merging.Put.{Room}
 use Rattle.stages.specs.answer.Stage5.{merged_all}
-use Rattle.stages.proofs.answer.stage5.Placing.{Placing, placing_start, placing_next, placing_end, turn_fits, turn_few}
+use Rattle.stages.proofs.answer.stage5.Placing.{Placing}
 use Rattle.stages.proofs.answer.stage5.put_components.Given as goal
 
 abbrev pub invariant-loop-i : goal.invariant-loop-i

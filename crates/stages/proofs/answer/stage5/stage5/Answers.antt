@@ -1,4 +1,4 @@
-use Rattle.std.proofs.Common.{length, refl, ◌∙◌, arith, rules}
+use Rattle.std.proofs.Common.{length, refl, ◌∙◌, arith}
 use Rattle.stages.proofs.answer.stage5.Parts.{total_few, head_fits, put_fits, result_small, written}
 use Rattle.stages.proofs.answer.stage5.stage5.Goals as goal
 

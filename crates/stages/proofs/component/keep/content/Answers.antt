@@ -1,4 +1,3 @@
-use Rattle.std.proofs.Common.{rules}
 use Rattle.stages.proofs.component.keep.content.Goals as goal
 
 -- src/component/keep.rt:75:1

@@ -1,4 +1,4 @@
-use Rattle.std.proofs.Common.{◌*◌, ap, ◌∙◌, rules}
+use Rattle.std.proofs.Common.{◌*◌, ap, ◌∙◌}
 use lib.Seq.{sets}
 use Rattle.stages.specs.component.Kept.{fields_of}
 use Rattle.stages.proofs.component.keep.keep.Goals as goal

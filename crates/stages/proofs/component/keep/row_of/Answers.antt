@@ -1,4 +1,4 @@
-use Rattle.std.proofs.Common.{refl, arith, rules}
+use Rattle.std.proofs.Common.{refl, arith}
 use Rattle.stages.proofs.component.keep.Saving.{width_small}
 use Rattle.stages.proofs.component.keep.row_of.Goals as goal
 

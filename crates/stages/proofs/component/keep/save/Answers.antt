@@ -1,4 +1,4 @@
-use Rattle.std.proofs.Common.{◌≡◌, ◌+◌, length, ◌∙◌, arith, length-set, rules}
+use Rattle.std.proofs.Common.{◌+◌, ◌∙◌, arith, length-set}
 use Rattle.stages.proofs.component.keep.Saving.{four_length, saved}
 use Rattle.stages.proofs.component.keep.save.Goals as goal
 

@@ -1,4 +1,4 @@
-use Rattle.std.proofs.Common.{arith, length-set, rules}
+use Rattle.std.proofs.Common.{arith, length-set}
 use Rattle.stages.proofs.component.keep.Saving.{three_saved}
 use Rattle.stages.proofs.component.keep.save_words.Goals as goal
 

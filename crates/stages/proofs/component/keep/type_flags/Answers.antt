@@ -1,4 +1,4 @@
-use Rattle.std.proofs.Common.{refl, arith, rules}
+use Rattle.std.proofs.Common.{refl, arith}
 use Rattle.stages.proofs.component.keep.Saving.{literal_flags, variable_flags}
 use Rattle.stages.proofs.component.keep.type_flags.Goals as goal
 

@@ -1,4 +1,4 @@
-use Rattle.std.proofs.Common.{refl, rules}
+use Rattle.std.proofs.Common.{refl}
 use Rattle.stages.proofs.component.keep.words_of.Goals as goal
 
 -- src/component/keep.rt:98:1

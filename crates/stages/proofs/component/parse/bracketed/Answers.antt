@@ -1,4 +1,4 @@
-use Rattle.std.proofs.Common.{◌+◌, refl, arith, rules}
+use Rattle.std.proofs.Common.{◌+◌, refl, arith}
 use Rattle.definition.specs.Text.{items}
 use Rattle.definition.specs.Image.{bits_at}
 use Rattle.stages.proofs.component.parse.Types.{bracket_range, bracket_single, bracket_refused}
@@ -61,8 +61,7 @@ pub single_bit-requires : goal.single_bit-requires
 single_bit-requires c =
     let a = c.args in
     let p = c.requires in
-    let b = bracket_of a.image.now a.tree a.run a.last.0 p.1.0 p.1.1 p.1.2 p.1.3 p.1.4 in
-    (
+    let b = bracket_of a.image.now a.tree a.run a.last.0 p.1.0 p.1.1 p.1.2 p.1.3 p.1.4 in (
       single_fits a.image.now a.tree a.run a.last.0 p.0.0 p.0.1 p.1.0 p.1.1 p.1.2 p.1.3 b c.parse_range.result c.parse_range.ensures
           c.in-NoRange.is,
       (b.from + 1, inside_runs a.image.now a.tree a.run a.last.0 p.0.0 p.0.1 p.1.0 p.1.1 p.1.2 p.1.3 b),

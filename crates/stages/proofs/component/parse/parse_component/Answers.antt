@@ -1,4 +1,4 @@
-use Rattle.std.proofs.Common.{sym, refl, ◌∙◌, rules}
+use Rattle.std.proofs.Common.{sym, refl, ◌∙◌}
 use Rattle.definition.specs.Image.{bits_at}
 use Rattle.stages.proofs.component.parse.Endings.{last_at, last_fits, last_kind, last_some, ended_by}
 use Rattle.stages.proofs.component.parse.Wholes.{items_plain, items_lone, items_bracket}

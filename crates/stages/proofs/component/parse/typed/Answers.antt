@@ -1,4 +1,4 @@
-use Rattle.std.proofs.Common.{arith, rules}
+use Rattle.std.proofs.Common.{arith}
 use Rattle.stages.proofs.component.parse.Types.{typed_none, typed_literal, typed_variable}
 use Rattle.stages.proofs.component.parse.typed.Goals as goal
 

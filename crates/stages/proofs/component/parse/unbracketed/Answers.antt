@@ -1,4 +1,4 @@
-use Rattle.std.proofs.Common.{refl, arith, rules}
+use Rattle.std.proofs.Common.{refl, arith}
 use Rattle.definition.specs.Image.{bits_at}
 use Rattle.stages.proofs.component.parse.Types.{plain_filler, plain_typed, plain_refused, unbounded_is}
 use Rattle.stages.proofs.component.parse.Wholes.{plain_laid, plain_fits}

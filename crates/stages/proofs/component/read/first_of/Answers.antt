@@ -1,4 +1,3 @@
-use Rattle.std.proofs.Common.{rules}
 use Rattle.stages.proofs.component.read.first_of.Goals as goal
 
 -- src/component/read.rt:82:1

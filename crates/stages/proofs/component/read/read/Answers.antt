@@ -1,5 +1,4 @@
 use Rattle.stages.proofs.component.read.Verdicts.{parsed_is, parsed_held, first_refused, read_ok}
-use Rattle.std.proofs.Common.{rules}
 use Rattle.stages.proofs.component.read.read.Goals as goal
 
 -- src/component/read.rt:56:42

@@ -1,4 +1,4 @@
-use Rattle.std.proofs.Common.{sym, refl, ◌∙◌, rules}
+use Rattle.std.proofs.Common.{sym, refl, ◌∙◌}
 use Rattle.stages.proofs.Cases.{passed}
 use Rattle.stages.proofs.component.read.Verdicts.{second_stays}
 use Rattle.stages.proofs.component.read.second_of.Goals as goal

@@ -1,4 +1,4 @@
-use Rattle.std.proofs.Common.{refl, rules}
+use Rattle.std.proofs.Common.{refl}
 use Rattle.stages.proofs.component.read.staged.Goals as goal
 
 -- src/component/read.rt:39:1

@@ -2,7 +2,6 @@ use Rattle.definition.specs.Basics.{ok}
 use Rattle.stages.specs.ranges.Values.{usbr_of}
 use Rattle.stages.specs.ranges.Checks.{filler_range}
 use Rattle.stages.proofs.component.simplify.Answers.{literal_parsed, parsed_fits, as_literal, as_variable, as_filler, same_range}
-use Rattle.std.proofs.Common.{rules}
 use Rattle.stages.proofs.component.simplify.by_type.Goals as goal
 
 pub simplify_literal-requires : goal.simplify_literal-requires

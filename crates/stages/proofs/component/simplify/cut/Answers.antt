@@ -1,4 +1,4 @@
-use Rattle.std.proofs.Common.{◌≡◌, ◌<◌, sym, ap, ◌∙◌, subst, arith, rules}
+use Rattle.std.proofs.Common.{◌≡◌, ◌<◌, sym, ap, ◌∙◌, subst, arith}
 use Rattle.definition.specs.Prelude.{◌^◌}
 use Rattle.definition.specs.Basics.{ok}
 use Rattle.definition.specs.Image.{bits_at}

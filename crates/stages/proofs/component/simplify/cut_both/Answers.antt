@@ -1,4 +1,3 @@
-use Rattle.std.proofs.Common.{rules}
 use Rattle.stages.proofs.component.simplify.cut_both.Goals as goal
 
 pub returns : goal.returns

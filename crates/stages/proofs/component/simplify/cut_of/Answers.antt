@@ -1,6 +1,5 @@
 use Rattle.stages.proofs.component.simplify.Answers.{cut_within, cut_ok, cut_refused, reads_measured}
 use Rattle.stages.specs.ranges.Checks.{literal_range}
-use Rattle.std.proofs.Common.{rules}
 use Rattle.stages.proofs.component.simplify.cut_of.Goals as goal
 
 pub cut-requires : goal.cut-requires

@@ -1,5 +1,4 @@
 use Rattle.stages.proofs.component.simplify.Answers.{typed_ok, typed_refused}
-use Rattle.std.proofs.Common.{rules}
 use Rattle.stages.proofs.component.simplify.with_type.Goals as goal
 
 pub returns-in-Ok : goal.returns-in-Ok

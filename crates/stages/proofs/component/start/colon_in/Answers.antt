@@ -1,8 +1,6 @@
-use Rattle.std.proofs.Common.{ℕ, ◌-◌, List, refl, arith, rules}
-use Rattle.definition.specs.Text.{Item}
-use Rattle.stages.specs.token_tree.Laid.{Laid, Runs}
+use Rattle.std.proofs.Common.{refl, arith}
 use Rattle.stages.proofs.token_tree.Walks.{runs_start, runs_order, runs_next, record_fits}
-use Rattle.stages.proofs.component.start.Colons.{Seeing, seeing_start, seeing_end, seeing_colon, seeing_other, seeing_found}
+use Rattle.stages.proofs.component.start.Colons.{seeing_start, seeing_end, seeing_colon, seeing_other, seeing_found}
 use Rattle.stages.proofs.component.start.colon_in.Goals as goal
 
 pub start_or-s-requires : goal.start_or-s-requires

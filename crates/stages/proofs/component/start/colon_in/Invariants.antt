@@ -1,9 +1,8 @@
 -- The loop keeps what Colons says.
-use Rattle.std.proofs.Common.{ℕ, ◌-◌, List, refl, arith, rules}
+use Rattle.std.proofs.Common.{ℕ, ◌-◌, List}
 use Rattle.definition.specs.Text.{Item}
 use Rattle.stages.specs.token_tree.Laid.{Laid, Runs}
-use Rattle.stages.proofs.token_tree.Walks.{runs_start, runs_order, runs_next, record_fits}
-use Rattle.stages.proofs.component.start.Colons.{Seeing, seeing_start, seeing_end, seeing_colon, seeing_other, seeing_found}
+use Rattle.stages.proofs.component.start.Colons.{Seeing}
 use Rattle.stages.proofs.component.start.colon_in.Given as goal
 
 abbrev pub invariant-loop-at : goal.invariant-loop-at

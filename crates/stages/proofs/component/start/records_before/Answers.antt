@@ -1,4 +1,4 @@
-use Rattle.std.proofs.Common.{◌≡◌, ◌+◌, ◌-◌, ◌≤◌, sym, refl, ap, ◌∙◌, arith, rules}
+use Rattle.std.proofs.Common.{◌≡◌, sym, ap, ◌∙◌, arith}
 use Rattle.stages.specs.component.Start.{records_before}
 use Rattle.stages.proofs.component.start.Sources.{records_none, records_more, records_room, records_small}
 use Rattle.stages.proofs.component.start.records_before.Goals as goal

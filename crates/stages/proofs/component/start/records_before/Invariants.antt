@@ -1,6 +1,5 @@
-use Rattle.std.proofs.Common.{◌≡◌, ◌+◌, ◌-◌, ◌≤◌, sym, refl, ap, ◌∙◌, arith, rules}
+use Rattle.std.proofs.Common.{◌≡◌, ◌-◌, ◌≤◌}
 use Rattle.stages.specs.component.Start.{records_before}
-use Rattle.stages.proofs.component.start.Sources.{records_none, records_more, records_room, records_small}
 use Rattle.stages.proofs.component.start.records_before.Given as goal
 
 abbrev pub invariant-loop-j : goal.invariant-loop-j

@@ -1,4 +1,4 @@
-use Rattle.std.proofs.Common.{◌≤◌, List, subst, arith, rules}
+use Rattle.std.proofs.Common.{List, subst}
 use Rattle.definition.specs.Text.{Item}
 use Rattle.definition.specs.Component.{split_colon}
 use Rattle.stages.specs.component.Start.{PrefixReads}

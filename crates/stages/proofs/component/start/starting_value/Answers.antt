@@ -1,8 +1,7 @@
-use Rattle.std.proofs.Common.{◌≡◌, sym, refl, ap, ◌∙◌, subst, rules}
 use Rattle.definition.specs.Text.{items}
 use Rattle.definition.specs.Tree.{recs_of}
 use Rattle.stages.proofs.component.start.Sources.{the_source, size_some, size_room, before_fits, run_room, ran_is, last_is}
-use Rattle.stages.proofs.component.start.Afters.{start_reads, start_by}
+use Rattle.stages.proofs.component.start.Afters.{start_by}
 use Rattle.stages.proofs.component.start.starting_value.Goals as goal
 
 pub overflow_sub-k : goal.overflow_sub-k

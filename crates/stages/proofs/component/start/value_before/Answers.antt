@@ -1,4 +1,4 @@
-use Rattle.std.proofs.Common.{refl, arith, rules}
+use Rattle.std.proofs.Common.{refl, arith}
 use Rattle.stages.proofs.component.start.Prefixes.{below, value_none, value_refused, value_some}
 use Rattle.stages.proofs.component.start.value_before.Goals as goal
 

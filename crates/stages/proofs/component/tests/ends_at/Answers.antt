@@ -1,4 +1,4 @@
-use Rattle.std.proofs.Common.{◌∙◌, inl, inr, arith, rules, ne_eqb}
+use Rattle.std.proofs.Common.{◌∙◌, inl, inr, arith, ne_eqb}
 use Rattle.stages.proofs.component.tests.Tested.{ends_none, ends_yes, ends_no}
 use Rattle.stages.proofs.component.tests.ends_at.Goals.{then-u-eq0, else-u-eq0}
 use Rattle.stages.proofs.component.tests.ends_at.Goals as goal

@@ -1,9 +1,9 @@
-use Rattle.std.proofs.Common.{◌≡◌, ◌-◌, length, sym, refl, ap, ◌∙◌, arith, rules}
+use Rattle.std.proofs.Common.{◌≡◌, sym, refl, ap, ◌∙◌, arith}
 use Rattle.definition.specs.Image.{counts}
 use Rattle.stages.specs.declared.token_tree.types.Tables.{Tables}
 use Rattle.stages.proofs.token_tree.Trees.{counts_fit}
 use Rattle.stages.proofs.Cases.{passed}
-use Rattle.stages.proofs.component.walk.Whole.{Stands, stands_start, stands_end, next_standing, all_refused, stands_next}
+use Rattle.stages.proofs.component.walk.Whole.{stands_start, stands_end, next_standing, all_refused, stands_next}
 use Rattle.stages.proofs.component.walk.stage2.Goals as goal
 
 -- src/component/walk.rt:119:5

@@ -1,4 +1,4 @@
-use Rattle.std.proofs.Common.{◌+◌, refl, ap, arith, rules}
+use Rattle.std.proofs.Common.{◌+◌, refl, ap, arith}
 use Rattle.errors.specs.Refused.{result_of}
 use Rattle.stages.proofs.component.walk.Cutting.{cut_of}
 use Rattle.stages.proofs.component.walk.Turning.{ordered_read, answers, turn_is, staged_read}

@@ -1,12 +1,8 @@
-use Rattle.std.proofs.Common.{◌≡◌, ℕ, ◌+◌, ◌-◌, ◌≤◌, List, ◌++◌, length, sym, refl, ◌∙◌, subst, arith, rules}
+use Rattle.std.proofs.Common.{◌+◌, sym, refl, ◌∙◌, subst, arith}
 use Rattle.definition.specs.Prelude.{◌&&◌, eqb}
-use Rattle.definition.specs.Basics.{ok, is_empty}
-use Rattle.definition.specs.Tree.{Node}
-use Rattle.errors.specs.Refused.{result_of}
-use Rattle.stages.specs.token_tree.Rows.{Rows}
-use Rattle.stages.specs.component.Start.{AfterIn}
+use Rattle.definition.specs.Basics.{is_empty}
 use Rattle.stages.proofs.Cases.{passed}
-use Rattle.stages.proofs.component.walk.Going.{Stands, next_standing, fits_here, stands_next, Going, going_start, going_end, going_refused, going_next}
+use Rattle.stages.proofs.component.walk.Going.{Stands, next_standing, fits_here, stands_next, going_start, going_end, going_refused, going_next}
 use Rattle.stages.proofs.component.walk.turns.Goals as goal
 
 -- src/component/walk.rt:94:5

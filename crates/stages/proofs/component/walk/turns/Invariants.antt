@@ -1,13 +1,11 @@
 -- The loop keeps what Going says.
-use Rattle.std.proofs.Common.{◌≡◌, ℕ, ◌+◌, ◌-◌, ◌≤◌, List, ◌++◌, length, sym, refl, ◌∙◌, subst, arith, rules}
-use Rattle.definition.specs.Prelude.{◌&&◌, eqb}
-use Rattle.definition.specs.Basics.{ok, is_empty}
+use Rattle.std.proofs.Common.{◌≡◌, ℕ, ◌-◌, ◌≤◌, List, ◌++◌, length}
+use Rattle.definition.specs.Basics.{ok}
 use Rattle.definition.specs.Tree.{Node}
 use Rattle.errors.specs.Refused.{result_of}
 use Rattle.stages.specs.token_tree.Rows.{Rows}
 use Rattle.stages.specs.component.Start.{AfterIn}
-use Rattle.stages.proofs.Cases.{passed}
-use Rattle.stages.proofs.component.walk.Going.{Stands, next_standing, fits_here, stands_next, Going, going_start, going_end, going_refused, going_next}
+use Rattle.stages.proofs.component.walk.Going.{Stands, Going}
 use Rattle.stages.proofs.component.walk.turns.Given as goal
 
 abbrev pub invariant-loop-j : goal.invariant-loop-j

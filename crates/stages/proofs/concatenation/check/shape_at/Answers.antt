@@ -1,4 +1,3 @@
-use Rattle.std.proofs.Common.{rules}
 use Rattle.stages.proofs.concatenation.check.shape_at.Goals as goal
 
 pub returns : goal.returns

@@ -1,4 +1,4 @@
-use Rattle.std.proofs.Common.{◌≤◌, arith, rules}
+use Rattle.std.proofs.Common.{◌≤◌, arith}
 use Rattle.stages.specs.concatenation.alignment.Align.{align_of}
 use Rattle.stages.proofs.concatenation.heads.HeadWords.{align_small}
 use Rattle.stages.proofs.concatenation.heads.head_of.Goals as goal

@@ -1,12 +1,8 @@
-use Rattle.std.proofs.Common.{◌≡◌, ◌+◌, ◌-◌, ◌≤◌, List, length, drop, sym, refl, ◌∙◌, zero-add, arith, rules}
-use Rattle.definition.specs.Component.{Component}
+use Rattle.std.proofs.Common.{length, sym, refl, ◌∙◌, zero-add, arith}
 use Rattle.definition.specs.Basics.{joined}
-use Rattle.definition.specs.Image.{Placed}
-use Rattle.stages.specs.token_tree.Rows.{Sizes}
-use Rattle.stages.specs.component.Kept.{KeptFrom}
 use Rattle.stages.proofs.concatenation.heads.Parts.{part_at, part_few, part_kept, rest_kept, lies, left_on}
 use Rattle.stages.proofs.Lists.{end_at}
-use Rattle.stages.proofs.concatenation.heads.Done.{Done, done_none, done_more, done_off, done_end}
+use Rattle.stages.proofs.concatenation.heads.Done.{done_none, done_more, done_off, done_end}
 use Rattle.stages.proofs.concatenation.heads.stage3.Goals as goal
 
 pub loop-i-init : goal.loop-i-init

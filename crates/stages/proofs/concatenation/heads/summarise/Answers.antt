@@ -1,4 +1,4 @@
-use Rattle.std.proofs.Common.{◌*◌, arith, length-set, rules}
+use Rattle.std.proofs.Common.{◌*◌, arith, length-set}
 use Rattle.stages.proofs.concatenation.heads.HeadWords.{written_two}
 use Rattle.stages.proofs.concatenation.heads.summarise.Goals as goal
 

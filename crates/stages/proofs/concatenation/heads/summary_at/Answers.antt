@@ -1,5 +1,3 @@
-use Rattle.std.proofs.Common.{◌≡◌, ◌+◌, ◌*◌, get_or, sym, rules}
-use Rattle.stages.specs.concatenation.Heads.{summary_by}
 use Rattle.stages.proofs.concatenation.heads.HeadWords.{summary_is}
 use Rattle.stages.proofs.concatenation.heads.HeadWords.{summary_is}
 use Rattle.stages.proofs.concatenation.heads.summary_at.Goals as goal

@@ -1,6 +1,5 @@
 -- `concatenation::overall::after` meets its contract: by what the check said.
 -- Assumes nothing.
-use Rattle.std.proofs.Common.{rules}
 use Rattle.stages.proofs.concatenation.overall.after.Goals as goal
 
 pub returns-in-Refused : goal.returns-in-Refused

@@ -1,6 +1,6 @@
 -- `concatenation::join_width` meets its contract: by the two widths.
 -- Assumes nothing.
-use Rattle.std.proofs.Common.{sym, ap, ◌∙◌, rules}
+use Rattle.std.proofs.Common.{sym, ap, ◌∙◌}
 use Rattle.definition.specs.Basics.{ok}
 use Rattle.numbers.specs.Value.{option_usize}
 use Rattle.stages.specs.concatenation.Overall.{overall_of}

@@ -1,6 +1,5 @@
 -- `concatenation::joined` meets its contract: field by field.
 -- Assumes nothing.
-use Rattle.std.proofs.Common.{rules}
 use Rattle.numbers.specs.Value.{option_usize}
 use Rattle.stages.specs.concatenation.Overall.{overall_of}
 use Rattle.stages.proofs.concatenation.Summaries.{joins}

@@ -1,5 +1,4 @@
 -- `concatenation::overall::opposite` meets its contract: by the place.
-use Rattle.std.proofs.Common.{rules}
 use Rattle.stages.proofs.concatenation.overall.opposite.Goals as goal
 
 pub returns-in-At : goal.returns-in-At

@@ -1,4 +1,4 @@
-use Rattle.std.proofs.Common.{ap, ◌∙◌, rules}
+use Rattle.std.proofs.Common.{ap, ◌∙◌}
 use Rattle.numbers.specs.Value.{option_usize}
 use Rattle.stages.proofs.concatenation.stage4.Ends.{common_known, common_lacking, common_free}
 use Rattle.stages.proofs.concatenation.stage4.check_common.Goals as goal

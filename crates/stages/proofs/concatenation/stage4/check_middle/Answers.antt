@@ -1,4 +1,3 @@
-use Rattle.std.proofs.Common.{rules}
 use Rattle.stages.proofs.concatenation.stage4.check_middle.Goals as goal
 
 pub returns-then-deterministic : goal.returns-then-deterministic

@@ -1,4 +1,4 @@
-use Rattle.std.proofs.Common.{rules, eq-eqb, ne_eqb}
+use Rattle.std.proofs.Common.{eq-eqb, ne_eqb}
 use Rattle.stages.proofs.concatenation.stage4.check_only.Goals as goal
 
 pub returns-then-c-eq1 : goal.returns-then-c-eq1

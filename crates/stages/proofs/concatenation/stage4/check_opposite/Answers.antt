@@ -1,4 +1,4 @@
-use Rattle.std.proofs.Common.{sym, ◌∙◌, rules}
+use Rattle.std.proofs.Common.{sym, ◌∙◌}
 use Rattle.stages.proofs.concatenation.stage4.check_opposite.Goals as goal
 
 pub returns-then-deterministic : goal.returns-then-deterministic

@@ -1,5 +1,4 @@
-use Rattle.std.proofs.Common.{sym, ◌∙◌, rules}
-use borrow.Author.Tests.{not-true, not-false}
+use Rattle.std.proofs.Common.{sym, ◌∙◌}
 use Rattle.stages.specs.concatenation.Overall.{place_of}
 use Rattle.stages.proofs.concatenation.stage4.Ends.{first_of}
 use Rattle.stages.proofs.concatenation.Summaries.{source_bare, source_free}

@@ -1,9 +1,5 @@
-use Rattle.std.proofs.Common.{◌≡◌, ◌+◌, ◌-◌, ◌≤◌, List, length, drop, sym, refl, ◌∙◌, arith, rules}
-use Rattle.definition.specs.Concatenation.{Concatenation}
-use Rattle.definition.specs.Overall.{place_from}
-use Rattle.stages.specs.concatenation.Heads.{HeadsAre, AllChecked}
+use Rattle.std.proofs.Common.{◌+◌, drop, sym, refl, ◌∙◌, arith}
 use Rattle.stages.specs.concatenation.Overall.{is_opposite}
-use Rattle.stages.specs.concatenation.alignment.Align.{align_of}
 use Rattle.stages.proofs.concatenation.Summaries.{opposite_is}
 use Rattle.stages.proofs.concatenation.stage4.Loops.{place_on, place_here, place_end}
 use Rattle.stages.proofs.Lists.{turn_at, end_at}

@@ -1,4 +1,4 @@
-use Rattle.std.proofs.Common.{sym, ap, ◌∙◌, rules}
+use Rattle.std.proofs.Common.{sym, ap, ◌∙◌}
 use Rattle.definition.specs.Basics.{ok}
 use Rattle.stages.specs.concatenation.Overall.{overall_of, answer_of, and_then}
 use Rattle.stages.proofs.concatenation.Summaries.{turn_on, turn_off}

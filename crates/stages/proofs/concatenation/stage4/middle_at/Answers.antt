@@ -1,4 +1,4 @@
-use Rattle.std.proofs.Common.{sym, ap, ◌∙◌, rules}
+use Rattle.std.proofs.Common.{sym, ap, ◌∙◌}
 use Rattle.definition.specs.Concatenation.{is_align, align_mid}
 use Rattle.stages.specs.concatenation.Overall.{place_of}
 use Rattle.stages.proofs.concatenation.Summaries.{middle_here, middle_other}

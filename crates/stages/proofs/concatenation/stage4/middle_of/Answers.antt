@@ -1,15 +1,8 @@
-use Rattle.std.proofs.Common.{◌≡◌, ◌+◌, ◌-◌, ◌≤◌, List, length, drop, sym, refl, ap, ◌∙◌, zero-add, arith, rules}
-use Rattle.definition.specs.Component.{Component}
-use Rattle.definition.specs.Concatenation.{Concatenation}
+use Rattle.std.proofs.Common.{◌+◌, length, drop, sym, refl, ap, ◌∙◌, zero-add, arith}
 use Rattle.definition.specs.Basics.{joined}
-use Rattle.definition.specs.Overall.{middle_from}
-use Rattle.definition.specs.Image.{Placed}
 use Rattle.errors.specs.Refused.{result_of}
-use Rattle.stages.specs.token_tree.Rows.{Sizes}
-use Rattle.stages.specs.component.Kept.{KeptFrom}
-use Rattle.stages.specs.concatenation.Heads.{Judged}
 use Rattle.stages.proofs.concatenation.heads.Parts.{part_at, part_few, lies, left_on}
-use Rattle.stages.proofs.concatenation.stage4.Loops.{comps_of, turn_of, middle_on, middle_off, middle_end}
+use Rattle.stages.proofs.concatenation.stage4.Loops.{turn_of, middle_on, middle_off, middle_end}
 use Rattle.stages.proofs.Lists.{end_at}
 use Rattle.stages.proofs.concatenation.stage4.middle_of.Goals as goal
 

@@ -1,4 +1,4 @@
-use Rattle.std.proofs.Common.{◌+◌, drop, ◌∙◌, rules}
+use Rattle.std.proofs.Common.{◌+◌, drop, ◌∙◌}
 use Rattle.stages.specs.concatenation.Overall.{place_of}
 use Rattle.stages.proofs.concatenation.stage4.Loops.{opposite_from_lem}
 use Rattle.stages.proofs.concatenation.stage4.opposite_at.Goals as goal

@@ -1,10 +1,7 @@
-use Rattle.std.proofs.Common.{◌≡◌, ◌-◌, ◌≤◌, List, length, drop, sym, refl, ap, ◌∙◌, arith, rules}
+use Rattle.std.proofs.Common.{◌≡◌, ◌-◌, ◌≤◌, List, length, drop}
 use Rattle.definition.specs.Concatenation.{Concatenation}
 use Rattle.definition.specs.Overall.{opposite_from}
-use Rattle.errors.specs.Refused.{result_of}
 use Rattle.stages.specs.concatenation.Heads.{HeadsAre, AllChecked}
-use Rattle.stages.proofs.concatenation.stage4.Loops.{opposite_on, opposite_off, opposite_end}
-use Rattle.stages.proofs.Lists.{turn_at, end_at}
 use Rattle.stages.proofs.concatenation.stage4.opposite_of.Given as goal
 
 abbrev pub invariant-loop-i : goal.invariant-loop-i

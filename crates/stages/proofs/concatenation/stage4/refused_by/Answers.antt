@@ -1,4 +1,3 @@
-use Rattle.std.proofs.Common.{rules}
 use Rattle.stages.proofs.concatenation.stage4.refused_by.Goals as goal
 
 pub returns-in-At : goal.returns-in-At

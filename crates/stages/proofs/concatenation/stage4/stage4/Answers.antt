@@ -1,4 +1,4 @@
-use Rattle.std.proofs.Common.{sym, ap, ◌∙◌, rules}
+use Rattle.std.proofs.Common.{sym, ap, ◌∙◌}
 use Rattle.definition.specs.Overall.{overall_from, overall_start}
 use Rattle.stages.specs.concatenation.Overall.{overall_of, answer_of}
 use Rattle.stages.proofs.concatenation.stage4.Ends.{ends, refuses}

@@ -1,6 +1,6 @@
 -- `concatenation::width::add_fitting` meets its contract: by the test, which is that the sum fits.
 -- Assumes nothing.
-use Rattle.std.proofs.Common.{◌+◌, arith, rules}
+use Rattle.std.proofs.Common.{◌+◌, arith}
 use Rattle.stages.proofs.concatenation.width.Widths.{fits, exceeds}
 use Rattle.stages.proofs.concatenation.width.add_fitting.Goals as goal
 

@@ -1,6 +1,6 @@
 -- `concatenation::width::magnitude` meets its contract: by the high half: 0, all ones, or between.
 -- Assumes nothing.
-use Rattle.std.proofs.Common.{◌+◌, ◌-◌, ◌^◌, arith, rules}
+use Rattle.std.proofs.Common.{◌+◌, ◌-◌, ◌^◌, arith}
 use Rattle.stages.proofs.concatenation.width.Widths.{fits, exceeds, low_only, high_part, negative}
 use Rattle.stages.proofs.concatenation.width.magnitude.Goals as goal
 

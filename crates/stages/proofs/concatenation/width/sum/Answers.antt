@@ -1,6 +1,6 @@
 -- `concatenation::width::sum` meets its contract: by whether the number without its sign fits.
 -- Assumes nothing.
-use Rattle.std.proofs.Common.{nat_abs, ◌∙◌, rules}
+use Rattle.std.proofs.Common.{nat_abs, ◌∙◌}
 use Rattle.numbers.specs.Value.{value_of}
 use Rattle.stages.proofs.concatenation.width.Widths.{sum_known, sum_unknown}
 use Rattle.stages.proofs.concatenation.width.sum.Goals as goal

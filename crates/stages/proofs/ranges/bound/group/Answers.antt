@@ -1,4 +1,4 @@
-use Rattle.std.proofs.Common.{arith, rules}
+use Rattle.std.proofs.Common.{arith}
 use Rattle.stages.proofs.token_tree.Walks.{runs_order}
 use Rattle.stages.proofs.ranges.bound.AtSign.{at_sign, group_whole, group_sign}
 use Rattle.stages.proofs.ranges.bound.group.Goals as goal

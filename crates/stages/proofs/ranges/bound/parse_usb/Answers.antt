@@ -1,4 +1,4 @@
-use Rattle.std.proofs.Common.{arith, rules}
+use Rattle.std.proofs.Common.{arith}
 use Rattle.stages.proofs.ranges.bound.Lone.{first_ends, parse_many, parse_token, parse_other, parse_group, token_order, group_order, inner_runs}
 use Rattle.stages.proofs.ranges.bound.parse_usb.Goals as goal
 

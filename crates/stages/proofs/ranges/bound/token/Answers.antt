@@ -1,4 +1,4 @@
-use Rattle.std.proofs.Common.{inl, inr, arith, rules}
+use Rattle.std.proofs.Common.{inl, inr, arith}
 use Rattle.stages.proofs.ranges.bound.Lone.{lone_sign, lone_text}
 use Rattle.stages.proofs.ranges.bound.token.Goals as goal
 

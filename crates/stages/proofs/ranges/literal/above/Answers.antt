@@ -1,4 +1,3 @@
-use Rattle.std.proofs.Common.{rules}
 use Rattle.stages.proofs.ranges.literal.Limits.{above_some, above_none}
 use Rattle.stages.proofs.ranges.literal.above.Goals as goal
 

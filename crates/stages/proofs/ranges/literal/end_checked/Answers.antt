@@ -1,5 +1,4 @@
 use Rattle.stages.proofs.ranges.literal.Limits.{end_over, range_over, ends_at_zero, end_passed}
-use Rattle.std.proofs.Common.{rules}
 use Rattle.stages.proofs.ranges.literal.end_checked.Goals as goal
 
 pub returns-then-above : goal.returns-then-above

@@ -1,5 +1,4 @@
 use Rattle.stages.proofs.ranges.literal.Limits.{zero_some, zero_none}
-use Rattle.std.proofs.Common.{rules}
 use Rattle.stages.proofs.ranges.literal.end_zero.Goals as goal
 
 pub returns-in-Some : goal.returns-in-Some

@@ -1,4 +1,4 @@
-use Rattle.std.proofs.Common.{arith, rules}
+use Rattle.std.proofs.Common.{arith}
 use Rattle.stages.proofs.ranges.literal.Whole.{to_width_fits, to_width_is}
 use Rattle.stages.proofs.ranges.literal.to_width.Goals as goal
 

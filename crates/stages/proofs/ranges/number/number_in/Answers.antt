@@ -1,4 +1,4 @@
-use Rattle.std.proofs.Common.{◌+◌, ◌-◌, ◌∙◌, arith, rules}
+use Rattle.std.proofs.Common.{◌+◌, ◌-◌, ◌∙◌, arith}
 use Rattle.stages.proofs.ranges.number.Letters.{number_above, number_whole}
 use Rattle.stages.proofs.ranges.number.number_in.Goals as goal
 

@@ -1,4 +1,3 @@
-use Rattle.std.proofs.Common.{rules}
 use Rattle.stages.proofs.ranges.range.Bounds.{raised_reads, same_reads, refused_reads}
 use Rattle.stages.proofs.ranges.range.including.Goals as goal
 

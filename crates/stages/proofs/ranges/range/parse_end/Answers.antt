@@ -1,4 +1,3 @@
-use Rattle.std.proofs.Common.{rules}
 use Rattle.definition.specs.Ranges.{parse_usb}
 use Rattle.stages.specs.ranges.Values.{usb_of}
 use Rattle.stages.proofs.ranges.range.Bounds.{end_none, end_some, runs_some}

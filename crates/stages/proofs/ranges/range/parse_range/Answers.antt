@@ -1,5 +1,4 @@
 use borrow.Author.Tests.{not-true, not-false}
-use Rattle.std.proofs.Common.{rules}
 use Rattle.stages.proofs.ranges.range.Cuts.{range_empty, range_refused, range_none, range_ranged, range_found}
 use Rattle.stages.proofs.ranges.range.parse_range.Goals as goal
 

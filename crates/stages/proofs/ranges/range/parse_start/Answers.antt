@@ -1,4 +1,4 @@
-use Rattle.std.proofs.Common.{sym, subst, rules}
+use Rattle.std.proofs.Common.{sym, subst}
 use Rattle.stages.specs.token_tree.Laid.{Laid}
 use Rattle.stages.proofs.ranges.range.Bounds.{start_none, start_some, runs_some, runs_to}
 use Rattle.stages.proofs.ranges.range.parse_start.Goals as goal

@@ -1,4 +1,3 @@
-use Rattle.std.proofs.Common.{rules}
 use Rattle.stages.proofs.ranges.range.Cuts.{ranged_ok, ranged_refused}
 use Rattle.stages.proofs.ranges.range.ranged.Goals as goal
 

@@ -1,4 +1,3 @@
-use Rattle.std.proofs.Common.{rules}
 use Rattle.stages.proofs.ranges.range.Texts.{single_is, start_order}
 use Rattle.stages.proofs.ranges.range.single_bit.Goals as goal
 

@@ -1,4 +1,4 @@
-use Rattle.std.proofs.Common.{rules, eq-eqb, ne_eqb}
+use Rattle.std.proofs.Common.{eq-eqb, ne_eqb}
 use Rattle.stages.proofs.ranges.scan.at_stop.Goals as goal
 
 pub returns-then-d-eq2 : goal.returns-then-d-eq2

@@ -1,7 +1,5 @@
-use Rattle.std.proofs.Common.{ℕ, ◌-◌, List, refl, ◌∙◌, arith, rules}
-use Rattle.definition.specs.Text.{Item}
-use Rattle.stages.specs.token_tree.Laid.{Laid, Runs}
-use Rattle.stages.proofs.ranges.scan.Scans.{Scanning, scanning_start, scanning_next, scanning_end, scanning_few}
+use Rattle.std.proofs.Common.{refl, ◌∙◌, arith}
+use Rattle.stages.proofs.ranges.scan.Scans.{scanning_start, scanning_next, scanning_end, scanning_few}
 use Rattle.stages.proofs.token_tree.Walks.{runs_start, runs_order, runs_next, record_fits}
 use Rattle.stages.proofs.ranges.scan.dots_in.Goals as goal
 

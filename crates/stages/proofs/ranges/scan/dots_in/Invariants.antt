@@ -1,9 +1,8 @@
 -- The loop keeps what Scans says.
-use Rattle.std.proofs.Common.{ℕ, ◌-◌, List, refl, ◌∙◌, arith, rules}
+use Rattle.std.proofs.Common.{ℕ, ◌-◌, List}
 use Rattle.definition.specs.Text.{Item}
 use Rattle.stages.specs.token_tree.Laid.{Laid, Runs}
-use Rattle.stages.proofs.ranges.scan.Scans.{Scanning, scanning_start, scanning_next, scanning_end, scanning_few}
-use Rattle.stages.proofs.token_tree.Walks.{runs_start, runs_order, runs_next, record_fits}
+use Rattle.stages.proofs.ranges.scan.Scans.{Scanning}
 use Rattle.stages.proofs.ranges.scan.dots_in.Given as goal
 
 abbrev pub invariant-loop-at : goal.invariant-loop-at

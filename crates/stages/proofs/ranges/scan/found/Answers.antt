@@ -1,4 +1,3 @@
-use Rattle.std.proofs.Common.{rules}
 use Rattle.stages.proofs.ranges.scan.found.Goals as goal
 
 pub returns-then-d : goal.returns-then-d

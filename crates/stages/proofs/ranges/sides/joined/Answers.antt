@@ -1,4 +1,3 @@
-use Rattle.std.proofs.Common.{rules}
 use Rattle.stages.proofs.ranges.sides.joined.Goals as goal
 
 pub returns-then-negative : goal.returns-then-negative

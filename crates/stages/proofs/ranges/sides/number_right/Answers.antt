@@ -1,4 +1,3 @@
-use Rattle.std.proofs.Common.{rules}
 use Rattle.stages.proofs.ranges.sides.Ways.{right_number, right_text}
 use Rattle.stages.proofs.ranges.sides.number_right.Goals as goal
 

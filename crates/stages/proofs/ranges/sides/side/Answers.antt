@@ -1,4 +1,4 @@
-use Rattle.std.proofs.Common.{ap, ◌∙◌, arith, rules}
+use Rattle.std.proofs.Common.{ap, ◌∙◌, arith}
 use Rattle.definition.specs.Prelude.{some}
 use Rattle.numbers.specs.Value.{value_of}
 use Rattle.stages.proofs.ranges.sides.Texts.{number_empty, number_text}

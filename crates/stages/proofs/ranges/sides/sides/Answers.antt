@@ -1,4 +1,4 @@
-use Rattle.std.proofs.Common.{arith, rules}
+use Rattle.std.proofs.Common.{arith}
 use Rattle.stages.proofs.ranges.sides.Ways.{sides_number, sides_text}
 use Rattle.stages.proofs.ranges.sides.sides.Goals as goal
 

@@ -1,6 +1,4 @@
-use Rattle.std.proofs.Common.{ap, ⊎_elim, arith, rules}
-use Rattle.stages.specs.declared.token_tree.types.PText.{PText}
-use Rattle.stages.proofs.ranges.sides.Ways.{from_minus, from_plus, kept_from, kept_number, kept_whole}
+use Rattle.stages.proofs.ranges.sides.Ways.{kept_whole}
 use Rattle.stages.proofs.ranges.sides.text_right.Goals as goal
 
 pub returns-in-None : goal.returns-in-None

@@ -1,4 +1,4 @@
-use Rattle.std.proofs.Common.{arith, rules}
+use Rattle.std.proofs.Common.{arith}
 use Rattle.stages.proofs.ranges.sides.Ways.{with_some, with_none}
 use Rattle.stages.proofs.ranges.sides.with_x.Goals as goal
 

@@ -1,4 +1,4 @@
-use Rattle.std.proofs.Common.{ap, ◌∙◌, rules}
+use Rattle.std.proofs.Common.{ap, ◌∙◌}
 use Rattle.stages.specs.ranges.Signs.{cut_of}
 use Rattle.stages.proofs.ranges.signs.Signing.{cut_is}
 use Rattle.stages.proofs.ranges.signs.cut_in.Goals as goal

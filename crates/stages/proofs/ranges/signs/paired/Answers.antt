@@ -1,4 +1,4 @@
-use Rattle.std.proofs.Common.{rules, eq-eqb, ne_eqb}
+use Rattle.std.proofs.Common.{eq-eqb, ne_eqb}
 use Rattle.stages.proofs.ranges.signs.paired.Goals as goal
 
 pub returns-then-pair-ne0 : goal.returns-then-pair-ne0

@@ -1,4 +1,4 @@
-use Rattle.std.proofs.Common.{ap, rules, eq-eqb, ne_eqb}
+use Rattle.std.proofs.Common.{ap, eq-eqb, ne_eqb}
 use Rattle.stages.specs.ranges.Signs.{signs_by}
 use Rattle.stages.proofs.ranges.signs.signed.Goals as goal
 

@@ -1,7 +1,5 @@
-use Rattle.std.proofs.Common.{ℕ, ◌-◌, ◌≤◌, List, refl, arith}
-use Rattle.definition.specs.Text.{Item}
-use Rattle.stages.specs.token_tree.Laid.{Laid, Runs}
-use Rattle.stages.proofs.ranges.signs.Signing.{Signing, signing_start, signing_next, signing_end, signing_low}
+use Rattle.std.proofs.Common.{refl, arith}
+use Rattle.stages.proofs.ranges.signs.Signing.{signing_start, signing_next, signing_end, signing_low}
 use Rattle.stages.proofs.token_tree.Walks.{runs_start, runs_order, runs_next}
 use Rattle.stages.proofs.ranges.signs.signs_in.Goals as goal
 

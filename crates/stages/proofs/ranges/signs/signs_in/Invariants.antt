@@ -1,9 +1,8 @@
 -- The loop keeps what Signing says.
-use Rattle.std.proofs.Common.{ℕ, ◌-◌, ◌≤◌, List, refl, arith}
+use Rattle.std.proofs.Common.{ℕ, ◌-◌, ◌≤◌, List}
 use Rattle.definition.specs.Text.{Item}
 use Rattle.stages.specs.token_tree.Laid.{Laid, Runs}
-use Rattle.stages.proofs.ranges.signs.Signing.{Signing, signing_start, signing_next, signing_end, signing_low}
-use Rattle.stages.proofs.token_tree.Walks.{runs_start, runs_order, runs_next}
+use Rattle.stages.proofs.ranges.signs.Signing.{Signing}
 use Rattle.stages.proofs.ranges.signs.signs_in.Given as goal
 
 abbrev pub invariant-loop-at : goal.invariant-loop-at

@@ -1,4 +1,3 @@
-use Rattle.std.proofs.Common.{rules}
 use Rattle.stages.proofs.ranges.usbr.Gates.{below_some}
 use Rattle.stages.proofs.ranges.usbr.below_zero.Goals as goal
 

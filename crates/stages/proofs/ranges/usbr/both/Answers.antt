@@ -1,5 +1,4 @@
 use Rattle.stages.proofs.ranges.usbr.Joins.{both_some}
-use Rattle.std.proofs.Common.{rules}
 use Rattle.stages.proofs.ranges.usbr.both.Goals as goal
 
 pub returns : goal.returns

@@ -1,5 +1,4 @@
 use Rattle.stages.proofs.ranges.Bounds.{end_some, end_none}
-use Rattle.std.proofs.Common.{rules}
 use Rattle.stages.proofs.ranges.usbr.end_val.Goals as goal
 
 pub returns-in-Some : goal.returns-in-Some

@@ -1,4 +1,3 @@
-use Rattle.std.proofs.Common.{rules}
 use Rattle.stages.proofs.ranges.range.Bounds.{ended_ok, ended_refused}
 use Rattle.stages.proofs.ranges.usbr.ended.Goals as goal
 

@@ -1,5 +1,4 @@
 use Rattle.stages.proofs.ranges.usbr.Gates.{width_reversed, width_zero, width_some}
-use Rattle.std.proofs.Common.{rules}
 use Rattle.stages.proofs.ranges.usbr.refused_width.Goals as goal
 
 pub returns-then-w-ge9223372036854775808 : goal.returns-then-w-ge9223372036854775808

@@ -1,7 +1,6 @@
 use Rattle.definition.specs.Component.{simplify_usb}
 use Rattle.stages.specs.ranges.Values.{usb_of}
 use Rattle.stages.proofs.ranges.usbr.Joins.{end_fits, end_there, end_missing}
-use Rattle.std.proofs.Common.{rules}
 use Rattle.stages.proofs.ranges.usbr.simplified_end.Goals as goal
 
 pub simplify-requires : goal.simplify-requires

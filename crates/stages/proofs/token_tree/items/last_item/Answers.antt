@@ -1,6 +1,6 @@
-use Rattle.std.proofs.Common.{◌-◌, arith}
+use Rattle.std.proofs.Common.{arith}
 use Rattle.stages.proofs.token_tree.Walks.{record_fits}
-use Rattle.stages.proofs.token_tree.Lasts.{Last, last_first, last_again, last_place}
+use Rattle.stages.proofs.token_tree.Lasts.{last_first, last_again, last_place}
 use Rattle.stages.proofs.token_tree.items.last_item.Goals as goal
 
 pub behind-next-requires : goal.behind-next-requires

@@ -1,7 +1,6 @@
 -- `token_tree::items::last_item` meets its contract. The invariant: the last item is the one at `at` or stands behind it.
-use Rattle.std.proofs.Common.{◌-◌, arith}
-use Rattle.stages.proofs.token_tree.Walks.{record_fits}
-use Rattle.stages.proofs.token_tree.Lasts.{Last, last_first, last_again, last_place}
+use Rattle.std.proofs.Common.{◌-◌}
+use Rattle.stages.proofs.token_tree.Lasts.{Last}
 use Rattle.stages.proofs.token_tree.items.last_item.Given as goal
 
 abbrev pub invariant-loop-next : goal.invariant-loop-next

@@ -1,5 +1,4 @@
 -- `token_tree::table::tables_of` meets its contract.
-use Rattle.std.proofs.Common.{rules}
 use Rattle.stages.proofs.token_tree.Made.{tables_by}
 use Rattle.stages.proofs.token_tree.table.tables_of.Goals as goal
 

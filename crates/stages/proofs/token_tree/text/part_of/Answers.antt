@@ -1,5 +1,4 @@
 -- `token_tree::text::part_of` meets its contract.
-use Rattle.std.proofs.Common.{rules}
 use Rattle.stages.proofs.token_tree.Made.{no_part_lem, some_part}
 use Rattle.stages.proofs.token_tree.text.part_of.Goals as goal
 

@@ -1,7 +1,5 @@
-use Rattle.std.proofs.Common.{◌≡◌, ◌-◌, ◌≤◌, sym, ◌∙◌, rules}
-use Rattle.definition.specs.Basics.{same_bytes}
-use Rattle.definition.specs.Image.{bytes_at}
-use Rattle.stages.proofs.token_tree.Same.{same_from, same_start, same_again, same_not, same_end}
+use Rattle.std.proofs.Common.{◌∙◌, rules}
+use Rattle.stages.proofs.token_tree.Same.{same_start, same_again, same_not, same_end}
 use Rattle.stages.proofs.token_tree.text.same_bytes.Goals as goal
 
 pub loop-i-init : goal.loop-i-init

@@ -1,8 +1,8 @@
 -- `token_tree::text::same_bytes` meets its contract. The invariant: from place i on, the bytes left compare as all do.
-use Rattle.std.proofs.Common.{◌≡◌, ◌-◌, ◌≤◌, sym, ◌∙◌, rules}
+use Rattle.std.proofs.Common.{◌≡◌, ◌-◌, ◌≤◌}
 use Rattle.definition.specs.Basics.{same_bytes}
 use Rattle.definition.specs.Image.{bytes_at}
-use Rattle.stages.proofs.token_tree.Same.{same_from, same_start, same_again, same_not, same_end}
+use Rattle.stages.proofs.token_tree.Same.{same_from}
 use Rattle.stages.proofs.token_tree.text.same_bytes.Given as goal
 
 abbrev pub invariant-loop-i : goal.invariant-loop-i

@@ -1,5 +1,5 @@
 -- `token_tree::text::same_text` meets its contract: by the lengths, and then by the bytes.
-use Rattle.std.proofs.Common.{◌+◌, drop, rules}
+use Rattle.std.proofs.Common.{◌+◌, drop}
 use Rattle.stages.proofs.token_tree.Same.{lengths_apart, same_length}
 use Rattle.stages.proofs.token_tree.text.same_text.Goals as goal
 

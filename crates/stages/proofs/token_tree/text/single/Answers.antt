@@ -1,5 +1,5 @@
 -- `token_tree::text::single` meets its contract.
-use Rattle.std.proofs.Common.{rules, eq-eqb, ne_eqb}
+use Rattle.std.proofs.Common.{eq-eqb, ne_eqb}
 use Rattle.stages.proofs.token_tree.text.single.Goals as goal
 
 pub returns-then-t-s-eq1 : goal.returns-then-t-s-eq1

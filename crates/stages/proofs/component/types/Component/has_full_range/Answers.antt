@@ -1,5 +1,4 @@
-use Rattle.std.proofs.Common.{subst, rules}
-use borrow.Author.Tests.{not-true, not-false}
+use Rattle.std.proofs.Common.{subst}
 use Rattle.stages.specs.component.Values.{Ordered}
 use Rattle.stages.proofs.component.tests.Tested.{full_not, full_literal, full_variable, full_filler}
 use Rattle.stages.proofs.component.types.Component.has_full_range.Goals as goal

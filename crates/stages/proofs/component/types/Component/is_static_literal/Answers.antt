@@ -1,5 +1,4 @@
 use Rattle.stages.proofs.component.tests.Tested.{static_literal, static_variable, static_filler}
-use Rattle.std.proofs.Common.{rules}
 use Rattle.stages.proofs.component.types.Component.is_static_literal.Goals as goal
 
 pub returns-in-Literal : goal.returns-in-Literal

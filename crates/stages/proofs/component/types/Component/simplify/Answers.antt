@@ -1,7 +1,6 @@
 use Rattle.definition.specs.Component.{simplify_range}
 use Rattle.stages.specs.ranges.Values.{usbr_of}
 use Rattle.stages.proofs.component.simplify.Answers.{reads_measured, whole_positive, whole_ok, whole_refused}
-use Rattle.std.proofs.Common.{rules}
 use Rattle.stages.proofs.component.types.Component.simplify.Goals as goal
 
 pub by_type-requires : goal.by_type-requires

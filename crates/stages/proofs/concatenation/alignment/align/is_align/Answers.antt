@@ -1,6 +1,5 @@
 -- `concatenation::is_align` meets its contract: the two numbers are those of the two alignments.
 -- Assumes nothing.
-use Rattle.std.proofs.Common.{rules}
 use Rattle.stages.proofs.concatenation.alignment.align.is_align.Goals as goal
 
 pub returns : goal.returns

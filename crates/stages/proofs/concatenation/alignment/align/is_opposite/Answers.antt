@@ -1,6 +1,5 @@
 -- `concatenation::is_opposite` meets its contract: test by test.
 -- Assumes nothing.
-use Rattle.std.proofs.Common.{rules}
 use Rattle.stages.proofs.concatenation.alignment.align.is_opposite.Goals as goal
 
 pub returns : goal.returns

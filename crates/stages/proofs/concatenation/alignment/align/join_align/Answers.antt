@@ -1,6 +1,6 @@
 -- `concatenation::alignment::join_align` meets its contract: by which of the two is none.
 -- Assumes nothing.
-use Rattle.std.proofs.Common.{sym, ◌∙◌, rules}
+use Rattle.std.proofs.Common.{sym, ◌∙◌}
 use Rattle.stages.proofs.concatenation.alignment.align.join_align.Goals as goal
 
 pub returns-then-is_align : goal.returns-then-is_align

@@ -1,6 +1,6 @@
 -- `concatenation::join_sided` meets its contract: by the tests on the way.
 -- Assumes nothing.
-use Rattle.std.proofs.Common.{sym, ◌∙◌, rules}
+use Rattle.std.proofs.Common.{sym, ◌∙◌}
 use Rattle.stages.proofs.concatenation.alignment.align.join_sided.Goals as goal
 
 pub returns-then-is_align : goal.returns-then-is_align

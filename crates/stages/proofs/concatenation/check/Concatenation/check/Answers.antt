@@ -1,9 +1,5 @@
-use Rattle.std.proofs.Common.{◌≡◌, ℕ, ◌+◌, ◌-◌, ◌≤◌, true, eqb, List, length, drop, sym, ap, ◌∙◌, arith, rules}
-use Rattle.definition.specs.Component.{Component}
-use Rattle.definition.specs.Image.{Placed}
-use Rattle.definition.specs.Concatenation.{unchecked, check_from}
+use Rattle.std.proofs.Common.{◌+◌, ◌≤◌, eqb, sym, ap, ◌∙◌, arith}
 use Rattle.stages.specs.concatenation.running_check.Running.{running_of, advanced_as}
-use Rattle.stages.specs.component.Kept.{KeptFrom}
 use Rattle.stages.proofs.concatenation.check.Turns.{last_is, check_on, check_off, check_end}
 use Rattle.stages.proofs.component.Rows.{stored}
 use Rattle.stages.proofs.concatenation.check.Concatenation.check.Goals as goal

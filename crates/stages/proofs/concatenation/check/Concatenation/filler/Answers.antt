@@ -1,9 +1,4 @@
-use Rattle.std.proofs.Common.{◌≡◌, ℕ, ◌-◌, ◌≤◌, List, length, drop, sym, refl, ◌∙◌, arith, rules}
-use Rattle.definition.specs.Component.{Component}
-use Rattle.definition.specs.Image.{Placed}
-use Rattle.definition.specs.Overall.{place_from}
-use Rattle.stages.specs.component.Kept.{KeptFrom}
-use Rattle.stages.specs.concatenation.Check.{asked}
+use Rattle.std.proofs.Common.{◌≤◌, sym, refl, ◌∙◌, arith}
 use Rattle.stages.proofs.component.Rows.{stored}
 use Rattle.stages.proofs.concatenation.check.Turns.{asked_here, asked_on, asked_end}
 use Rattle.stages.proofs.concatenation.check.Concatenation.filler.Goals as goal

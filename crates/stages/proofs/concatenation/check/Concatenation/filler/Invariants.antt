@@ -1,11 +1,9 @@
-use Rattle.std.proofs.Common.{◌≡◌, ℕ, ◌-◌, ◌≤◌, List, length, drop, sym, refl, ◌∙◌, arith, rules}
+use Rattle.std.proofs.Common.{◌≡◌, ℕ, ◌-◌, ◌≤◌, List, length, drop}
 use Rattle.definition.specs.Component.{Component}
 use Rattle.definition.specs.Image.{Placed}
 use Rattle.definition.specs.Overall.{place_from}
 use Rattle.stages.specs.component.Kept.{KeptFrom}
 use Rattle.stages.specs.concatenation.Check.{asked}
-use Rattle.stages.proofs.component.Rows.{stored}
-use Rattle.stages.proofs.concatenation.check.Turns.{asked_here, asked_on, asked_end}
 use Rattle.stages.proofs.concatenation.check.Concatenation.filler.Given as goal
 
 abbrev pub invariant-loop-j : goal.invariant-loop-j

@@ -1,9 +1,5 @@
-use Rattle.std.proofs.Common.{◌≡◌, ℕ, ◌+◌, ◌-◌, ◌*◌, ◌/◌, ◌%◌, ◌≤◌, eqb, ◌⊎◌, List, length, get_or, drop, ◌∙◌, inl, inr, ⊎_elim, arith}
-use Rattle.definition.specs.Component.{Component}
-use Rattle.definition.specs.Concatenation.{merge}
-use Rattle.definition.specs.Image.{Placed}
-use Rattle.stages.specs.component.Kept.{KeptFrom}
-use Rattle.stages.proofs.concatenation.check.Counts.{one_more_if, count_from}
+use Rattle.std.proofs.Common.{◌≡◌, ◌+◌, ◌*◌, ◌/◌, ◌%◌, ◌≤◌, eqb, get_or, ◌∙◌, inl, inr, arith}
+use Rattle.stages.proofs.concatenation.check.Counts.{one_more_if}
 use Rattle.stages.proofs.concatenation.check.Turns.{added, one_at_most, count_start, count_on, count_end}
 use Rattle.stages.proofs.component.Rows.{stored}
 use Rattle.stages.proofs.concatenation.check.Concatenation.merged.Goals.{then-was, else-was, then-not-now, else-not-now}

@@ -1,11 +1,9 @@
-use Rattle.std.proofs.Common.{◌≡◌, ℕ, ◌+◌, ◌-◌, ◌*◌, ◌/◌, ◌%◌, ◌≤◌, eqb, ◌⊎◌, List, length, get_or, drop, ◌∙◌, inl, inr, ⊎_elim, arith}
+use Rattle.std.proofs.Common.{◌≡◌, ℕ, ◌+◌, ◌-◌, ◌≤◌, List, length, drop}
 use Rattle.definition.specs.Component.{Component}
 use Rattle.definition.specs.Concatenation.{merge}
 use Rattle.definition.specs.Image.{Placed}
 use Rattle.stages.specs.component.Kept.{KeptFrom}
-use Rattle.stages.proofs.concatenation.check.Counts.{one_more_if, count_from}
-use Rattle.stages.proofs.concatenation.check.Turns.{added, one_at_most, count_start, count_on, count_end}
-use Rattle.stages.proofs.component.Rows.{stored}
+use Rattle.stages.proofs.concatenation.check.Counts.{count_from}
 use Rattle.stages.proofs.concatenation.check.Concatenation.merged.Given as goal
 
 abbrev pub invariant-loop-j : goal.invariant-loop-j

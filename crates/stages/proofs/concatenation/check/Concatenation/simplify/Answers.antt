@@ -1,12 +1,6 @@
-use Rattle.std.proofs.Common.{◌≡◌, ◌+◌, ◌-◌, ◌<◌, ◌≤◌, refl, ◌∙◌, arith, rules}
-use Rattle.definition.specs.Prelude.{List, length}
-use Rattle.definition.specs.Image.{Placed}
-use Rattle.definition.specs.Component.{Component}
+use Rattle.std.proofs.Common.{◌+◌, ◌-◌, refl, ◌∙◌, arith}
 use Rattle.definition.specs.Concatenation.{merge}
-use Rattle.answer_facts.specs.fits.Fixed.{AllFixed}
-use Rattle.stages.specs.component.Kept.{KeptFrom}
-use Rattle.stages.specs.answer.merging.Put.{Room}
-use Rattle.stages.proofs.answer.merging.Turns.{Midway, walk_starts, to_put, walk_goes, to_end, walk_ends}
+use Rattle.stages.proofs.answer.merging.Turns.{walk_starts, to_put, walk_goes, to_end, walk_ends}
 use Rattle.stages.proofs.concatenation.check.Concatenation.simplify.Goals as goal
 
 pub loop-j-init : goal.loop-j-init

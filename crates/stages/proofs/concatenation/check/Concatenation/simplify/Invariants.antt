@@ -1,5 +1,5 @@
 -- The loop's invariant: what is still to be written, from the present state, gives the whole.
-use Rattle.std.proofs.Common.{◌≡◌, ◌+◌, ◌-◌, ◌<◌, ◌≤◌, refl, ◌∙◌, arith, rules}
+use Rattle.std.proofs.Common.{◌≡◌, ◌+◌, ◌-◌, ◌≤◌}
 use Rattle.definition.specs.Prelude.{List, length}
 use Rattle.definition.specs.Image.{Placed}
 use Rattle.definition.specs.Component.{Component}
@@ -7,7 +7,7 @@ use Rattle.definition.specs.Concatenation.{merge}
 use Rattle.answer_facts.specs.fits.Fixed.{AllFixed}
 use Rattle.stages.specs.component.Kept.{KeptFrom}
 use Rattle.stages.specs.answer.merging.Put.{Room}
-use Rattle.stages.proofs.answer.merging.Turns.{Midway, walk_starts, to_put, walk_goes, to_end, walk_ends}
+use Rattle.stages.proofs.answer.merging.Turns.{Midway}
 use Rattle.stages.proofs.concatenation.check.Concatenation.simplify.Given as goal
 
 abbrev pub invariant-loop-j : goal.invariant-loop-j

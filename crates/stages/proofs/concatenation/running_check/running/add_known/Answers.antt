@@ -1,6 +1,6 @@
 -- `concatenation::add_known` meets its contract: by the width so far, and by whether the sum fits.
 -- Assumes nothing.
-use Rattle.std.proofs.Common.{sym, ap, ◌∙◌, rules}
+use Rattle.std.proofs.Common.{sym, ap, ◌∙◌}
 use Rattle.definition.specs.Basics.{with_places}
 use Rattle.numbers.specs.Value.{value_of, option_usize}
 use Rattle.stages.specs.concatenation.running_check.Running.{running_of}

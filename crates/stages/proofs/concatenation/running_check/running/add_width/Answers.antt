@@ -1,6 +1,5 @@
 -- `concatenation::add_width` meets its contract: by whether the width is known.
 -- Assumes nothing.
-use Rattle.std.proofs.Common.{rules}
 use Rattle.stages.proofs.concatenation.running_check.running.add_width.Goals as goal
 
 pub returns-in-Some : goal.returns-in-Some

@@ -1,6 +1,6 @@
 -- `concatenation::check_open` meets its contract: 31 and 32 in turn, else the new alignment.
 -- Assumes nothing.
-use Rattle.std.proofs.Common.{Bool, not, ◌&&◌, eqb, sym, ap, ◌∙◌, rules}
+use Rattle.std.proofs.Common.{Bool, not, ◌&&◌, eqb, sym, ap, ◌∙◌}
 use Rattle.definition.specs.Basics.{with_places}
 use Rattle.stages.specs.concatenation.running_check.Running.{running_of}
 use Rattle.stages.proofs.concatenation.running_check.Steps.{open_lone, open_second, open_ok}

@@ -1,6 +1,6 @@
 -- `concatenation::check_type` meets its contract: by the kind, and by the end of a filler.
 -- Assumes nothing.
-use Rattle.std.proofs.Common.{not, eqb, sym, ap, ◌∙◌, rules}
+use Rattle.std.proofs.Common.{not, eqb, sym, ap, ◌∙◌}
 use Rattle.definition.specs.Basics.{with_places}
 use Rattle.stages.specs.concatenation.running_check.Running.{running_of}
 use Rattle.stages.proofs.concatenation.running_check.Steps.{as_literal, as_variable, as_filler}

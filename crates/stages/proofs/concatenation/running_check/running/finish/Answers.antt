@@ -1,6 +1,6 @@
 -- `concatenation::running_check::finish` meets its contract: by the width.
 -- Assumes nothing.
-use Rattle.std.proofs.Common.{arith, rules, lt-ltb}
+use Rattle.std.proofs.Common.{arith, lt-ltb}
 use Rattle.stages.proofs.concatenation.running_check.running.finish.Goals as goal
 
 pub returns-then-w-eq0 : goal.returns-then-w-eq0

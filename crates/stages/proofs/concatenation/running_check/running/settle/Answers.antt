@@ -1,6 +1,5 @@
 -- `concatenation::settle` meets its contract: by what the step said.
 -- Assumes nothing.
-use Rattle.std.proofs.Common.{rules}
 use Rattle.stages.proofs.concatenation.running_check.running.settle.Goals as goal
 
 pub returns-in-Ok : goal.returns-in-Ok

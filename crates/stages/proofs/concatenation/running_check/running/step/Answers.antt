@@ -1,6 +1,6 @@
 -- `concatenation::running_check::step` meets its contract: the width, then the type, over what the shape says.
 -- Assumes nothing.
-use Rattle.std.proofs.Common.{sym, ap, ◌∙◌, rules}
+use Rattle.std.proofs.Common.{sym, ap, ◌∙◌}
 use Rattle.stages.specs.concatenation.running_check.Running.{running_of, stepped_of}
 use Rattle.stages.proofs.concatenation.running_check.Steps.{step_on, step_off}
 use Rattle.stages.proofs.concatenation.running_check.running.step.Goals as goal

@@ -1,5 +1,4 @@
 use Rattle.stages.proofs.ranges.Bounds.{zero_yes, zero_no}
-use Rattle.std.proofs.Common.{rules}
 use Rattle.stages.proofs.ranges.types.Usb.is_guaranteed_zero.Goals as goal
 
 pub returns-then-self-ne0 : goal.returns-then-self-ne0

@@ -1,4 +1,4 @@
-use Rattle.std.proofs.Common.{arith, rules}
+use Rattle.std.proofs.Common.{arith}
 use Rattle.numbers.specs.Value.{value_of}
 use Rattle.stages.proofs.ranges.Bounds.{moved_ok, moved_over}
 use Rattle.stages.proofs.ranges.types.Usb.moved.Goals as goal

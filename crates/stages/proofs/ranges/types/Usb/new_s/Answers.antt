@@ -1,4 +1,3 @@
-use Rattle.std.proofs.Common.{rules}
 use Rattle.stages.proofs.ranges.types.Usb.new_s.Goals as goal
 
 pub returns : goal.returns

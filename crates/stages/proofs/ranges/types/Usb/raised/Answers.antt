@@ -1,4 +1,4 @@
-use Rattle.std.proofs.Common.{arith, rules}
+use Rattle.std.proofs.Common.{arith}
 use Rattle.stages.proofs.ranges.Bounds.{raised_ok, raised_over}
 use Rattle.stages.proofs.ranges.types.Usb.raised.Goals as goal
 

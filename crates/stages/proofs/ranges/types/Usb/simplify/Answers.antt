@@ -1,4 +1,4 @@
-use Rattle.std.proofs.Common.{◌≤◌, length, subst, arith, rules}
+use Rattle.std.proofs.Common.{◌≤◌, length, subst, arith}
 use Rattle.stages.specs.ranges.Values.{UsbReads}
 use Rattle.stages.proofs.ranges.Bounds.{simplify_empty, simplify_none, simplify_some}
 use Rattle.stages.proofs.ranges.types.Usb.simplify.Goals as goal

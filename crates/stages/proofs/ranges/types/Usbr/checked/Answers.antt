@@ -1,5 +1,4 @@
 use Rattle.stages.proofs.ranges.usbr.Gates.{start_below, end_below, width_refused, range_passed}
-use Rattle.std.proofs.Common.{rules}
 use Rattle.stages.proofs.ranges.types.Usbr.checked.Goals as goal
 
 pub returns-then-below_zero : goal.returns-then-below_zero

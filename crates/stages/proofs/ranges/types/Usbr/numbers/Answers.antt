@@ -1,5 +1,4 @@
 use Rattle.stages.proofs.ranges.usbr.Joins.{start_fits, numbers_ok, numbers_refused}
-use Rattle.std.proofs.Common.{rules}
 use Rattle.stages.proofs.ranges.types.Usbr.numbers.Goals as goal
 
 pub returns-in-Ok : goal.returns-in-Ok

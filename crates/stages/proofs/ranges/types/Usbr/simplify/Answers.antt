@@ -1,12 +1,10 @@
 use Rattle.stages.specs.ranges.Values.{usbr_of}
 use Rattle.stages.proofs.ranges.usbr.Joins.{range_fits, simplify_ok, simplify_never, simplify_refused}
-use Rattle.std.proofs.Common.{rules}
 use Rattle.stages.proofs.ranges.types.Usbr.simplify.Goals as goal
 
 pub checked-requires : goal.checked-requires
 checked-requires c =
-    let b = c.requires.0 in
-    (
+    let b = c.requires.0 in (
       b,
       range_fits c.args.image.now c.args.tree b (usbr_of c.args.image.now c.args.tree b c.args.self) c.numbers.result
           (c.numbers.ensures b c.requires.1) c.in-Ok.r c.in-Ok.is,

@@ -1,5 +1,4 @@
 use Rattle.stages.proofs.ranges.literal.Whole.{filler_ended, filler_zero, filler_open}
-use Rattle.std.proofs.Common.{rules}
 use Rattle.stages.proofs.ranges.types.Usbr.simplify_filler.Goals as goal
 
 pub returns-then-is_guaranteed_zero : goal.returns-then-is_guaranteed_zero

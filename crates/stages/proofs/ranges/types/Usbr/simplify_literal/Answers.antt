@@ -1,5 +1,4 @@
 use Rattle.stages.proofs.ranges.literal.Whole.{literal_over, literal_ended, literal_open}
-use Rattle.std.proofs.Common.{rules}
 use Rattle.stages.proofs.ranges.types.Usbr.simplify_literal.Goals as goal
 
 pub returns-then-above : goal.returns-then-above

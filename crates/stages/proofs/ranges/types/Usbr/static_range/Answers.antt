@@ -1,4 +1,4 @@
-use Rattle.std.proofs.Common.{ap, ◌∙◌, rules}
+use Rattle.std.proofs.Common.{ap, ◌∙◌}
 use Rattle.definition.specs.Prelude.{Option, ℤ}
 use Rattle.definition.specs.Ranges.{static_val}
 use Rattle.numbers.specs.Value.{option_of}

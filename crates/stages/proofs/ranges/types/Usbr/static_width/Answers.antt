@@ -1,14 +1,11 @@
-use borrow.Author.Tests.{not-true, not-false}
 use Rattle.stages.proofs.ranges.usbr.Joins.{end_fits, width_known, width_unknown, width_open}
-use Rattle.std.proofs.Common.{rules}
 use Rattle.stages.proofs.ranges.types.Usbr.static_width.Goals as goal
 
 pub same_text-requires : goal.same_text-requires
-same_text-requires c =
-    (
-      c.requires.1.start.part.room,
-      (end_fits c.args.image.now c.args.tree c.requires.0 c.args.self.«end» c.in-Some.b c.in-Some.is c.requires.1.«end»).part.room,
-    )
+same_text-requires c = (
+  c.requires.1.start.part.room,
+  (end_fits c.args.image.now c.args.tree c.requires.0 c.args.self.«end» c.in-Some.b c.in-Some.is c.requires.1.«end»).part.room,
+)
 
 pub returns-then-not-same_text : goal.returns-then-not-same_text
 returns-then-not-same_text c base =
