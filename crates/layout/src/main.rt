@@ -6,8 +6,12 @@
 // listing, so that a script can go by its first word; the words for who asks what is read go to standard error.
 #![tactic(auto)]
 
-ghost use Rattle.std.specs.Prelude.{◌≡◌, length};
+ghost use Rattle.std.specs.Prelude.{◌≡◌, length, take, IfErr, IfOk, IfSome, OnOk};
+ghost use Rattle.std.specs.Io.{ReadsAtMost};
+ghost use Rattle.std.specs.Io.KnownBytes.{Appends, Keeps};
 ghost use Rattle.definition.specs.Limits.{max_input};
+ghost use Rattle.definition.specs.Listing.{output};
+ghost use Rattle.layout.specs.Failure.{IfUnread};
 ghost use Rattle.listing_length.specs.run.Listing.{longest_listing};
 
 use listing::Written;
@@ -50,7 +54,10 @@ fn listing_buffer() -> [u8; limits::MAX_LISTING]
 }
 
 // Reads until buf is full, the input ends or a read fails.
-fn read_input<I: Read>(from: &mut I, buf: &mut [u8]) -> io::Result<usize> {
+fn read_input<I: Read>(from: &mut I, buf: &mut [u8]) -> io::Result<usize>
+    ensures bound { ReadsAtMost result buf.new }
+    ensures front { IfOk result (λ n. IfSome (I.remaining from.old) (λ input. take n buf.new ≡ take (length buf.new) input)) }
+{
     streams::read_full(from, buf)
 }
 
@@ -70,31 +77,33 @@ fn fail(err: &mut impl Write, name: &[u8], failure: Failure) {
     };
 }
 
-// Writes the first n bytes of a listing's buffer.
-fn print_listing<O: Write>(out: &mut O, listing: &[u8], n: usize) -> io::Result<()> {
-    if listing.len() < n {
-        return Ok(());
-    }
-    out.write_all(&listing[..n])
+fn print_listing<O: Write>(out: &mut O, listing: &[u8]) -> io::Result<()>
+    ensures { OnOk result (Appends (O.contents out.old) (O.contents out.new) listing.now) }
+{
+    out.write_all(listing)
 }
 
-// Answers the first n bytes of the input's buffer.
-fn answer<O: Write>(out: &mut O, buf: &[u8], n: usize) -> io::Result<()> {
-    if buf.len() < n {
-        return Ok(());
-    }
+// Answers an input. Its listing is never cut, since none is longer than the buffer.
+fn answer<O: Write>(out: &mut O, input: &[u8]) -> io::Result<()>
+    ensures { OnOk result (Appends (O.contents out.old) (O.contents out.new) (output input.now)) }
+{
     let mut listing = listing_buffer();
-    match output::answer(&buf[..n], &mut listing) {
-        Written::Whole(m) => print_listing(out, &listing, m),
-        Written::Cut => Ok(()),
+    match output::answer(input, &mut listing) {
+        Written::Whole(n) => print_listing(out, &listing[..n]),
+        Written::Cut => unreachable!(),
     }
 }
 
-// Answers what there is to read.
-fn answer_open<I: Read, O: Write>(from: &mut I, out: &mut O) -> Result<(), Failure> {
+// Answers what there is to read. After a failed read nothing is printed.
+fn answer_open<I: Read, O: Write>(from: &mut I, out: &mut O) -> Result<(), Failure>
+    ensures printed { OnOk result (IfSome (I.remaining from.old) (λ input. Appends (O.contents out.old) (O.contents out.new) (output input))) }
+    ensures unread { IfErr result (λ failure. IfUnread failure (Keeps (O.contents out.old) (O.contents out.new))) }
+{
     let mut buf = input_buffer();
-    let n = read_input(from, &mut buf).map_err(Failure::Input)?;
-    answer(out, &buf, n).map_err(Failure::Output)
+    match read_input(from, &mut buf) {
+        Ok(n) => answer(out, &buf[..n]).map_err(Failure::Output),
+        Err(error) => Err(Failure::Input(error)),
+    }
 }
 
 // Opens a file for reading. std takes a file's name as text alone, so a name that is not UTF-8 is refused.
