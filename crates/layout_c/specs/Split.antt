@@ -2,8 +2,8 @@
 -- whose parts the header takes out again (include/layout.h).
 use Rattle.std.specs.Prelude.{◌≡◌, ◌<◌, ◌≤◌, refl}
 use Rattle.std.proofs.Common.{ap, ◌∙◌, arith}
-use Rattle.definition.specs.Prelude.{ℕ, ◌+◌, ◌*◌, ◌/◌, ◌%◌, ◌^◌, true, false, List, [], ◌∷◌, length, take, drop, leb, eqb}
-use Rattle.definition.specs.Basics.{Refusal, Result, ok, refused, ◌>>=◌, if◌then◌else◌, ascii}
+use Rattle.definition.specs.Prelude.{ℕ, ◌+◌, ◌*◌, ◌/◌, ◌%◌, ◌^◌, true, false, List, [], ◌∷◌, length, take, drop, eqb}
+use Rattle.definition.specs.Basics.{Refusal, Result, ok, refused, ◌>>=◌, ascii}
 use Rattle.definition.specs.Image.{tree_of}
 use Rattle.definition.specs.Check.{check_image}
 use Rattle.definition.specs.Tree.{Node, image_of}

@@ -2,7 +2,7 @@
 -- whose number the header takes out again (include/layout.h); its places are 0 and 0.
 use Rattle.std.specs.Prelude.{◌≡◌, ◌<◌, ◌≤◌, refl}
 use Rattle.std.proofs.Common.{ap, arith}
-use Rattle.definition.specs.Prelude.{ℕ, ◌+◌, ◌*◌, ◌/◌, ◌%◌, ◌^◌, List, [], ◌∷◌, ◌++◌, length}
+use Rattle.definition.specs.Prelude.{ℕ, ◌*◌, ◌^◌, List, [], ◌∷◌, ◌++◌, length}
 use Rattle.definition.specs.Basics.{Refusal, Result, ok, refused, ◌>>=◌, ascii}
 use Rattle.definition.specs.Tree.{u32}
 use Rattle.definition.specs.Tokens.{token_image}

@@ -41,9 +41,9 @@ fn put_concatenation(
 
 // All concatenations, their own rows from `at` on.
 fn put_concatenations(list: &[u8], text: &[u8], area: &mut [u8], base: usize, at: usize, pen: Pen)
-    requires { (cc : List (List Stream)) × Concatenations list.now text.now base at 0 pen cc }
-    ensures { (cc : List (List Stream)) → Concatenations list.now text.now base at 0 pen cc
-        → TreeWritten base at pen cc area.old area.new }
+    requires { (ccs : List (List Stream)) × Concatenations list.now text.now base at 0 pen ccs }
+    ensures { (ccs : List (List Stream)) → Concatenations list.now text.now base at 0 pen ccs
+        → TreeWritten base at pen ccs area.old area.new }
 {
     let n = count_of(list);
     let mut row = at;

@@ -1,8 +1,6 @@
 -- `output::answer` meets its contract: nothing read, or all that is judged. Assumes nothing.
 use borrow.Author.Rules.{rules}
 use mathlib.Core.Path.{refl}
-use native.Mathlib.Omega.{arith}
-use Prim.Native.Nat.{◌≤◌}
 use Rattle.output.proofs.Listing.{shown_as, empty_input, some_judged, read_judged}
 use Rattle.output.proofs.answer.Goals as goal
 

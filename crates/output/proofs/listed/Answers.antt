@@ -1,6 +1,5 @@
 -- `output::listed` meets its contract: the listing of what the run left in an area as long as the program's. Assumes nothing.
 use Rattle.definition.specs.Run.{under}
-use borrow.Author.Rules.{rules}
 use mathlib.Core.Path.{sym}
 use Rattle.output.proofs.Listing.{shows}
 use Rattle.output.proofs.listed.Goals as goal

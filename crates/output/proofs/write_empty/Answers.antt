@@ -1,5 +1,4 @@
 -- `output::write_empty` meets its contract: the listing of number 2. Assumes nothing.
-use borrow.Author.Rules.{rules}
 use Rattle.definition.specs.Prelude.{[]}
 use Rattle.output.proofs.Empty.{shows_empty}
 use Rattle.output.proofs.write_empty.Goals as goal

@@ -54,7 +54,7 @@ fn summarise(heads: &mut [u64], i: u32, r: Running, merged: u32)
 
 // Every concatenation: the first refusal.
 pub(crate) fn stage3(heads: &mut [u64], words: &[u64], image: &[u8], c: u32) -> Checked
-    requires { (cc : List (List (Placed Component))) × CountsFit image.now cc c (length words.now) (length heads.old) }
+    requires { (ccs : List (List (Placed Component))) × CountsFit image.now ccs c (length words.now) (length heads.old) }
     ensures { Stage3Is image.now words.now c result heads.new }
 {
     let mut k = PVal(0);

@@ -73,7 +73,7 @@ fn joined_at(bare: bool, heads: &[u64], words: &[u64], n: u32, i: u32, o: Overal
 }
 
 fn overall_of(bare: bool, heads: &[u64], words: &[u64], image: &[u8], c: u32) -> OverallResult
-    requires { (cc : List (List (Placed Component))) × CountsFit image.now cc c (length words.now) (length heads.now) }
+    requires { (ccs : List (List (Placed Component))) × CountsFit image.now ccs c (length words.now) (length heads.now) }
     ensures { (ds : List Def.Concatenation) → Judged image.now words.now heads.now c ds
         → answer_of result ≡ overall_from bare 0 ds (overall_start ds) }
 {
@@ -108,7 +108,7 @@ fn middle_at(x: Concatenation, words: &[u64], align: FillerAlign) -> Checked
 }
 
 fn middle_of(heads: &[u64], words: &[u64], image: &[u8], c: u32) -> Checked
-    requires { (cc : List (List (Placed Component))) × CountsFit image.now cc c (length words.now) (length heads.now) }
+    requires { (ccs : List (List (Placed Component))) × CountsFit image.now ccs c (length words.now) (length heads.now) }
     ensures { (ds : List Def.Concatenation) → Judged image.now words.now heads.now c ds
         → result_of result ≡ middle_from 0 ds }
 {
@@ -206,7 +206,7 @@ fn check_only(c: u32, deterministic: bool) -> Checked
 
 // 44.
 fn check_middle(deterministic: bool, heads: &[u64], words: &[u64], image: &[u8], c: u32) -> Checked
-    requires { (cc : List (List (Placed Component))) × CountsFit image.now cc c (length words.now) (length heads.now) }
+    requires { (ccs : List (List (Placed Component))) × CountsFit image.now ccs c (length words.now) (length heads.now) }
     ensures { (ds : List Def.Concatenation) → Judged image.now words.now heads.now c ds
         → result_of result ≡ middle_of deterministic ds }
 {
@@ -240,7 +240,7 @@ fn checks(
     c: u32,
     o: Overall,
 ) -> OverallResult
-    requires { (cc : List (List (Placed Component))) × CountsFit image.now cc c (length words.now) (length heads.now) }
+    requires { (ccs : List (List (Placed Component))) × CountsFit image.now ccs c (length words.now) (length heads.now) }
     ensures { (ds : List Def.Concatenation) → Judged image.now words.now heads.now c ds
         → answer_of result ≡ checks_of mode ds (overall_of o) }
 {
@@ -265,7 +265,7 @@ pub(crate) fn stage4(
     image: &[u8],
     c: u32,
 ) -> OverallResult
-    requires { (cc : List (List (Placed Component))) × CountsFit image.now cc c (length words.now) (length heads.now) }
+    requires { (ccs : List (List (Placed Component))) × CountsFit image.now ccs c (length words.now) (length heads.now) }
     ensures { (ds : List Def.Concatenation) → Judged image.now words.now heads.now c ds
         → answer_of result ≡ stage4_of mode given ds }
 {

@@ -2,8 +2,6 @@
 use mathlib.Core.Path.{◌≡◌, sym, ◌∙◌}
 use mathlib.Core.Bool.{true, false}
 use native.Mathlib.Omega.{arith}
-use borrow.Author.Rules.{rules}
-use borrow.Author.Tests.{not-true, not-false}
 use Rattle.definition.specs.Tokens.{tokens, tokens_right}
 use Rattle.token_facts.specs.Flat.{none_empty_in}
 use Rattle.token_stream.proofs.Refusing.{way_50, way_51, way_52, way_53, way_fits}
@@ -15,55 +13,47 @@ returns-then-not-tokens_right c =
     way_50 a.list.now a.text.now a.area c.refuse.ensures
     (sym c.tokens_right.ensures ∙ c.if-not-tokens_right.true)
 
-pub none_empty-requires : goal.none_empty-requires
-none_empty-requires c =
-    let right : (let a = c.args in tokens_right a.list.now a.text.now ≡ true) =
-      sym c.tokens_right.ensures ∙ c.if-not-tokens_right.false in
-    right
-
 pub returns-then-not-none_empty : goal.returns-then-not-none_empty
 returns-then-not-none_empty c =
+    -- what passed
     let right : (let a = c.args in tokens_right a.list.now a.text.now ≡ true) =
-      sym c.tokens_right.ensures ∙ c.if-not-tokens_right.false in
+    sym c.tokens_right.ensures ∙ c.if-not-tokens_right.false in
     let a = c.args in
     way_51 a.list.now a.text.now a.area c.refuse-then-not-none_empty.ensures right
     (sym c.none_empty.ensures ∙ c.if-not-none_empty.true)
 
-pub counts_of-requires : goal.counts_of-requires
-counts_of-requires c =
-    let right : (let a = c.args in tokens_right a.list.now a.text.now ≡ true) =
-      sym c.tokens_right.ensures ∙ c.if-not-tokens_right.false in
-    right
-
 pub returns-in-Over : goal.returns-in-Over
 returns-in-Over c =
+    -- what passed
     let right : (let a = c.args in tokens_right a.list.now a.text.now ≡ true) =
-      sym c.tokens_right.ensures ∙ c.if-not-tokens_right.false in
+    sym c.tokens_right.ensures ∙ c.if-not-tokens_right.false in
     let filled : (let a = c.args in
     none_empty_in 0 false (tokens a.list.now a.text.now) ≡ true) =
-      sym c.none_empty.ensures ∙ c.if-not-none_empty.false in
+    sym c.none_empty.ensures ∙ c.if-not-none_empty.false in
     let a = c.args in
     way_52 a.list.now a.text.now a.area c.refuse-in-Over.ensures right filled
     c.counts_of.ensures c.in-Over.is
 
 pub returns-then-area-size_of : goal.returns-then-area-size_of
 returns-then-area-size_of c =
+    -- what passed
     let right : (let a = c.args in tokens_right a.list.now a.text.now ≡ true) =
-      sym c.tokens_right.ensures ∙ c.if-not-tokens_right.false in
+    sym c.tokens_right.ensures ∙ c.if-not-tokens_right.false in
     let filled : (let a = c.args in
     none_empty_in 0 false (tokens a.list.now a.text.now) ≡ true) =
-      sym c.none_empty.ensures ∙ c.if-not-none_empty.false in
+    sym c.none_empty.ensures ∙ c.if-not-none_empty.false in
     let a = c.args in
     way_53 a.list.now a.text.now a.area c.refuse-then-area-size_of.ensures right filled
     c.counts_of.ensures c.in-Within.h c.in-Within.is c.size_of.ensures c.if-area-size_of.true
 
 pub returns-else-area-size_of : goal.returns-else-area-size_of
 returns-else-area-size_of c =
+    -- what passed
     let right : (let a = c.args in tokens_right a.list.now a.text.now ≡ true) =
-      sym c.tokens_right.ensures ∙ c.if-not-tokens_right.false in
+    sym c.tokens_right.ensures ∙ c.if-not-tokens_right.false in
     let filled : (let a = c.args in
     none_empty_in 0 false (tokens a.list.now a.text.now) ≡ true) =
-      sym c.none_empty.ensures ∙ c.if-not-none_empty.false in
+    sym c.none_empty.ensures ∙ c.if-not-none_empty.false in
     let a = c.args in
     way_fits a.list.now a.text.now a.area right filled c.counts_of.ensures c.in-Within.h
     c.in-Within.is c.size_of.ensures (omega (arith, c.if-area-size_of.false))

@@ -1,6 +1,5 @@
 -- What was admitted is written, and what was refused leaves the area as it was.
 use mathlib.Core.Path.{subst}
-use borrow.Author.Rules.{rules}
 use lib.ListN.{length}
 use Rattle.token_stream.specs.Admitted.{AdmittedIs}
 use Rattle.token_stream.proofs.Calls.{call_written, call_refused}

@@ -6,7 +6,7 @@ sized-requires c =
     let a = c.args in
     let s = c.admitted in
     entered a.image.now a.how a.area.now s.result s.ensures
-    (λ i. (c.shared_slice_known-1.given i).fits) c.in-Passed.is
+    (λ i. (c.type_inv.image i).fits) c.in-Passed.is
 
 pub returns-in-Passed : goal.returns-in-Passed
 returns-in-Passed c how st =

@@ -1,19 +1,10 @@
-use mathlib.Core.Path.{◌≡◌, sym, ap, ◌∙◌}
-use Prim.Native.Nat.{ℕ, ◌-◌, ◌≤◌}
-use native.Mathlib.Nat.{sub-zero}
+use mathlib.Core.Path.{sym, ap, ◌∙◌}
+use Prim.Native.Nat.{ℕ}
 use native.Mathlib.Omega.{arith}
-use borrow.Author.Rules.{rules}
-use borrow.Author.Tests.{not-true, not-false}
 use Rattle.definition.specs.Basics.{all, tab}
 use Rattle.definition.specs.Tokens.{token_right}
 use Rattle.token_stream.proofs.check.Walks.{each_turn, each_stop, each_end}
 use Rattle.token_stream.proofs.check.each_right.Goals as goal
-
-pub loop-k-init : goal.loop-k-init
-loop-k-init c = (omega arith, rw sub-zero)
-
-pub token_right-requires : goal.token_right-requires
-token_right-requires c = omega (arith, c.count_of-n.ensures, c.loop-k-test.true)
 
 pub returns-then-not-token_right : goal.returns-then-not-token_right
 returns-then-not-token_right c =
@@ -23,12 +14,6 @@ returns-then-not-token_right c =
     each_stop right c.loop-k.k n.result c.loop-k-test.true
     (sym c.token_right.ensures ∙ c.if-not-token_right.true)
     ∙ c.loop-k.invariant.1 ∙ ap (λ (m : ℕ). all right (tab (λ i. i) 0 m)) n.ensures
-
-pub overflow_add-k : goal.overflow_add-k
-overflow_add-k c = omega arith
-
-pub loop-k-smaller : goal.loop-k-smaller
-loop-k-smaller c = omega arith
 
 pub loop-k-preserved : goal.loop-k-preserved
 loop-k-preserved c =

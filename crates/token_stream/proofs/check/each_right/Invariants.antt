@@ -1,13 +1,8 @@
 -- The loop's invariant: the tokens that are left are right where all are.
-use mathlib.Core.Path.{◌≡◌, sym, ap, ◌∙◌}
-use Prim.Native.Nat.{ℕ, ◌-◌, ◌≤◌}
-use native.Mathlib.Nat.{sub-zero}
-use native.Mathlib.Omega.{arith}
-use borrow.Author.Rules.{rules}
-use borrow.Author.Tests.{not-true, not-false}
+use mathlib.Core.Path.{◌≡◌}
+use Prim.Native.Nat.{◌-◌, ◌≤◌}
 use Rattle.definition.specs.Basics.{all, tab}
 use Rattle.definition.specs.Tokens.{token_right}
-use Rattle.token_stream.proofs.check.Walks.{each_turn, each_stop, each_end}
 use Rattle.token_stream.proofs.check.each_right.Given as goal
 
 abbrev pub invariant-loop-k : goal.invariant-loop-k

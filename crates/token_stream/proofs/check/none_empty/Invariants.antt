@@ -1,16 +1,10 @@
 -- The loop's invariant: no component is empty in what is left, d groups being open and the first begun or not, where none is in all of it.
-use mathlib.Core.Path.{◌≡◌, refl, ◌∙◌}
-use mathlib.Core.Logic.{⊎_elim}
-use mathlib.Core.Bool.{Bool, true, false}
-use Prim.Native.Nat.{◌-◌, ◌≤◌, ◌<◌}
-use native.Mathlib.Omega.{arith}
-use borrow.Author.Rules.{rules}
-use borrow.Author.Tests.{not-true, not-false}
+use mathlib.Core.Path.{◌≡◌}
+use mathlib.Core.Bool.{false}
+use Prim.Native.Nat.{◌-◌, ◌≤◌}
 use lib.ListN.{drop}
-use Rattle.definition.specs.Tokens.{tokens, count}
+use Rattle.definition.specs.Tokens.{tokens}
 use Rattle.token_facts.specs.Flat.{none_empty_in}
-use Rattle.token_stream.proofs.list.Dividers.{dividing, either_is, after_most}
-use Rattle.token_stream.proofs.check.Walks.{empty_divider, empty_other, empty_stop, empty_end}
 use Rattle.token_stream.proofs.check.none_empty.Given as goal
 
 abbrev pub invariant-loop-k : goal.invariant-loop-k

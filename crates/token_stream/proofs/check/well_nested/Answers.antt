@@ -1,49 +1,31 @@
-use mathlib.Core.Path.{◌≡◌, refl, sym, ap, ◌∙◌}
+use mathlib.Core.Path.{◌≡◌, sym, ap, ◌∙◌}
 use mathlib.Core.Bool.{◌&&◌}
-use mathlib.Core.List.{List}
-use Prim.Native.Nat.{ℕ, ◌-◌, ◌≤◌}
 use native.Mathlib.Omega.{arith}
-use borrow.Author.Rules.{rules}
-use lib.ListN.{drop}
 use lib.Dec.{eqb}
-use Rattle.definition.specs.Tokens.{kind_at, tokens, nested}
+use Rattle.definition.specs.Tokens.{kind_at}
 use Rattle.token_stream.proofs.list.Dividers.{after_most}
 use Rattle.token_stream.proofs.check.Walks.{nested_turn, nested_stop, nested_end}
 use Rattle.token_stream.proofs.check.well_nested.Goals as goal
 
-pub loop-k-init : goal.loop-k-init
-loop-k-init c = (omega arith, omega arith, λ text. refl)
-
-pub kind_at-kind-requires : goal.kind_at-kind-requires
-kind_at-kind-requires c = omega (arith, c.count_of-n.ensures, c.loop-k-test.true)
-
 pub returns-then-both : goal.returns-then-both
 returns-then-both c text =
+    -- the code's test, by the list's kind
     let tested : (c.both.result
     ≡ (eqb (kind_at c.args.list.now c.loop-k.k) 7
     && eqb c.loop-k.d 0)) =
-      c.both.ensures ∙ ap (λ x. eqb x 7 && eqb c.loop-k.d 0) c.kind_at-kind.ensures in
+    c.both.ensures ∙ ap (λ x. eqb x 7 && eqb c.loop-k.d 0) c.kind_at-kind.ensures in
     let a = c.args in
     nested_stop a.list.now text c.loop-k.k c.loop-k.d
     (omega (arith, c.count_of-n.ensures, c.loop-k-test.true))
     (sym tested ∙ c.if-both.true) ∙ c.loop-k.invariant.2 text
 
-pub after-d-requires : goal.after-d-requires
-after-d-requires c =
-    omega (arith, c.count_of-n.ensures, c.loop-k-test.true)
-
-pub overflow_add-k : goal.overflow_add-k
-overflow_add-k c = omega arith
-
-pub loop-k-smaller : goal.loop-k-smaller
-loop-k-smaller c = omega arith
-
 pub loop-k-preserved : goal.loop-k-preserved
 loop-k-preserved c =
+    -- the code's test, by the list's kind
     let tested : (c.both.result
     ≡ (eqb (kind_at c.args.list.now c.loop-k.k) 7
     && eqb c.loop-k.d 0)) =
-      c.both.ensures ∙ ap (λ x. eqb x 7 && eqb c.loop-k.d 0) c.kind_at-kind.ensures in
+    c.both.ensures ∙ ap (λ x. eqb x 7 && eqb c.loop-k.d 0) c.kind_at-kind.ensures in
     let a = c.args in
     let l = c.loop-k-test.true in
     let kind = c.kind_at-kind in (

@@ -1,15 +1,7 @@
 -- The loop's invariant: the sums so far, with those of what is left, are the whole list's, and no limit was passed.
-use mathlib.Core.Path.{◌≡◌, sym, ap, ◌∙◌}
-use Prim.Native.Nat.{◌+◌, ◌-◌, ◌≤◌, ◌<◌}
-use native.Mathlib.Omega.{arith}
-use borrow.Author.Rules.{rules}
-use borrow.Author.Tests.{not-true, not-false}
-use lib.ListN.{drop}
-use Rattle.definition.specs.Tokens.{kind_at, token_at, tokens, count}
-use Rattle.token_stream.specs.list.Kinds.{after_kind}
-use Rattle.token_stream.specs.counts.Counting.{tally_of, sum_of, token_tally}
-use Rattle.token_stream.proofs.list.Dividers.{after_most}
-use Rattle.token_stream.proofs.counts.Walk.{Held, held, small_held, Walked, walked_start, walked_turn, walked_over, walked_end, walked_counts, told_over, told_within}
+use Prim.Native.Nat.{◌-◌, ◌≤◌}
+use Rattle.token_stream.specs.counts.Counting.{tally_of}
+use Rattle.token_stream.proofs.counts.Walk.{Walked}
 use Rattle.token_stream.proofs.counts.counts_of.Given as goal
 
 abbrev pub invariant-loop-k : goal.invariant-loop-k

@@ -1,11 +1,6 @@
-use mathlib.Core.Path.{◌≡◌, refl, ◌∙◌}
-use mathlib.Core.List.{List}
+use mathlib.Core.Path.{refl, ◌∙◌}
 use native.Mathlib.Omega.{arith}
-use lib.ListN.{length}
-use borrow.Author.Rules.{rules}
-use Rattle.definition.specs.TokenStream.{Stream}
-use Rattle.token_stream.specs.write.Written.{Concatenation}
-use Rattle.token_stream.proofs.write.Turns.{Going, going_start, here_turn, going_next, going_end}
+use Rattle.token_stream.proofs.write.Turns.{going_start, here_turn, going_next, going_end}
 use Rattle.token_stream.proofs.write.put_concatenation.Goals as goal
 
 pub loop-p-init : goal.loop-p-init
@@ -13,21 +8,12 @@ loop-p-init c =
     let a = c.args in
     (refl, λ cs h. going_start a.list.now a.text.now a.base a.a a.pen a.area.now cs a.b h)
 
-pub component_start-s-requires : goal.component_start-s-requires
-component_start-s-requires c =
-    let (cs, h) = c.requires in
-    let g = c.loop-p.invariant.1 cs h in
-    (g.here.order, g.here.stops, g.here.listed.right)
-
 pub put_component-p-requires : goal.put_component-p-requires
 put_component-p-requires c =
     let (cs, h) = c.requires in
     let (from, low) = c.component_start-s.ensures in
     let t = here_turn (c.loop-p.invariant.1 cs h) from low in
     (t.c, t.component)
-
-pub shape_of-area-then-s-a : goal.shape_of-area-then-s-a
-shape_of-area-then-s-a c = c.put_component-p.auto.1.1.0 ∙ c.loop-p.invariant.0
 
 pub returns-then-s-a : goal.returns-then-s-a
 returns-then-s-a c =
@@ -40,4 +26,4 @@ loop-p-preserved c =
     let l = c.loop-p in
     let (from, low) = c.component_start-s.ensures in
     let p = c.put_component-p in
-    (p.auto.1.1.0 ∙ l.invariant.0, λ cs h. going_next (l.invariant.1 cs h) from low p.ensures (omega arith))
+    (p.auto.area ∙ l.invariant.0, λ cs h. going_next (l.invariant.1 cs h) from low p.ensures (omega arith))

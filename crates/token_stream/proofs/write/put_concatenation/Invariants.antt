@@ -1,12 +1,10 @@
 -- The loop keeps what Going says: once the components that are left are written, all are.
-use mathlib.Core.Path.{◌≡◌, refl, ◌∙◌}
+use mathlib.Core.Path.{◌≡◌}
 use mathlib.Core.List.{List}
-use native.Mathlib.Omega.{arith}
 use lib.ListN.{length}
-use borrow.Author.Rules.{rules}
 use Rattle.definition.specs.TokenStream.{Stream}
 use Rattle.token_stream.specs.write.Written.{Concatenation}
-use Rattle.token_stream.proofs.write.Turns.{Going, going_start, here_turn, going_next, going_end}
+use Rattle.token_stream.proofs.write.Turns.{Going}
 use Rattle.token_stream.proofs.write.put_concatenation.Given as goal
 
 abbrev pub invariant-loop-p : goal.invariant-loop-p

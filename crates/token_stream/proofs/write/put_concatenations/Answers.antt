@@ -1,25 +1,12 @@
-use mathlib.Core.Path.{◌≡◌, refl, ◌∙◌}
-use mathlib.Core.List.{List}
-use Prim.Native.Nat.{◌-◌}
+use mathlib.Core.Path.{refl, ◌∙◌}
 use native.Mathlib.Omega.{arith}
-use lib.ListN.{length}
-use borrow.Author.Rules.{rules}
-use Rattle.definition.specs.TokenStream.{Stream}
-use Rattle.token_stream.specs.write.Written.{Concatenations}
-use Rattle.token_stream.proofs.write.Rounds.{Going, going_start, here_round, steps, going_next, going_end}
+use Rattle.token_stream.proofs.write.Rounds.{going_start, here_round, steps, going_next, going_end}
 use Rattle.token_stream.proofs.write.put_concatenations.Goals as goal
 
 pub loop-q-init : goal.loop-q-init
 loop-q-init c =
     let a = c.args in
     (refl, λ cc h. going_start a.list.now a.text.now a.base a.at a.pen a.area.now cc h)
-
-pub concatenation_end-b-requires : goal.concatenation_end-b-requires
-concatenation_end-b-requires c =
-    let (cc, h) = c.requires in
-    let n = c.count_of-n.ensures in
-    let g = c.loop-q.invariant.1 cc h in
-    (omega (arith, g.here.order, n), n, g.here.listed.right)
 
 pub put_concatenation-q-requires : goal.put_concatenation-q-requires
 put_concatenation-q-requires c =
@@ -40,23 +27,12 @@ overflow_cast-q c =
     let s = steps (c.loop-q.invariant.1 cc h) b c.put_concatenation-q.ensures in
     omega (arith, s.grows, s.low)
 
-pub shape_of-area-then-b-n : goal.shape_of-area-then-b-n
-shape_of-area-then-b-n c =
-    c.put_u32.auto.area ∙ c.put_concatenation-q.auto.1.1.0 ∙ c.loop-q.invariant.0
-
 pub returns-then-b-n : goal.returns-then-b-n
 returns-then-b-n c =
     let n = c.count_of-n.ensures in
     λ cc h.
     going_end (c.loop-q.invariant.1 cc h) c.concatenation_end-b.ensures c.put_concatenation-q.ensures
     c.put_u32.ensures (omega (arith, c.if-b-n.true, n))
-
-pub overflow_add-row : goal.overflow_add-row
-overflow_add-row c =
-    let (cc, h) = c.requires in
-    let b = c.concatenation_end-b.ensures in
-    let s = steps (c.loop-q.invariant.1 cc h) b c.put_concatenation-q.ensures in
-    omega (arith, s.row_low)
 
 pub overflow_add-a : goal.overflow_add-a
 overflow_add-a c =
@@ -80,7 +56,7 @@ loop-q-preserved c =
     let b = c.concatenation_end-b.ensures in
     let q = c.put_concatenation-q in
     let put = c.put_u32 in (
-      put.auto.0 ∙ q.auto.1.1.0 ∙ l.invariant.0,
+      put.auto.area ∙ q.auto.area ∙ l.invariant.0,
       λ cc h.
           let s = steps (l.invariant.1 cc h) b q.ensures in
           going_next (l.invariant.1 cc h) b q.ensures put.ensures (omega (arith, s.stops, c.if-b-n.false, n)),

@@ -1,13 +1,11 @@
 -- The loop keeps what Going says: once the concatenations that are left are written, all are.
-use mathlib.Core.Path.{◌≡◌, refl, ◌∙◌}
+use mathlib.Core.Path.{◌≡◌}
 use mathlib.Core.List.{List}
 use Prim.Native.Nat.{◌-◌}
-use native.Mathlib.Omega.{arith}
 use lib.ListN.{length}
-use borrow.Author.Rules.{rules}
 use Rattle.definition.specs.TokenStream.{Stream}
 use Rattle.token_stream.specs.write.Written.{Concatenations}
-use Rattle.token_stream.proofs.write.Rounds.{Going, going_start, here_round, steps, going_next, going_end}
+use Rattle.token_stream.proofs.write.Rounds.{Going}
 use Rattle.token_stream.proofs.write.put_concatenations.Given as goal
 
 abbrev pub invariant-loop-q : goal.invariant-loop-q

@@ -1,6 +1,5 @@
 -- The header and the concatenations' rows are the image of the tree.
 use mathlib.Core.Path.{refl}
-use borrow.Author.Rules.{rules}
 use Rattle.definition.specs.TokenStream.{divided}
 use Rattle.definition.specs.Tokens.{stream_of}
 use Rattle.token_stream.proofs.write.Whole.{fitting_starts, fitting_image}

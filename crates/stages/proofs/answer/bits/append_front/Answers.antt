@@ -15,7 +15,7 @@ pub returns-then-whole : goal.returns-then-whole
 returns-then-whole c =
     let a = c.args in
     let w = c.whole.ensures c.if-whole.true in
-    copied a.area.now _ a.k a.s.now a.from a.n w.0 w.1 w.2 w.4 (λ q. (c.shared_slice_known-1.given q).fits)
+    copied a.area.now _ a.k a.s.now a.from a.n w.0 w.1 w.2 w.4 (λ q. (c.type_inv.s q).fits)
     c.copy_bytes.ensures
 
 pub overflow_add-k : goal.overflow_add-k

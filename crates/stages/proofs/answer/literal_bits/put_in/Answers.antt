@@ -11,7 +11,7 @@ blend-requires c =
       l,
       rw c.bits_at.ensures
           (blended_bound a.dst.now a.at a.src.now a.from w (λ q. (c.slice_known-1.given q).fits)
-          (λ q. (c.shared_slice_known-1.given q).fits) l),
+          (λ q. (c.type_inv.src q).fits) l),
     )
 
 pub returns : goal.returns
@@ -23,5 +23,5 @@ returns c =
       λ h. omega arith,
       rw (c.blend.ensures, c.bits_at.ensures)
           (sym (with_bits_byte a.dst.now a.at a.src.now a.from w (λ q. (c.slice_known-1.given q).fits)
-          (λ q. (c.shared_slice_known-1.given q).fits) l c.requires)),
+          (λ q. (c.type_inv.src q).fits) l c.requires)),
     )

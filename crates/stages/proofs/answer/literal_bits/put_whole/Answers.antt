@@ -45,7 +45,7 @@ loop-i-preserved c =
     let v = c.byte_of.result in
     let e : set l.dst (a.q + l.i) v ≡ with_bits a.dst.now (8 * a.q) a.src.now a.from (8 * (l.i + 1)) =
     ap (λ (d : List ℕ). set d (a.q + l.i) v) l.invariant.2
-    ∙ whole_more a.dst.now a.src.now a.q a.from l.i v (λ q. (c.shared_slice_known-1.given q).fits) (omega arith)
+    ∙ whole_more a.dst.now a.src.now a.q a.from l.i v (λ q. (c.type_inv.src q).fits) (omega arith)
     c.byte_of.ensures in
     (omega arith, ap length e ∙ length_with_bits a.dst.now (8 * a.q) a.src.now a.from (8 * (l.i + 1)), e)
 

@@ -1,6 +1,5 @@
 -- The tokens' records and text, and the component's row.
 use native.Mathlib.Omega.{arith}
-use borrow.Author.Rules.{rules}
 use Rattle.token_stream.proofs.write.component.Whole.{span_fits, component_written}
 use Rattle.token_stream.proofs.write.component.put_component.Goals as goal
 

@@ -1,6 +1,5 @@
 -- A leaf's text, and a space where the run goes on, else its record.
 use mathlib.Core.Path.{sym, ◌∙◌}
-use borrow.Author.Rules.{rules}
 use Rattle.token_stream.proofs.write.component.Steps.{put_goes, put_ends}
 use Rattle.token_stream.proofs.write.component.put_leaf.Goals as goal
 

@@ -2,18 +2,8 @@
 use mathlib.Core.Path.{ap}
 use Prim.Native.Nat.{ℕ}
 use native.Mathlib.Omega.{arith}
-use borrow.Author.Rules.{rules}
 use Rattle.token_stream.proofs.write.component.Steps.{put_closer, put_opener, opener_fits}
 use Rattle.token_stream.proofs.write.component.put_token.Goals as goal
-
-pub put_leaf-requires : goal.put_leaf-requires
-put_leaf-requires c =
-    let same = c.kind_at-kind.ensures in
-    let t = c.if-kind-lt3.true in
-    record { step = c.requires; leaf = omega arith }
-
-pub returns-then-kind-lt3 : goal.returns-then-kind-lt3
-returns-then-kind-lt3 c = c.put_leaf.ensures
 
 pub returns-then-kind-eq7 : goal.returns-then-kind-eq7
 returns-then-kind-eq7 c =
@@ -37,12 +27,6 @@ overflow_add-groups c =
     let f =
     opener_fits c.args.list.now c.args.text.now c.args.k kind.result kind.ensures c.args.m.groups
     c.if-kind-lt3.false c.if-kind-eq7.false c.requires.nests in
-    omega arith
-
-pub overflow_cast-skip_at : goal.overflow_cast-skip_at
-overflow_cast-skip_at c =
-    let few = c.requires.few in
-    let most = c.skip_at.ensures.1 in
     omega arith
 
 pub returns : goal.returns

@@ -1,12 +1,5 @@
-use mathlib.Core.Path.{◌≡◌, refl, ◌∙◌}
-use Prim.Native.Nat.{◌-◌, ◌≤◌}
+use mathlib.Core.Path.{refl, ◌∙◌}
 use native.Mathlib.Omega.{arith}
-use lib.ListN.{length}
-use lib.Seq.{slice}
-use borrow.Author.Rules.{rules}
-use Rattle.definition.specs.Tokens.{tokens}
-use Rattle.token_stream.specs.write.Steps.{span_recs}
-use Rattle.token_stream.proofs.write.component.Going.{Going}
 use Rattle.token_stream.proofs.write.component.Spans.{at_first, at_fits, at_next, at_last}
 use Rattle.token_stream.proofs.write.component.put_tokens.Goals as goal
 
@@ -29,13 +22,10 @@ loop-k-preserved c =
     let t = c.loop-k-test.true in
     let p = c.put_token-m in (
       omega arith,
-      p.auto.1.1.0 ∙ l.invariant.1,
+      p.auto.area ∙ l.invariant.1,
       at_next a.list.now a.text.now a.base a.s a.e a.pen c.requires a.area.now l.area l.m l.k l.invariant.2 t _
           p.result p.ensures,
     )
-
-pub shape_of-area : goal.shape_of-area
-shape_of-area c = c.loop-k.invariant.1
 
 pub returns : goal.returns
 returns c =

@@ -1,14 +1,11 @@
 -- Before token k what was done of the tokens' records stands in the area.
-use mathlib.Core.Path.{◌≡◌, refl, ◌∙◌}
+use mathlib.Core.Path.{◌≡◌}
 use Prim.Native.Nat.{◌-◌, ◌≤◌}
-use native.Mathlib.Omega.{arith}
 use lib.ListN.{length}
 use lib.Seq.{slice}
-use borrow.Author.Rules.{rules}
 use Rattle.definition.specs.Tokens.{tokens}
 use Rattle.token_stream.specs.write.Steps.{span_recs}
 use Rattle.token_stream.proofs.write.component.Going.{Going}
-use Rattle.token_stream.proofs.write.component.Spans.{at_first, at_fits, at_next, at_last}
 use Rattle.token_stream.proofs.write.component.put_tokens.Given as goal
 
 abbrev pub invariant-loop-k : goal.invariant-loop-k

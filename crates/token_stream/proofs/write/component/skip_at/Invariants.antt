@@ -1,16 +1,10 @@
 -- Before token j the records counted, and those that the rest up to the closer gives, are the skip.
-use mathlib.Core.Path.{◌≡◌, refl, sym, ◌∙◌}
+use mathlib.Core.Path.{◌≡◌}
 use mathlib.Core.List.{List}
-use mathlib.Core.Logic.{⊎_elim}
 use Prim.Native.Nat.{ℕ, ◌+◌, ◌-◌, ◌≤◌, ◌<◌}
-use native.Mathlib.Omega.{arith}
 use lib.Seq.{slice}
-use borrow.Author.Rules.{rules}
-use borrow.Author.Tests.{not-true, not-false}
-use Rattle.definition.specs.Tokens.{kind_at, tokens}
+use Rattle.definition.specs.Tokens.{tokens}
 use Rattle.token_facts.specs.Flat.{inner}
-use Rattle.token_stream.specs.list.Kinds.{joined_by}
-use Rattle.token_stream.proofs.write.component.Skips.{Opened, at_closer, at_opener, at_leaf, Counted, one_more, no_more, skip_next, skip_closer, skip_end}
 use Rattle.token_stream.proofs.write.component.skip_at.Given as goal
 
 abbrev pub invariant-loop-j : goal.invariant-loop-j

@@ -1,12 +1,10 @@
 -- What is left to the comma from token s back, d groups being open there, is what is left of the whole.
-use mathlib.Core.Path.{◌≡◌, refl}
+use mathlib.Core.Path.{◌≡◌}
 use mathlib.Core.List.{reverse}
 use Prim.Native.Nat.{◌+◌, ◌≤◌}
-use native.Mathlib.Omega.{arith}
 use lib.Seq.{slice}
 use Rattle.definition.specs.Tokens.{tokens}
 use Rattle.token_facts.specs.Flat.{to_comma}
-use Rattle.token_stream.proofs.write.Dividers.{start_here, start_next, start_last}
 use Rattle.token_stream.proofs.write.parts.component_start.Given as goal
 
 abbrev pub invariant-loop-s : goal.invariant-loop-s

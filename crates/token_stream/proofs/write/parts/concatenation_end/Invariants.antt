@@ -1,11 +1,9 @@
 -- What is left to the semicolon from token e on, d groups being open there, is what is left of the whole.
-use mathlib.Core.Path.{◌≡◌, refl}
+use mathlib.Core.Path.{◌≡◌}
 use Prim.Native.Nat.{◌+◌, ◌-◌, ◌≤◌}
-use native.Mathlib.Omega.{arith}
 use lib.ListN.{drop}
 use Rattle.definition.specs.Tokens.{tokens}
 use Rattle.token_facts.specs.Flat.{to_semicolon}
-use Rattle.token_stream.proofs.write.Dividers.{end_here, end_next, end_last}
 use Rattle.token_stream.proofs.write.parts.concatenation_end.Given as goal
 
 abbrev pub invariant-loop-e : goal.invariant-loop-e
