@@ -1,13 +1,13 @@
 -- More closed examples that meet every premise of the cutting claim, with the claim computed on each.
-use Rattle.std.specs.Prelude.{◌≡◌, refl}
-use Rattle.definition.specs.Prelude.{[], ◌∷◌}
+use Rattle.std.specs.Prelude.{◌≡◌, refl, ◌∷◌}
+use Rattle.definition.specs.Prelude.{[]}
 use Rattle.definition.specs.Basics.{ascii}
 use Rattle.definition.specs.Image.{kinds}
 use Rattle.definition.specs.Tree.{end, word, group}
 use Rattle.definition.specs.Readings.{tokens, parenthesised}
 use Rattle.definition.specs.Run.{under, with_default}
-use Rattle.cutting.specs.Statement.{Given, Premises, ◌⊕◌}
-use Rattle.cutting.specs.Witnesses.{found, claimed, meets, example_in, example, byte, plain, sink, opened}
+use Rattle.cutting.specs.Statement.{Given, ◌⊕◌}
+use Rattle.cutting.specs.Witnesses.{found, claimed, example_in, example, byte, plain, sink, opened}
 
 -- the worked example with its 8 bits as one literal, cut into three: `[..3]`, `[3..=4]` and `[5..]`
 unfoldable pub three : Given
@@ -61,13 +61,3 @@ defaulted_right = refl
 pub static_right : found static ≡ claimed static
 unfolding opened static
 static_right = refl
-
--- the premises of the claim can be met, under every mode, and under a default where 40 would be given without it
-pub met : Premises three × Premises between × Premises returned × Premises defaulted × Premises static
-met = (
-  meets three three_right,
-  meets between between_right,
-  meets returned returned_right,
-  meets defaulted defaulted_right,
-  meets static static_right,
-)

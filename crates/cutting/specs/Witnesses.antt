@@ -1,13 +1,13 @@
 -- Closed examples that meet every premise of the cutting claim, with the claim computed on each: no premise is empty. Others,
 -- also under modes 1 and 2 and under a default, stand in Further.
-use Rattle.std.specs.Prelude.{◌≡◌, refl, replicate, T}
+use Rattle.std.specs.Prelude.{◌≡◌, refl, replicate, T, ◌+◌, ◌-◌, ◌∷◌, ◌++◌}
 use Rattle.std.proofs.Common.{sym, ap, subst, leb→le}
-use Rattle.definition.specs.Prelude.{ℕ, ◌+◌, ◌-◌, Bool, true, none, some, List, [], ◌∷◌, ◌++◌, map, length, get_or, Option, leb}
+use Rattle.definition.specs.Prelude.{ℕ, Bool, true, some, List, [], map, length, get_or, Option, leb}
 use Rattle.definition.specs.Basics.{ascii, Result, ok, refused, tab, joined}
 use Rattle.definition.specs.Limits.{area_needed}
 use Rattle.definition.specs.Image.{kinds}
 use Rattle.definition.specs.Tree.{Forest, end, word, group, Node, Tree, image_of, fits, literals_of}
-use Rattle.definition.specs.Readings.{tokens, parenthesised}
+use Rattle.definition.specs.Readings.{tokens}
 use Rattle.definition.specs.Answer.{Read}
 use Rattle.definition.specs.Run.{Choices, under, run, in_force}
 use Rattle.definition.specs.Compute.{computed}
@@ -154,7 +154,3 @@ two_right = refl
 pub prefixed_right : found prefixed ≡ claimed prefixed
 unfolding opened prefixed
 prefixed_right = refl
-
--- the premises of the claim can be met
-pub met : Premises two × Premises prefixed
-met = (meets two two_right, meets prefixed prefixed_right)

@@ -1,8 +1,8 @@
 -- Demand 3 of the run itself: of any outcomes and areas that meet the promise of `run` (layout_run). "acceptance and the answers compared are the
 -- run's own, and are what demand 2's definition gives."
-use Rattle.std.specs.Prelude.{◌≡◌, refl, ◌≤◌, ◌<◌}
+use Rattle.std.specs.Prelude.{◌≡◌, refl, ◌≤◌, ◌<◌, ◌+◌, ◌-◌, ◌∷◌}
 use Rattle.std.proofs.Common.{sym, ap, ◌∙◌, arith}
-use Rattle.definition.specs.Prelude.{ℕ, true, ◌+◌, ◌-◌, some, List, ◌∷◌, [], map, length, get_or}
+use Rattle.definition.specs.Prelude.{ℕ, true, some, List, [], map, length, get_or}
 use Rattle.definition.specs.Basics.{Result, ok, refused, ◌>>=◌, joined, area_after}
 use Rattle.definition.specs.Limits.{area_needed}
 use Rattle.definition.specs.Tree.{Tree, image_of, fits, literals_of}
@@ -13,8 +13,10 @@ use Rattle.errors.specs.Refused.{outcome_of}
 use Rattle.errors.specs.declared.Outcome.{Outcome}
 use Rattle.errors.specs.declared.Outcome.TheVariants.{Accepted, Refused}
 use Rattle.cutting.specs.Statement.{Given, Premises, BitPlace, image, new_image, place_of, components_of, piece_at, bit_in}
-use Rattle.cutting.specs.Witnesses.{two, met}
-use Rattle.cutting.specs.Further.{defaulted, met as more_met}
+use Rattle.cutting.specs.Witnesses.{two}
+use Rattle.cutting.specs.Further.{defaulted}
+use Rattle.cutting.proofs.Witnesses.{met}
+use Rattle.cutting.proofs.Further.{met as more_met}
 use Rattle.cutting_proof.specs.Proved.{cutting, every_accepted}
 
 -- what `run` promises of one call: its outcome, the area at entry and at exit, and the starting value in force

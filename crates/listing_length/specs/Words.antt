@@ -1,12 +1,12 @@
 -- The lengths of a line's words.
-use Rattle.std.specs.Prelude.{◌≡◌, refl, ◌≤◌, ◌<◌}
-use Rattle.std.proofs.Common.{ap, ◌∙◌, mul-suc, arith, length-append, ltb-true, ltb-false}
+use Rattle.std.specs.Prelude.{◌≡◌, ◌≤◌, ◌+◌, ◌*◌, ◌/◌, ◌%◌, ◌&&◌, ◌∷◌, if◌then◌else◌}
+use Rattle.std.proofs.Common.{◌∙◌, mul-suc, arith, length-append}
 use mathlib.Core.List.{reverse_aux}
 use Rattle.laws.specs.Tests.{by_test}
-use Rattle.definition.specs.Prelude.{ℕ, zero, suc, ◌+◌, ◌*◌, ◌/◌, ◌%◌, Bool, true, false, ◌&&◌, not, Option, none, some, List, [], ◌∷◌, ◌++◌, map, reverse, length, ltb, eqb, ℤ, pos, negsuc}
-use Rattle.definition.specs.Basics.{if◌then◌else◌, within, joined, ascii}
-use Rattle.definition.specs.Answer.{Bound, Field}
-use Rattle.definition.specs.Listing.{decimal_onto, decimal, hex, shown_byte, shown, signed, bound_word, end_word, width_word, align_word, flag_word, summary_words, line}
+use Rattle.definition.specs.Prelude.{ℕ, zero, suc, Bool, true, false, not, Option, none, some, List, [], map, reverse, length, ltb, eqb, ℤ, pos, negsuc}
+use Rattle.definition.specs.Basics.{within, joined, ascii}
+use Rattle.definition.specs.Answer.{Bound}
+use Rattle.definition.specs.Listing.{decimal_onto, decimal, hex, shown_byte, shown, signed, width_word, align_word, flag_word}
 
 -- ---- numbers
 
@@ -31,33 +31,25 @@ unfolding joined
 joined_most f k h [] = omega arith
 joined_most f k h (a ∷ l) = omega (arith, length-append (f a) (joined (map f l)), h a, joined_most f k h l, mul-suc k (length l))
 
-shown_byte_lem : (b : ℕ) → length (shown_byte b) ≤ 3
-shown_byte_lem b = go (within 33 126 b && not (eqb b 92))
-  where
-    go : (t : Bool) → length (if t then b ∷ [] else 92 ∷ hex b) ≤ 3
-    go true = omega arith
-    go false = omega arith
-
 pub shown_most : (s : List ℕ) → length (shown s) ≤ 3 * length s
 shown_most s = joined_most shown_byte 3 shown_byte_lem s
+  where
+    shown_byte_lem : (b : ℕ) → length (shown_byte b) ≤ 3
+    shown_byte_lem b = go (within 33 126 b && not (eqb b 92))
+      where
+        go : (t : Bool) → length (if t then b ∷ [] else 92 ∷ hex b) ≤ 3
+        go true = omega arith
+        go false = omega arith
 
 pub hex_most : (s : List ℕ) → length (joined (map hex s)) ≤ 2 * length s
 hex_most s = joined_most hex 2 (λ b. omega arith) s
 
 -- ---- words
 
-pub bound_most : (b : Bound) → length (bound_word b) ≤ 3 * length b.text + 40
-bound_most b = omega (arith, length-append (shown b.text) (signed b.x), shown_most b.text, signed_most b.x)
-
 -- the bytes of an end's text
 abbrev pub end_text : Option Bound → ℕ
 end_text none = 0
 end_text (some b) = length b.text
-
-pub end_most : (e : Option Bound) → length (end_word e) ≤ 3 * end_text e + 40
-unfolding ascii
-end_most none = omega arith
-end_most (some b) = bound_most b
 
 pub width_most : (w : ℕ) → length (width_word w) ≤ 39
 unfolding ascii

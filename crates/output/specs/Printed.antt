@@ -7,7 +7,8 @@ use Rattle.std.proofs.Math.Seq.{take-append_seam}
 use Rattle.definition.specs.Prelude.{ℕ, List, length, take, drop}
 use Rattle.definition.specs.Listing.{output}
 use Rattle.laws.specs.Tests.{leb_iff}
-use Rattle.listing_length.specs.run.Listing.{longest_listing, output_most}
+use Rattle.listing_length.specs.run.Listing.{longest_listing}
+use Rattle.listing_length.proofs.run.Listing.{output_most}
 use Rattle.listing.specs.Outcomes.{filled, filled_fits, written_as}
 use Rattle.listing.specs.declared.Written.{Written}
 use Rattle.listing.specs.declared.Written.TheVariants.{Whole}

@@ -1,19 +1,18 @@
 -- The bytes of text of a component that stages 1 and 2 read: with its starting value, at most twice the bytes of its records.
-use Rattle.std.specs.Prelude.{◌≤◌}
+use Rattle.std.specs.Prelude.{◌≤◌, ◌+◌, ◌*◌, ◌&&◌, ◌||◌, ◌∷◌, ◌++◌, ◌+ℤ◌, ◌-ℤ◌, if◌then◌else◌}
 use Rattle.std.proofs.Common.{zero-le, le_refl, arith, length-append}
-use Rattle.definition.specs.Prelude.{ℕ, ◌+◌, ◌*◌, Bool, true, false, ◌&&◌, ◌||◌, not, Option, none, some, List, [], ◌∷◌, ◌++◌, length, take, drop, eqb, ℤ, pos, nat_abs, ◌+ℤ◌, ◌-ℤ◌, lt_z, le_z, non_neg}
-use Rattle.definition.specs.Basics.{ok, ◌>>=◌, if◌then◌else◌, is_empty}
+use Rattle.definition.specs.Prelude.{ℕ, Bool, true, false, not, Option, none, some, List, [], length, take, drop, eqb, ℤ, pos, nat_abs, lt_z, le_z, non_neg}
+use Rattle.definition.specs.Basics.{ok, ◌>>=◌, is_empty}
 use Rattle.definition.specs.Numbers.{try_parse}
 use Rattle.definition.specs.Refusals.{need, nothing_before_range, no_literal, overflow, negative_bound, reversed, zero_width, start_above_width, end_above_width, range_above_width, end_zero_lem, open_start}
 use Rattle.definition.specs.Image.{Unparsed, kinds}
-use Rattle.definition.specs.Tree.{text_of}
 use Rattle.definition.specs.Text.{no_text, Item, items, bytes_of, part_of}
 use Rattle.definition.specs.Ranges.{Usb, Usbr, val, with_x, unbounded, parse_range, single_bit, static_val}
-use Rattle.definition.specs.Component.{Component, ComponentType, literal, variable, filler, Split, split_range, Prefix, split_of, prefix_of, middle, is_literal, typed, parse_component, stage1_component, simplify_usb, simplify_end, simplify_range, the_end, with_end, cut_literal, simplify_literal, simplify, is_zero, has_end, if_static, if_static_end, if_known}
+use Rattle.definition.specs.Component.{Component, ComponentType, literal, variable, filler, Split, split_range, Prefix, prefix_of, is_literal, typed, parse_component, simplify_usb, simplify_end, simplify_range, the_end, with_end, cut_literal, simplify_literal, simplify, is_zero, has_end, if_static, if_static_end, if_known}
 use Rattle.answer_facts.specs.read.Facts.{Yields, given, Found, found, missing, Every, every_cons, every_split, after, bound, yields_if}
-use Rattle.answer_facts.specs.read.Components.{before_range, ColonAt, colon_at}
-use Rattle.listing_length.specs.run.Items.{size, part_size, size_append, items_size, Holding, items_hold}
-use Rattle.listing_length.specs.run.Ranges.{yields_map, usb_text, Within, with_x_lem, end_text, range_text, parse_range_lem}
+use Rattle.answer_facts.specs.read.Components.{ColonAt}
+use Rattle.listing_length.specs.run.Items.{size, part_size, size_append, Holding, items_hold}
+use Rattle.listing_length.specs.run.Ranges.{usb_text, Within, with_x_lem, end_text, range_text, parse_range_lem}
 
 abbrev pub type_text : ComponentType → ℕ
 type_text (literal bits) = 0
@@ -28,7 +27,7 @@ TextWithin n c = component_text c ≤ n
 
 -- ---- stage 1, from what stands before the bracket and in it
 
-abbrev range_size : Option (List Item) → ℕ
+abbrev pub range_size : Option (List Item) → ℕ
 range_size none = 0
 range_size (some is) = size is
 
@@ -42,7 +41,7 @@ typed_within n mid bits r h =
     as_variable : component_text (record { c_type = variable (part_of mid); range = r }) ≤ n
     as_variable = omega (arith, part_size mid)
 
-parsed_within : (mid : List Item) (range : Option (List Item)) (bits : List ℕ) → Every Holding mid → Found (Every Holding) range
+pub parsed_within : (mid : List Item) (range : Option (List Item)) (bits : List ℕ) → Every Holding mid → Found (Every Holding) range
     → Yields (TextWithin (size mid + 2 * range_size range)) (parse_component mid range bits)
 unfolding parse_component
 parsed_within mid range bits h k = after (need (not (is_empty mid)) nothing_before_range) λ _. go range k
@@ -72,7 +71,7 @@ parsed_within mid range bits h k = after (need (not (is_empty mid)) nothing_befo
 abbrev taken : Item → Bool → Split
 taken i b = if b then record { mid = []; range = some (items i.inside_at i.inside) } else record { mid = i ∷ []; range = none }
 
-split_size : (is : List Item) → Every Holding is → size (split_range is).mid + range_size (split_range is).range ≤ size is
+pub split_size : (is : List Item) → Every Holding is → size (split_range is).mid + range_size (split_range is).range ≤ size is
 unfolding split_range bytes_of
 split_size [] h = omega arith
 split_size (i ∷ []) (every_cons p ps) = go (eqb i.kind kinds.bracket)
@@ -85,7 +84,7 @@ split_size (i ∷ j ∷ is) (every_cons p ps) =
     let h = split_size (j ∷ is) ps in
     omega (arith, length-append i.part.bytes (bytes_of s.mid), length-append i.part.bytes (bytes_of (j ∷ is)))
 
-in_bracket : (is : List Item) → Found (Every Holding) (split_range is).range
+pub in_bracket : (is : List Item) → Found (Every Holding) (split_range is).range
 unfolding split_range
 in_bracket [] = missing
 in_bracket (i ∷ []) = go (eqb i.kind kinds.bracket)
@@ -101,12 +100,7 @@ abbrev pub init_size : Bool → Unparsed → ℕ
 init_size false u = 0
 init_size true u = elim (prefix_of u) [ none ↦ 0 | some p ↦ size p.before ]
 
-mid_holds : (u : Unparsed) → Every Holding (split_of u).mid
-mid_holds u =
-    let (last, e) = before_range (items 0 u.recs) in
-    (every_split {P = Holding} (split_of u).mid {l = last} (rw e at (items_hold 0 u.recs))).0
-
-colon_within : (is : List Item) → Every Holding is → (x : Option Prefix) → Found (ColonAt is) x
+pub colon_within : (is : List Item) → Every Holding is → (x : Option Prefix) → Found (ColonAt is) x
     → Every Holding (elim x [ none ↦ is | some p ↦ p.after ])
     × (elim x [ none ↦ 0 | some p ↦ size p.before ] + size (elim x [ none ↦ is | some p ↦ p.after ]) ≤ size is)
 unfolding bytes_of
@@ -116,27 +110,6 @@ colon_within is h (some p) (found (colon, e)) =
     let rest = every_split {P = Holding} (colon ∷ []) {l = p.after} parts.1 in
     let l : size (p.before ++ colon ∷ p.after) ≤ size is = rw (← e) (le_refl (size is)) in
     (rest.1, omega (arith, l, size_append p.before (colon ∷ p.after), length-append colon.part.bytes (bytes_of p.after)))
-
-middle_within : (scanned : Bool) (u : Unparsed) → Every Holding (middle scanned u) × (init_size scanned u + size (middle scanned u) ≤ size (split_of u).mid)
-middle_within false u = (mid_holds u, omega arith)
-middle_within true u = colon_within (split_of u).mid (mid_holds u) (prefix_of u) (colon_at (split_of u).mid)
-
-pub stage1_text : (scanned : Bool) (u : Unparsed)
-    → Yields (λ c. init_size scanned u + component_text c ≤ 2 * length (text_of u.recs)) (stage1_component scanned u)
-stage1_text scanned u =
-    weaker
-    (parsed_within (middle scanned u) (split_of u).range u.bits (middle_within scanned u).0 (in_bracket (items 0 u.recs)))
-  where
-    n : ℕ
-    n = size (middle scanned u) + 2 * range_size (split_of u).range
-
-    least : init_size scanned u + n ≤ 2 * length (text_of u.recs)
-    least =
-        omega (arith, (middle_within scanned u).1, split_size (items 0 u.recs) (items_hold 0 u.recs), items_size 0 u.recs)
-
-    weaker : Yields (TextWithin n) (stage1_component scanned u)
-        → Yields (λ c. init_size scanned u + component_text c ≤ 2 * length (text_of u.recs)) (stage1_component scanned u)
-    weaker h = yields_map (λ c k. omega (arith, k, least)) h
 
 -- ---- stage 2
 

@@ -1,13 +1,15 @@
 -- The walk over a concatenation: as it begins, component after component, and as it ends.
+use Rattle.std.specs.Prelude.{◌+◌, ◌-◌, ◌∷◌}
 use Rattle.std.proofs.Common.{◌≡◌, ◌<◌, ◌≤◌, sym, refl, ◌∙◌, subst, ap₂, add-zero, arith}
-use Rattle.definition.specs.Prelude.{ℕ, suc, ◌+◌, ◌-◌, none, List, [], ◌∷◌, length}
+use Rattle.definition.specs.Prelude.{ℕ, suc, none, List, [], length}
 use Rattle.definition.specs.Basics.{joined}
 use Rattle.definition.specs.Image.{Placed}
 use Rattle.definition.specs.Component.{Component}
 use Rattle.definition.specs.Concatenation.{merge}
 use Rattle.definition.specs.Answer.{components_bytes}
 use Rattle.answer_facts.specs.fits.Fixed.{Fixed, AllFixed, one_more}
-use Rattle.answer_facts.specs.merge.Runs.{closed, merge_from, merge_from_lem, from_end}
+use Rattle.answer_facts.specs.merge.Runs.{closed, merge_from, from_end}
+use Rattle.answer_facts.proofs.merge.Runs.{merge_from_lem}
 use Rattle.stages.specs.component.Kept.{KeptFrom}
 use Rattle.stages.specs.answer.merging.Put.{put_all, written_to, Room}
 use Rattle.stages.specs.answer.merging.Blocks.{Same, same_then}

@@ -1,0 +1,2 @@
+-- Merging from left to right is the definition's.
+pub mod Runs
