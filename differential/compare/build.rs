@@ -1,10 +1,10 @@
-//! Links our run: `liblayout_c.a`, which `rt staticlib layout_c` writes.
+//! Links our run: `liblayout_c.a`, which `rt lib` in crates/layout_c writes.
 
 use std::{env, path::PathBuf};
 
 fn main() {
     let here = PathBuf::from(env::var("CARGO_MANIFEST_DIR").unwrap());
-    let named = env::var("LAYOUT_STATICLIB").unwrap_or("../../target/staticlib".to_owned());
+    let named = env::var("LAYOUT_STATICLIB").unwrap_or("../../crates/layout_c/out".to_owned());
     let folder = here.join(&named).canonicalize().unwrap_or_else(|e| {
         panic!("LAYOUT_STATICLIB: no folder {named} seen from differential/compare/: {e}")
     });

@@ -1,6 +1,6 @@
 -- More closed examples that meet every premise of the cutting claim, with the claim computed on each.
-use Rattle.std.specs.Prelude.{◌≡◌, refl}
-use Rattle.definition.specs.Prelude.{[], ◌∷◌}
+use Rattle.std.specs.Prelude.{◌≡◌, refl, ◌∷◌}
+use Rattle.definition.specs.Prelude.{[]}
 use Rattle.definition.specs.Basics.{ascii}
 use Rattle.definition.specs.Image.{kinds}
 use Rattle.definition.specs.Tree.{end, word, group}

@@ -2,9 +2,9 @@
 -- accepts the new image too, and the two answers are equal in every field. One claim, for the whole list of places.
 -- Quotations are document 01's, section "Cutting a literal". Every image that the run accepts is the image of a tree that fits
 -- (cut_proof, every-accepted), so "every image" is "every tree that fits" here.
-use Rattle.std.specs.Prelude.{◌≡◌, ◌≤◌, ◌<◌}
-use Rattle.definition.specs.Prelude.{ℕ, suc, ◌+◌, ◌-◌, ◌/◌, ◌%◌, ◌^◌, Bool, true, false, ◌&&◌, not, Option, none, some, List, [], ◌∷◌, ◌++◌, map, length, get_or, take, drop, ltb, eqb, ℤ, pos, negsuc, nat_abs}
-use Rattle.definition.specs.Basics.{Result, ok, refused, ◌>>=◌, if◌then◌else◌, is_empty, same_bytes, sum, joined, area_after}
+use Rattle.std.specs.Prelude.{◌≡◌, ◌≤◌, ◌<◌, ◌+◌, ◌-◌, ◌/◌, ◌%◌, ◌^◌, ◌&&◌, ◌∷◌, ◌++◌, if◌then◌else◌}
+use Rattle.definition.specs.Prelude.{ℕ, suc, Bool, true, false, not, Option, none, some, List, [], map, length, get_or, take, drop, ltb, eqb, ℤ, pos, negsuc, nat_abs}
+use Rattle.definition.specs.Basics.{Result, ok, refused, ◌>>=◌, is_empty, same_bytes, sum, joined, area_after}
 use Rattle.definition.specs.Characters.{char}
 use Rattle.definition.specs.Limits.{area_needed}
 use Rattle.definition.specs.Image.{Unparsed, Placed, kinds, tree_of}

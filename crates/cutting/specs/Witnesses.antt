@@ -1,8 +1,8 @@
 -- Closed examples that meet every premise of the cutting claim, with the claim computed on each: no premise is empty. Others,
 -- also under modes 1 and 2 and under a default, stand in Further.
-use Rattle.std.specs.Prelude.{◌≡◌, refl, replicate, T}
+use Rattle.std.specs.Prelude.{◌≡◌, refl, replicate, T, ◌+◌, ◌-◌, ◌∷◌, ◌++◌}
 use Rattle.std.proofs.Common.{sym, ap, subst, leb→le}
-use Rattle.definition.specs.Prelude.{ℕ, ◌+◌, ◌-◌, Bool, true, some, List, [], ◌∷◌, ◌++◌, map, length, get_or, Option, leb}
+use Rattle.definition.specs.Prelude.{ℕ, Bool, true, some, List, [], map, length, get_or, Option, leb}
 use Rattle.definition.specs.Basics.{ascii, Result, ok, refused, tab, joined}
 use Rattle.definition.specs.Limits.{area_needed}
 use Rattle.definition.specs.Image.{kinds}

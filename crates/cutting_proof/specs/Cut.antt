@@ -1,8 +1,8 @@
 -- Cutting a literal changes nothing: the claim of crate `cutting`, proved.
-use Rattle.std.specs.Prelude.{◌≡◌, refl, ◌≤◌, ◌<◌}
+use Rattle.std.specs.Prelude.{◌≡◌, refl, ◌≤◌, ◌<◌, ◌+◌, ◌-◌, ◌&&◌, ◌∷◌, ◌++◌, if◌then◌else◌}
 use Rattle.std.proofs.Common.{sym, ◌∙◌, ap, arith, append-nil}
-use Rattle.definition.specs.Prelude.{ℕ, ◌+◌, ◌-◌, Bool, true, false, ◌&&◌, Option, none, some, List, [], ◌∷◌, ◌++◌, map, length, drop, get_or, leb, ltb}
-use Rattle.definition.specs.Basics.{Result, ok, refused, ◌>>=◌, if◌then◌else◌, joined, all}
+use Rattle.definition.specs.Prelude.{ℕ, Bool, true, false, Option, none, some, List, [], map, length, drop, get_or, leb, ltb}
+use Rattle.definition.specs.Basics.{Result, ok, refused, ◌>>=◌, joined, all}
 use Rattle.definition.specs.Limits.{area_needed}
 use Rattle.definition.specs.Image.{Unparsed, Placed, counts, tree_of}
 use Rattle.definition.specs.Tree.{Node, Tree, image_of, fits, literals_of, sound_node}

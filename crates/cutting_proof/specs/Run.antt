@@ -1,8 +1,8 @@
 -- Demand 3 of the run itself: of any outcomes and areas that meet the promise of `run` (layout_run). "acceptance and the answers compared are the
 -- run's own, and are what demand 2's definition gives."
-use Rattle.std.specs.Prelude.{◌≡◌, refl, ◌≤◌, ◌<◌}
+use Rattle.std.specs.Prelude.{◌≡◌, refl, ◌≤◌, ◌<◌, ◌+◌, ◌-◌, ◌∷◌}
 use Rattle.std.proofs.Common.{sym, ap, ◌∙◌, arith}
-use Rattle.definition.specs.Prelude.{ℕ, true, ◌+◌, ◌-◌, some, List, ◌∷◌, [], map, length, get_or}
+use Rattle.definition.specs.Prelude.{ℕ, true, some, List, [], map, length, get_or}
 use Rattle.definition.specs.Basics.{Result, ok, refused, ◌>>=◌, joined, area_after}
 use Rattle.definition.specs.Limits.{area_needed}
 use Rattle.definition.specs.Tree.{Tree, image_of, fits, literals_of}

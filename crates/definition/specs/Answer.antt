@@ -1,6 +1,7 @@
 -- Document 01, "The answer area": the answer's bytes, and what an answer's bytes say, read at the document's offsets.
-use Rattle.definition.specs.Prelude.{ℕ, suc, ◌+◌, ◌*◌, ◌-◌, ◌/◌, ◌%◌, ◌^◌, Bool, Option, none, some, List, [], ◌∷◌, ◌++◌, map, length, ltb, eqb, ℤ, pos, negsuc}
-use Rattle.definition.specs.Basics.{if◌then◌else◌, is_empty, sum, tab, joined}
+use Rattle.std.specs.Prelude.{◌+◌, ◌*◌, ◌-◌, ◌/◌, ◌%◌, ◌^◌, ◌∷◌, ◌++◌, if◌then◌else◌}
+use Rattle.definition.specs.Prelude.{ℕ, suc, Bool, Option, none, some, List, [], map, length, ltb, eqb, ℤ, pos, negsuc}
+use Rattle.definition.specs.Basics.{is_empty, sum, tab, joined}
 use Rattle.definition.specs.Numbers.{half128}
 use Rattle.definition.specs.Limits.{sizes}
 use Rattle.definition.specs.Image.{Placed, u32_at, bytes_at, bytes_for, tables}

@@ -1,7 +1,7 @@
 -- Whole answer areas, written down from document 01 ("The answer area") and compared with the run by computation: they hold the writer
 -- and the reader of an answer to the paper, which else could be wrong together.
-use Rattle.std.specs.Prelude.{◌≡◌, refl}
-use Rattle.definition.specs.Prelude.{ℕ, List, [], ◌∷◌}
+use Rattle.std.specs.Prelude.{◌≡◌, refl, ◌∷◌}
+use Rattle.definition.specs.Prelude.{ℕ, List, []}
 use Rattle.definition.specs.Basics.{ascii, ok, refused, refusal_of}
 use Rattle.definition.specs.Image.{kinds}
 use Rattle.definition.specs.Tree.{Tree, Node, Forest, end, word, group, image_of}

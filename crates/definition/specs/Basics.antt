@@ -1,10 +1,6 @@
--- What the definitions share: a choice by a test, tables of values, and the answers of an operation that may refuse.
-use Rattle.definition.specs.Prelude.{ℕ, zero, suc, ◌+◌, code, String, []ˢ, ◌∷ˢ◌, Bool, true, false, ◌&&◌, List, [], ◌∷◌, ◌++◌, length, drop, leb, eqb}
-
-infixr 0 if◌then◌else◌
-abbrev pub if◌then◌else◌ {ℓ} : {A : Type ℓ} → Bool → A → A → A
-if true then a else b = a
-if false then a else b = b
+-- What the definitions share: tables of values, and the answers of an operation that may refuse.
+use Rattle.std.specs.Prelude.{◌+◌, ◌&&◌, ◌∷◌, ◌++◌}
+use Rattle.definition.specs.Prelude.{ℕ, zero, suc, code, String, []ˢ, ◌∷ˢ◌, Bool, true, false, List, [], length, drop, leb, eqb}
 
 -- lo ≤ n ≤ hi
 abbrev pub within : ℕ → ℕ → ℕ → Bool

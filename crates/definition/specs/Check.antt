@@ -1,6 +1,7 @@
 -- Document 01, "Image check": 2 to 7 in the document's order, all with places 0, 0.
-use Rattle.definition.specs.Prelude.{ℕ, zero, suc, ◌+◌, ◌-◌, ◌/◌, ◌%◌, ◌^◌, Bool, true, false, ◌&&◌, List, [], ◌∷◌, map, length, get_or, take, drop, leb, ltb, eqb}
-use Rattle.definition.specs.Basics.{Result, ok, ◌>>=◌, if◌then◌else◌, within, sum, all, tab}
+use Rattle.std.specs.Prelude.{◌+◌, ◌-◌, ◌/◌, ◌%◌, ◌^◌, ◌&&◌, ◌∷◌, if◌then◌else◌}
+use Rattle.definition.specs.Prelude.{ℕ, zero, suc, Bool, true, false, List, [], map, length, get_or, take, drop, leb, ltb, eqb}
+use Rattle.definition.specs.Basics.{Result, ok, ◌>>=◌, within, sum, all, tab}
 use Rattle.definition.specs.Limits.{limits}
 use Rattle.definition.specs.Refusals.{need, refuse, short_image, bad_count, bad_offset, bad_entry, bad_record, too_deep}
 use Rattle.definition.specs.Image.{u32_at, bytes_for, counts, tables, component_count, record_count, literal_width, Entry, start_at, entry_at, kinds, opens, delimiter}

@@ -1,6 +1,7 @@
 -- Stages 1 and 2 of a component, free of its place, and over the whole tree (src/component.rs, and simplify of src/ranges.rs).
-use Rattle.definition.specs.Prelude.{ℕ, zero, suc, Bool, true, false, ◌&&◌, ◌||◌, not, Option, none, some, List, [], ◌∷◌, length, get_or, take, drop, eqb, ℤ, pos, nat_abs, ◌+ℤ◌, ◌-ℤ◌, lt_z, le_z, non_neg}
-use Rattle.definition.specs.Basics.{Result, ok, ◌>>=◌, with_places, if◌then◌else◌, within, is_empty}
+use Rattle.std.specs.Prelude.{◌&&◌, ◌||◌, ◌∷◌, ◌+ℤ◌, ◌-ℤ◌, if◌then◌else◌}
+use Rattle.definition.specs.Prelude.{ℕ, zero, suc, Bool, true, false, not, Option, none, some, List, [], length, get_or, take, drop, eqb, ℤ, pos, nat_abs, lt_z, le_z, non_neg}
+use Rattle.definition.specs.Basics.{Result, ok, ◌>>=◌, with_places, within, is_empty}
 use Rattle.definition.specs.Characters.{char}
 use Rattle.definition.specs.Numbers.{try_parse}
 use Rattle.definition.specs.Refusals.{need, empty_after_colon, nothing_before_range, no_literal, overflow, negative_bound, reversed, zero_width, start_above_width, end_above_width, range_above_width, end_zero_lem, open_start}

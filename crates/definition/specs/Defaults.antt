@@ -1,8 +1,8 @@
 -- Document 02, L1, by example: runs under a default, each with its listing and the starting value in force. A line is written most
 -- significant first, a tree least significant first. The listings are the Rust's, of the line or, where the default is what 40 asks for,
 -- of the line with the default before it, and then `-` for the starting value.
-use Rattle.std.specs.Prelude.{◌≡◌, refl}
-use Rattle.definition.specs.Prelude.{ℕ, String, List, [], ◌∷◌, ◌++◌, map}
+use Rattle.std.specs.Prelude.{◌≡◌, refl, ◌∷◌, ◌++◌}
+use Rattle.definition.specs.Prelude.{ℕ, String, List, [], map}
 use Rattle.definition.specs.Basics.{Result, ascii}
 use Rattle.definition.specs.Image.{kinds}
 use Rattle.definition.specs.Tree.{Tree, Node, Forest, end, word, group, image_of}

@@ -1,6 +1,6 @@
 -- Closed examples of the stages where a slip would be easy: each answer is the Rust's (differential/), run on the same line.
-use Rattle.std.specs.Prelude.{◌≡◌, refl}
-use Rattle.definition.specs.Prelude.{ℕ, false, Option, none, some, List, [], ◌∷◌, map, pos}
+use Rattle.std.specs.Prelude.{◌≡◌, refl, ◌∷◌}
+use Rattle.definition.specs.Prelude.{ℕ, false, Option, none, some, List, [], map, pos}
 use Rattle.definition.specs.Basics.{Result, ok, refused, ◌>>=◌, ascii}
 use Rattle.definition.specs.Image.{Unparsed, Placed, kinds}
 use Rattle.definition.specs.Tree.{Forest, end, word, group, flat}

@@ -1,6 +1,7 @@
 -- Document 01, "The prepared image": header and tables, read totally. A byte that is missing counts as 0.
-use Rattle.definition.specs.Prelude.{ℕ, zero, suc, ◌+◌, ◌*◌, ◌-◌, ◌/◌, ◌%◌, ◌^◌, Bool, List, [], ◌∷◌, get_or, take, drop, eqb}
-use Rattle.definition.specs.Basics.{if◌then◌else◌, within, tab}
+use Rattle.std.specs.Prelude.{◌+◌, ◌*◌, ◌-◌, ◌/◌, ◌%◌, ◌^◌, ◌∷◌, if◌then◌else◌}
+use Rattle.definition.specs.Prelude.{ℕ, zero, suc, Bool, List, [], get_or, take, drop, eqb}
+use Rattle.definition.specs.Basics.{within, tab}
 use Rattle.definition.specs.Characters.{char}
 
 -- "All numbers are little-endian u32."

@@ -1,5 +1,6 @@
 -- The numbers of document 01 that later requests move: the limits of an image, and the sizes of the answer area's parts.
-use Rattle.definition.specs.Prelude.{ℕ, ◌+◌, ◌*◌}
+use Rattle.std.specs.Prelude.{◌+◌, ◌*◌}
+use Rattle.definition.specs.Prelude.{ℕ}
 
 -- "The prepared image": the greatest counts, the greatest literal width in bits, and the nesting of groups
 abbrev pub limits : record { concatenations : ℕ; components : ℕ; records : ℕ; text : ℕ; literal_bytes_lem : ℕ; width : ℕ; depth : ℕ }

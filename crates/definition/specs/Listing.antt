@@ -1,6 +1,7 @@
 -- Document 01, the listing of an outcome, and what the program makes of its whole standard input.
-use Rattle.definition.specs.Prelude.{ℕ, zero, suc, ◌+◌, ◌-◌, ◌/◌, ◌%◌, Bool, true, false, ◌&&◌, not, Option, none, some, List, [], ◌∷◌, ◌++◌, map, reverse, length, take, drop, ltb, eqb, ℤ, pos, negsuc}
-use Rattle.definition.specs.Basics.{Result, ok, refused, if◌then◌else◌, within, joined, ascii}
+use Rattle.std.specs.Prelude.{◌+◌, ◌-◌, ◌/◌, ◌%◌, ◌&&◌, ◌∷◌, ◌++◌, if◌then◌else◌}
+use Rattle.definition.specs.Prelude.{ℕ, zero, suc, Bool, true, false, not, Option, none, some, List, [], map, reverse, length, take, drop, ltb, eqb, ℤ, pos, negsuc}
+use Rattle.definition.specs.Basics.{Result, ok, refused, within, joined, ascii}
 use Rattle.definition.specs.Characters.{char}
 use Rattle.definition.specs.Limits.{area_needed, limits, max_input}
 use Rattle.definition.specs.Refusals.{refuse, short_image}

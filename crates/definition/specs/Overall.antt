@@ -1,6 +1,7 @@
 -- Stage 4, what the concatenations say together (src/concatenation.rs: stage4).
-use Rattle.definition.specs.Prelude.{ℕ, suc, Bool, true, false, ◌&&◌, ◌||◌, not, Option, none, some, List, [], ◌∷◌, length, leb, eqb}
-use Rattle.definition.specs.Basics.{Result, ok, ◌>>=◌, with_places, if◌then◌else◌}
+use Rattle.std.specs.Prelude.{◌&&◌, ◌||◌, ◌∷◌, if◌then◌else◌}
+use Rattle.definition.specs.Prelude.{ℕ, suc, Bool, true, false, not, Option, none, some, List, [], length, leb, eqb}
+use Rattle.definition.specs.Basics.{Result, ok, ◌>>=◌, with_places}
 use Rattle.definition.specs.Refusals.{need, refuse, filler_without_start, unequal_widths, no_common_width, only_source, middle_filler, opposite_fillers}
 use Rattle.definition.specs.Image.{Placed}
 use Rattle.definition.specs.Component.{Component, literal, variable, filler}

@@ -1,6 +1,7 @@
 -- Document 01, "Numbers and bounds" (src/ranges.rs): a bound, the scan for `..` and `..=`, and a range.
-use Rattle.definition.specs.Prelude.{ℕ, suc, ◌+◌, ◌-◌, Bool, true, false, ◌&&◌, not, Option, none, some, List, [], ◌∷◌, take, drop, eqb, ℤ, pos, ◌+ℤ◌, ◌-ℤ◌}
-use Rattle.definition.specs.Basics.{Result, ok, ◌>>=◌, if◌then◌else◌, is_empty, same_bytes}
+use Rattle.std.specs.Prelude.{◌+◌, ◌-◌, ◌&&◌, ◌∷◌, ◌+ℤ◌, ◌-ℤ◌, if◌then◌else◌}
+use Rattle.definition.specs.Prelude.{ℕ, suc, Bool, true, false, not, Option, none, some, List, [], take, drop, eqb, ℤ, pos}
+use Rattle.definition.specs.Basics.{Result, ok, ◌>>=◌, is_empty, same_bytes}
 use Rattle.definition.specs.Characters.{char}
 use Rattle.definition.specs.Numbers.{narrow, try_parse}
 use Rattle.definition.specs.Refusals.{Reason, need, refuse, empty_range, second_dots, three_dots, not_one_token, bound_overflow}

@@ -1,6 +1,6 @@
 -- Document 01, "Edge readings": the twelve starred ones as one table, which one theorem covers.
-use Rattle.std.specs.Prelude.{◌≡◌, refl}
-use Rattle.definition.specs.Prelude.{ℕ, false, Option, none, some, List, [], ◌∷◌, map, String, ℤ, pos, negsuc}
+use Rattle.std.specs.Prelude.{◌≡◌, refl, ◌∷◌}
+use Rattle.definition.specs.Prelude.{ℕ, false, Option, none, some, List, [], map, String, ℤ, pos, negsuc}
 use Rattle.definition.specs.Basics.{Result, ok, refused, refusal_of, ◌>>=◌, same_bytes, sum, all, joined, tab, ascii}
 use Rattle.definition.specs.Numbers.{try_parse, half128, digit_worth, digits_from, inner, unsigned_parse}
 use Rattle.definition.specs.Image.{kinds}

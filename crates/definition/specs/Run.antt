@@ -1,6 +1,7 @@
 -- The whole run (document 01, "How each operation refuses"), and the starting value in force (document 02, L1).
-use Rattle.definition.specs.Prelude.{ℕ, ◌+◌, Bool, true, false, ◌||◌, not, Option, none, some, List, [], map, length, leb}
-use Rattle.definition.specs.Basics.{Result, ok, refused, ◌>>=◌, if◌then◌else◌, is_empty, area_after}
+use Rattle.std.specs.Prelude.{◌+◌, ◌||◌, if◌then◌else◌}
+use Rattle.definition.specs.Prelude.{ℕ, Bool, true, false, not, Option, none, some, List, [], map, length, leb}
+use Rattle.definition.specs.Basics.{Result, ok, refused, ◌>>=◌, is_empty, area_after}
 use Rattle.definition.specs.Limits.{area_needed}
 use Rattle.definition.specs.Refusals.{need, mode_above_2, short_area}
 use Rattle.definition.specs.Image.{Unparsed, Placed, counts, tree_of}

@@ -1,6 +1,7 @@
 -- The records of a component as the items of a text (src/token_tree.rs): characters, and groups with what stands inside.
-use Rattle.definition.specs.Prelude.{ℕ, zero, suc, ◌+◌, ◌-◌, Bool, ◌&&◌, not, List, [], ◌∷◌, ◌++◌, drop_last, length}
-use Rattle.definition.specs.Basics.{if◌then◌else◌, same_bytes}
+use Rattle.std.specs.Prelude.{◌+◌, ◌-◌, ◌&&◌, ◌∷◌, ◌++◌, if◌then◌else◌}
+use Rattle.definition.specs.Prelude.{ℕ, zero, suc, Bool, not, List, [], drop_last, length}
+use Rattle.definition.specs.Basics.{same_bytes}
 use Rattle.definition.specs.Image.{Rec, opens}
 use Rattle.definition.specs.Tree.{text_of}
 

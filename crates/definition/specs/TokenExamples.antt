@@ -1,7 +1,7 @@
 -- Document 02, L2, by example: lists of tokens, each with its image or its refusal. The images are what the unchanged token_stream.rs
 -- makes of the tokens, components turned round; they are written as the numbers of header, tables and records, and the text.
-use Rattle.std.specs.Prelude.{◌≡◌, refl}
-use Rattle.definition.specs.Prelude.{ℕ, zero, suc, String, List, [], ◌∷◌, ◌++◌, map}
+use Rattle.std.specs.Prelude.{◌≡◌, refl, ◌∷◌, ◌++◌}
+use Rattle.definition.specs.Prelude.{ℕ, zero, suc, String, List, [], map}
 use Rattle.definition.specs.Basics.{Result, ok, refused, refusal_of, ◌>>=◌, joined, ascii}
 use Rattle.definition.specs.Tree.{u32}
 use Rattle.definition.specs.Listing.{listing}

@@ -1,6 +1,6 @@
 -- A Rust token stream, and the tree that token_stream_to_ast (src/token_stream.rs) makes of it.
-use Rattle.definition.specs.Prelude.{ℕ, Bool, true, false, ◌&&◌, List, [], ◌∷◌, ◌++◌, map, reverse, get_or, eqb}
-use Rattle.definition.specs.Basics.{if◌then◌else◌}
+use Rattle.std.specs.Prelude.{◌&&◌, ◌∷◌, ◌++◌, if◌then◌else◌}
+use Rattle.definition.specs.Prelude.{ℕ, Bool, true, false, List, [], map, reverse, get_or, eqb}
 use Rattle.definition.specs.Characters.{char}
 use Rattle.definition.specs.Tree.{Forest, end, word, group, Node, Tree}
 

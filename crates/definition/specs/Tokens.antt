@@ -1,6 +1,7 @@
 -- Document 02, L2: the layout editor's flat list of tokens with its text, and the image that is written from it.
-use Rattle.definition.specs.Prelude.{ℕ, zero, suc, ◌+◌, ◌*◌, ◌-◌, ◌/◌, ◌%◌, Bool, true, false, ◌&&◌, ◌||◌, not, List, [], ◌∷◌, length, leb, ltb, eqb}
-use Rattle.definition.specs.Basics.{Result, ok, ◌>>=◌, if◌then◌else◌, area_after, all, tab, joined}
+use Rattle.std.specs.Prelude.{◌+◌, ◌*◌, ◌-◌, ◌/◌, ◌%◌, ◌&&◌, ◌||◌, ◌∷◌, if◌then◌else◌}
+use Rattle.definition.specs.Prelude.{ℕ, zero, suc, Bool, true, false, not, List, [], length, leb, ltb, eqb}
+use Rattle.definition.specs.Basics.{Result, ok, ◌>>=◌, area_after, all, tab, joined}
 use Rattle.definition.specs.Limits.{limits}
 use Rattle.definition.specs.Refusals.{token_number, bad_token, empty_component, over_limits, short_image_area, needs}
 use Rattle.definition.specs.Image.{u32_at, bytes_at}

@@ -1,5 +1,6 @@
 -- A prepared image is a tree written down: concatenations of components, a component being a forest of records and its literal's bits.
-use Rattle.definition.specs.Prelude.{ℕ, zero, suc, ◌+◌, ◌*◌, ◌/◌, ◌%◌, ◌^◌, max, Bool, true, ◌&&◌, not, List, [], ◌∷◌, ◌++◌, map, length, get_or, leb, ltb}
+use Rattle.std.specs.Prelude.{◌+◌, ◌*◌, ◌/◌, ◌%◌, ◌^◌, ◌&&◌, ◌∷◌, ◌++◌}
+use Rattle.definition.specs.Prelude.{ℕ, zero, suc, max, Bool, true, not, List, [], map, length, get_or, leb, ltb}
 use Rattle.definition.specs.Basics.{within, is_empty, sum, all, tab, joined}
 use Rattle.definition.specs.Limits.{limits}
 use Rattle.definition.specs.Image.{Rec, bytes_for, tables_for, kinds, opens, delimiter}

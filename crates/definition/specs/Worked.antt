@@ -1,6 +1,6 @@
 -- Document 01's worked listing, and refused images: closed examples, by computation.
-use Rattle.std.specs.Prelude.{◌≡◌, refl, set}
-use Rattle.definition.specs.Prelude.{ℕ, zero, suc, ◌+◌, List, [], ◌∷◌, ◌++◌, map, take, true}
+use Rattle.std.specs.Prelude.{◌≡◌, refl, set, ◌+◌, ◌∷◌, ◌++◌}
+use Rattle.definition.specs.Prelude.{ℕ, zero, suc, List, [], map, take, true}
 use Rattle.definition.specs.Basics.{ascii, Result, ok, refused, refusal_of}
 use Rattle.definition.specs.Image.{kinds}
 use Rattle.definition.specs.Check.{check_image}

@@ -1,5 +1,5 @@
 -- Laws of the lists that the definitions are written with: tables of values, joined lists, sums, and tests of all elements.
-use Rattle.std.specs.Prelude.{◌≡◌}
+use Rattle.std.specs.Prelude.{◌≡◌, ◌&&◌, ◌∷◌, ◌++◌}
 use Rattle.std.proofs.Math.Path.{refl, ap}
 use Rattle.std.proofs.Common.{sym, ◌∙◌, zero-add, add_assoc, append_assoc}
 use Prim.Native.Nat.{ℕ, zero, suc, ◌+◌, ◌≤◌, ◌<◌}
@@ -7,7 +7,7 @@ use Rattle.std.proofs.Math.Nat.{suc-add, add-suc, add-zero}
 use native.Mathlib.Omega.{arith}
 use Rattle.std.proofs.Math.ListN.{length-append}
 use Rattle.std.proofs.Math.Seq.{drop-cons}
-use Rattle.definition.specs.Prelude.{Bool, true, false, ◌&&◌, List, [], ◌∷◌, map, ◌++◌, length, get_or, take, drop, leb}
+use Rattle.definition.specs.Prelude.{Bool, true, false, List, [], map, length, get_or, take, drop, leb}
 use Rattle.definition.specs.Basics.{sum, all, joined, tab}
 use Rattle.laws.specs.Tests.{and_iff, leb_iff}
 

@@ -1,7 +1,7 @@
 -- Laws of 128-bit numbers: small ones fit, and differences of natural numbers.
-use Rattle.std.specs.Prelude.{◌≡◌, ◌≤◌, ◌<◌}
+use Rattle.std.specs.Prelude.{◌≡◌, ◌≤◌, ◌<◌, ◌-◌, ◌^◌, ◌-ℤ◌}
 use Rattle.std.proofs.Common.{ap, le_trans, arith, lit≤, le-ltb}
-use Rattle.definition.specs.Prelude.{ℕ, zero, suc, ◌-◌, ◌^◌, pos, ◌-ℤ◌}
+use Rattle.definition.specs.Prelude.{ℕ, zero, suc, pos}
 use Rattle.definition.specs.Numbers.{half128}
 
 -- widths of literals are far below 2^127

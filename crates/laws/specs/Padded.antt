@@ -1,8 +1,8 @@
 -- Laws of bytes read with zeros past the end (definition, padded).
-use Rattle.std.specs.Prelude.{◌≡◌, refl, ◌<◌}
+use Rattle.std.specs.Prelude.{◌≡◌, refl, ◌<◌, ◌+◌, ◌∷◌, ◌++◌}
 use Rattle.std.proofs.Common.{ap, ◌∙◌, zero-add, suc-add, add-zero, arith}
 use lib.Seq.{drop-drop, get_or-drop}
-use Rattle.definition.specs.Prelude.{ℕ, zero, suc, ◌+◌, List, [], ◌∷◌, ◌++◌, length, get_or, drop}
+use Rattle.definition.specs.Prelude.{ℕ, zero, suc, List, [], length, get_or, drop}
 use Rattle.definition.specs.Image.{padded, bytes_at}
 
 pub length_padded : (n : ℕ) (s : List ℕ) → length (padded n s) ≡ n

@@ -1,10 +1,10 @@
 -- Laws of the tables that a tree is written to: rows of one size, and the rows and texts of records in two parts.
-use Rattle.std.specs.Prelude.{◌≡◌, refl, ℕ, ◌+◌, ◌*◌, ◌/◌, ◌%◌}
+use Rattle.std.specs.Prelude.{◌≡◌, refl, ℕ, ◌+◌, ◌*◌, ◌/◌, ◌%◌, ◌∷◌, ◌++◌}
 use Rattle.std.proofs.Common.{sym, ap, ◌∙◌, append_assoc, add-zero, add_assoc}
 use Rattle.std.proofs.Math.Nat.{mul-add-mod_self_left}
 use native.Mathlib.Omega.{arith}
 use Rattle.std.proofs.Math.ListN.{length-append}
-use Rattle.definition.specs.Prelude.{List, [], ◌∷◌, ◌++◌, map, length}
+use Rattle.definition.specs.Prelude.{List, [], map, length}
 use Rattle.definition.specs.Basics.{joined}
 use Rattle.definition.specs.Image.{Rec}
 use Rattle.definition.specs.Tree.{u32, text_of, record_bytes}

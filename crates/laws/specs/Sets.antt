@@ -1,11 +1,11 @@
 -- Laws of a run of values written into a list (lib.Seq, sets): next to what was written, past the end, from the front, at two places, and
 -- into the part from a place on.
-use Rattle.std.specs.Prelude.{◌≡◌, refl, ◌≤◌, ◌<◌, set}
+use Rattle.std.specs.Prelude.{◌≡◌, refl, ◌≤◌, ◌<◌, set, ◌+◌, ◌-◌, ◌∷◌, ◌++◌}
 use Rattle.std.proofs.Common.{sym, ap, ◌∙◌, append-nil, add-zero, add-suc, suc-add, zero-add, arith, length-drop, take-append-drop, drop_of_length-le, set-set, take_all}
 use Rattle.std.proofs.lemmas.List.Edits.{sets, sets-eq}
 use Rattle.std.proofs.Math.Seq.{set_out}
 use Rattle.std.proofs.lemmas.List.{set_comm, take-set-le, drop-set-add}
-use Rattle.definition.specs.Prelude.{ℕ, suc, ◌+◌, ◌-◌, List, [], ◌∷◌, ◌++◌, length, take, drop}
+use Rattle.definition.specs.Prelude.{ℕ, suc, List, [], length, take, drop}
 
 module _ {A : Type 0} where
   pub sets_append : (l : List A) (i : ℕ) (a b : List A) → sets (sets l i a) (i + length a) b ≡ sets l i (a ++ b)

@@ -1,8 +1,8 @@
 -- Tests that came out true, as facts: conjunctions, and comparisons of numbers.
-use Rattle.std.specs.Prelude.{◌≡◌, refl, ◌↔◌, ◌≢◌, ℕ, ◌≤◌, T}
+use Rattle.std.specs.Prelude.{◌≡◌, refl, ◌↔◌, ◌≢◌, ℕ, ◌≤◌, T, ◌&&◌}
 use Rattle.std.proofs.Common.{sym, ◌∙◌, true≢false, leb→le, le→leb, eqb→eq}
 use Rattle.std.proofs.Math.Dec.{eqb_refl}
-use Rattle.definition.specs.Prelude.{Bool, true, false, ◌&&◌, leb, eqb}
+use Rattle.definition.specs.Prelude.{Bool, true, false, leb, eqb}
 
 pub by_test : {G : Type 0} (t : Bool) → (t ≡ true → G) → (t ≡ false → G) → G
 by_test true f g = f refl

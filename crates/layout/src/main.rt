@@ -2,22 +2,41 @@
 // `output::answer`; here it is only read and written.
 //
 // It reads standard input, or the file that its one argument names. Where a file cannot be opened, or a read or a write fails, the reason
-// goes to standard error. After a failed read nothing is printed. (Rattle has no exit status, so the status is 0 even then.) Standard
-// output gets nothing but a listing, so that a script can go by its first word; the words for who asks what is read go to standard error.
+// goes to standard error. After a failed read nothing is printed. The exit status is 0 even then. Standard output gets nothing but a
+// listing, so that a script can go by its first word; the words for who asks what is read go to standard error.
 #![tactic(auto)]
 
-ghost use Rattle.std.specs.Prelude.{◌≡◌, length};
+ghost use Rattle.std.specs.Prelude.{◌≡◌, length, take, IfErr, IfOk, IfSome, OnOk};
+ghost use Rattle.std.specs.Io.{ReadsAtMost};
+ghost use Rattle.std.specs.Io.KnownBytes.{Appends, Keeps};
 ghost use Rattle.definition.specs.Limits.{max_input};
+ghost use Rattle.definition.specs.Listing.{output};
+ghost use Rattle.layout.specs.Failure.{IfUnread};
 ghost use Rattle.listing_length.specs.run.Listing.{longest_listing};
 
-use libc::{STDERR_FILENO, STDIN_FILENO, STDOUT_FILENO};
 use listing::Written;
+use std::env::FillError;
+use std::fs::File;
+use std::io;
+use std::io::{IsTerminal, Read, Write};
+use std::rt::{Env, Files};
+use streams::Reason;
 
-// How many bytes were read, or that a read failed.
+// The C library's numbers of three reasons that are this program's own to give.
+const EINVAL: i32 = 22;
+
+const ENAMETOOLONG: i32 = 36;
+
+const EILSEQ: i32 = 84;
+
+// A name that fills more than these bytes is longer than any path.
+const PATH_MAX: usize = 4096;
+
+// What failed, and why: opening or reading the input, or printing.
 #[derive(Clone, Copy)]
-enum Input {
-    Bytes(usize),
-    Failed,
+enum Failure {
+    Input(io::Error),
+    Output(io::Error),
 }
 
 // No more than these bytes of an input are looked at.
@@ -35,113 +54,150 @@ fn listing_buffer() -> [u8; limits::MAX_LISTING]
 }
 
 // Reads until buf is full, the input ends or a read fails.
-fn read_input(fd: i32, buf: &mut [u8]) -> Input {
-    let mut done = 0;
-    while done < buf.len() {
-        let got = libc::read(fd, &mut buf[done..]);
-        if got < 0 {
-            return Input::Failed;
-        }
-        let more = io::count(got, &buf[done..]);
-        if more == 0 {
-            return Input::Bytes(done);
-        }
-        done += more;
-    }
-    Input::Bytes(done)
+fn read_input<I: Read>(from: &mut I, buf: &mut [u8]) -> io::Result<usize>
+    ensures bound { ReadsAtMost result buf.new }
+    ensures front { IfOk result (λ n. IfSome (I.remaining from.old) (λ input. take n buf.new ≡ take (length buf.new) input)) }
+{
+    streams::read_full(from, buf)
 }
 
-// Says of what name stands for why it failed.
-fn fail(name: &[u8]) {
-    io::write_all(STDERR_FILENO, b"layout: ");
-    os::fail(name);
+// The line that says of what name stands for why it failed.
+fn write_reason(err: &mut impl Write, name: &[u8], error: io::Error) -> io::Result<()> {
+    let reason = Reason(error);
+    err.write_all(b"layout: ")?;
+    err.write_all(name)?;
+    writeln!(err, ": {reason}")
 }
 
-// Writes the first n bytes of a listing's buffer.
-fn print_listing(out: &[u8], n: usize) {
-    if out.len() < n {
-        return;
-    }
-    if !io::write_all(STDOUT_FILENO, &out[..n]) {
-        fail(b"standard output");
-    }
+// Says of what name stands for why it failed, or of standard output. Where this cannot be written either, nobody is left to tell.
+fn fail(err: &mut impl Write, name: &[u8], failure: Failure) {
+    let _ = match failure {
+        Failure::Input(error) => write_reason(err, name, error),
+        Failure::Output(error) => write_reason(err, b"standard output", error),
+    };
 }
 
-// Answers the first n bytes of the input's buffer.
-fn answer(buf: &[u8], n: usize) {
-    if buf.len() < n {
-        return;
-    }
-    let mut out = listing_buffer();
-    match output::answer(&buf[..n], &mut out) {
-        Written::Whole(m) => print_listing(&out, m),
-        Written::Cut => {}
+fn print_listing<O: Write>(out: &mut O, listing: &[u8]) -> io::Result<()>
+    ensures { OnOk result (Appends (O.contents out.old) (O.contents out.new) listing.now) }
+{
+    out.write_all(listing)
+}
+
+// Answers an input. Its listing is never cut, since none is longer than the buffer.
+fn answer<O: Write>(out: &mut O, input: &[u8]) -> io::Result<()>
+    ensures { OnOk result (Appends (O.contents out.old) (O.contents out.new) (output input.now)) }
+{
+    let mut listing = listing_buffer();
+    match output::answer(input, &mut listing) {
+        Written::Whole(n) => print_listing(out, &listing[..n]),
+        Written::Cut => unreachable!(),
     }
 }
 
-// Answers what fd has to read.
-fn answer_open(fd: i32, name: &[u8]) {
+// Answers what there is to read. After a failed read nothing is printed.
+fn answer_open<I: Read, O: Write>(from: &mut I, out: &mut O) -> Result<(), Failure>
+    ensures printed { OnOk result (IfSome (I.remaining from.old) (λ input. Appends (O.contents out.old) (O.contents out.new) (output input))) }
+    ensures unread { IfErr result (λ failure. IfUnread failure (Keeps (O.contents out.old) (O.contents out.new))) }
+{
     let mut buf = input_buffer();
-    match read_input(fd, &mut buf) {
-        Input::Bytes(n) => answer(&buf, n),
-        Input::Failed => fail(name),
+    match read_input(from, &mut buf) {
+        Ok(n) => answer(out, &buf[..n]).map_err(Failure::Output),
+        Err(error) => Err(Failure::Input(error)),
     }
 }
 
-fn answer_file(name: &[u8]) {
-    let fd = os::open_read(name);
-    if fd < 0 {
-        fail(name);
-        return;
+// Opens a file for reading. std takes a file's name as text alone, so a name that is not UTF-8 is refused.
+fn open<F: Files>(files: &F, name: &[u8]) -> io::Result<F::File> {
+    match std::str::from_utf8(name) {
+        Ok(name) => File::open(files, name),
+        Err(_) => Err(io::Error::from_raw_os_error(EILSEQ)),
     }
-    answer_open(fd, name);
-    libc::close(fd);
+}
+
+fn answer_file(files: &impl Files, out: &mut impl Write, name: &[u8]) -> Result<(), Failure> {
+    let mut file = open(files, name).map_err(Failure::Input)?;
+    answer_open(&mut file, out)
+}
+
+// The two lines that say what is read.
+fn write_help(err: &mut impl Write) -> io::Result<()> {
+    err.write_all(
+        b"layout [FILE]: prints the listing of one mode byte (0, 1, 2) and a prepared image, from FILE or standard input.\n",
+    )?;
+    err.write_all(
+        b"A line of text is read by ./line; docs/FORMAT.md has the image's bytes, README.md the listing and the numbers.\n",
+    )
 }
 
 // Says in two lines what is read.
-fn help() {
-    io::write_all(
-        STDERR_FILENO,
-        b"layout [FILE]: prints the listing of one mode byte (0, 1, 2) and a prepared image, from FILE or standard input.\n",
-    );
-    io::write_all(
-        STDERR_FILENO,
-        b"A line of text is read by ./line; docs/FORMAT.md has the image's bytes, README.md the listing and the numbers.\n",
-    );
+fn help(err: &mut impl Write) {
+    let _ = write_help(err);
+}
+
+// Says why, where an answer failed.
+fn tell(err: &mut impl Write, name: &[u8], answered: Result<(), Failure>) {
+    if let Err(failure) = answered {
+        fail(err, name, failure);
+    }
 }
 
 // Answers an argument: a file's name, or `-` for standard input. What else begins with `-` asks for help, as `--help` (a file of such a
 // name is given as `./-name`).
-fn answer_named(name: &[u8]) {
+fn answer_named(
+    files: &impl Files,
+    input: &mut impl Read,
+    out: &mut impl Write,
+    err: &mut impl Write,
+    name: &[u8],
+) {
     if name.len() == 0 || name[0] != b'-' {
-        answer_file(name);
+        tell(err, name, answer_file(files, out, name));
     } else if name.len() == 1 {
-        answer_open(STDIN_FILENO, b"standard input");
+        tell(err, b"standard input", answer_open(input, out));
     } else {
-        help();
+        help(err);
+    }
+}
+
+// Why an argument was not copied.
+fn argument_error(error: FillError) -> io::Error {
+    match error {
+        FillError::NotPresent => io::Error::from_raw_os_error(EINVAL),
+        FillError::TooLong => io::Error::from_raw_os_error(ENAMETOOLONG),
     }
 }
 
 // Answers the program's one argument. One that is longer than any path is not cut short: it would name another file.
-fn answer_argument() {
-    let mut name = io::buffer();
-    let n = os::arg(1, &mut name);
-    if os::errno() != 0 {
-        fail(b"the argument");
-        return;
+fn answer_argument(
+    rt: &(impl Env + Files),
+    input: &mut impl Read,
+    out: &mut impl Write,
+    err: &mut impl Write,
+) {
+    let mut name = [0u8; PATH_MAX];
+    match rt.arg(1, &mut name) {
+        Ok(n) => answer_named(rt, input, out, err, &name[..n]),
+        Err(e) => fail(err, b"the argument", Failure::Input(argument_error(e))),
     }
-    answer_named(&name[..n]);
 }
 
-fn main() {
-    let count = os::arg_count();
-    if count > 2 {
-        help();
-    } else if count == 2 {
-        answer_argument();
-    } else if libc::isatty(STDIN_FILENO) != 0 {
-        help();
+// Whether the program was started with so many arguments, its own name not counted.
+fn has_arguments(env: &impl Env, count: usize) -> bool {
+    let mut name = [0u8; 1];
+    !matches!(env.arg(count, &mut name), Err(FillError::NotPresent))
+}
+
+fn main(rt: HostRuntime) {
+    let mut input = rt.stdin();
+    let mut out = rt.stdout();
+    let mut err = rt.stderr();
+    if has_arguments(&rt, 2) {
+        help(&mut err);
+    } else if has_arguments(&rt, 1) {
+        answer_argument(&rt, &mut input, &mut out, &mut err);
+    } else if input.is_terminal() {
+        help(&mut err);
     } else {
-        answer_named(b"-");
+        answer_named(&rt, &mut input, &mut out, &mut err, b"-");
     }
 }

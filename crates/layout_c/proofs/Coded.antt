@@ -1,7 +1,8 @@
 -- The run's outcome as one number, which is small enough for it, and that of tokens. Assumes nothing.
+use Rattle.std.specs.Prelude.{◌%◌, ◌^◌, if◌then◌else◌}
 use Rattle.std.proofs.Common.{◌≡◌, ◌<◌, sym, refl, ap, ◌∙◌, arith}
-use Rattle.definition.specs.Prelude.{ℕ, ◌%◌, ◌^◌, Bool, true, false, List, length, leb}
-use Rattle.definition.specs.Basics.{Result, if◌then◌else◌}
+use Rattle.definition.specs.Prelude.{ℕ, Bool, true, false, List, length, leb}
+use Rattle.definition.specs.Basics.{Result}
 use Rattle.definition.specs.Listing.{output}
 use Rattle.errors.specs.declared.Outcome.{Outcome}
 use Rattle.errors.specs.Refused.{outcome_of}

@@ -1,6 +1,6 @@
 -- What the functions for C promise.
+use Rattle.std.specs.Prelude.{if◌then◌else◌}
 use Rattle.definition.specs.Prelude.{ℕ, List, length, leb}
-use Rattle.definition.specs.Basics.{if◌then◌else◌}
 use Rattle.definition.specs.Listing.{output}
 use Rattle.listing.specs.Outcomes.{filled}
 use Rattle.definition.specs.Run.{Choices, run, ran_on}

@@ -1,8 +1,8 @@
 -- The number that a caller in C gets says all of the outcome: below 2^32 it is the answer's length, and from 2^32 on it is a refusal,
 -- whose parts the header takes out again (include/layout.h).
-use Rattle.std.specs.Prelude.{◌≡◌, ◌<◌, ◌≤◌, refl}
+use Rattle.std.specs.Prelude.{◌≡◌, ◌<◌, ◌≤◌, refl, ◌+◌, ◌*◌, ◌/◌, ◌%◌, ◌^◌, ◌∷◌}
 use Rattle.std.proofs.Common.{ap, ◌∙◌, arith}
-use Rattle.definition.specs.Prelude.{ℕ, ◌+◌, ◌*◌, ◌/◌, ◌%◌, ◌^◌, true, false, List, [], ◌∷◌, length, take, drop, eqb}
+use Rattle.definition.specs.Prelude.{ℕ, true, false, List, [], length, take, drop, eqb}
 use Rattle.definition.specs.Basics.{Refusal, Result, ok, refused, ◌>>=◌, ascii}
 use Rattle.definition.specs.Image.{tree_of}
 use Rattle.definition.specs.Check.{check_image}

@@ -1,8 +1,8 @@
 -- The number that a caller in C gets for tokens says all of the outcome: below 2^32 it is the image's length, from 2^32 on a refusal,
 -- whose number the header takes out again (include/layout.h); its places are 0 and 0.
-use Rattle.std.specs.Prelude.{◌≡◌, ◌<◌, ◌≤◌, refl}
+use Rattle.std.specs.Prelude.{◌≡◌, ◌<◌, ◌≤◌, refl, ◌*◌, ◌^◌, ◌∷◌, ◌++◌}
 use Rattle.std.proofs.Common.{ap, arith}
-use Rattle.definition.specs.Prelude.{ℕ, ◌*◌, ◌^◌, List, [], ◌∷◌, ◌++◌, length}
+use Rattle.definition.specs.Prelude.{ℕ, List, [], length}
 use Rattle.definition.specs.Basics.{Refusal, Result, ok, refused, ◌>>=◌, ascii}
 use Rattle.definition.specs.Tree.{u32}
 use Rattle.definition.specs.Tokens.{token_image}

@@ -1,6 +1,7 @@
 -- A number that passes the program's test is the one that the entry tells. Assumes nothing.
+use Rattle.std.specs.Prelude.{◌&&◌}
 use mathlib.Core.Path.{◌≡◌, refl, ap, ◌∙◌}
-use Rattle.definition.specs.Prelude.{ℕ, true, ◌&&◌, some, eqb}
+use Rattle.definition.specs.Prelude.{ℕ, true, some, eqb}
 use Rattle.laws.specs.Tests.{and_iff, eqb_iff}
 use Rattle.numbers.specs.Value.{value_of, option_of}
 use Rattle.numbers.specs.declared.OptionI128.{OptionI128}

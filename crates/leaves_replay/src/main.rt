@@ -13,8 +13,11 @@ ghost use Rattle.errors.specs.Refused.{number_in};
 ghost use Rattle.leaves_replay.specs.Told.{u64_at, told, agrees};
 
 use errors::flags::both;
-use libc::STDOUT_FILENO;
 use numbers::OptionI128;
+use std::io;
+use std::io::Read;
+use std::rt::Files;
+use streams::{Reason, read_full};
 
 // What is at the front of an entry.
 #[derive(Clone, Copy)]
@@ -39,8 +42,8 @@ struct Tally {
 }
 
 // Whether the bytes that are left fill all of buf.
-fn filled(fd: i32, buf: &mut [u8]) -> bool {
-    io::read_full(fd, buf) == buf.len()
+fn filled<F: Read>(from: &mut F, buf: &mut [u8]) -> io::Result<bool> {
+    Ok(read_full(from, buf)? == buf.len())
 }
 
 // What `got` bytes at the front of an entry say.
@@ -55,16 +58,16 @@ fn head_of(got: usize, bytes: &[u8]) -> Head {
 }
 
 // The length takes 2 bytes in `numbers`, 4 in `images`.
-fn number_head(fd: i32) -> Head {
+fn number_head<F: Read>(from: &mut F) -> io::Result<Head> {
     let mut bytes = [0u8; 2];
-    let got = io::read_full(fd, &mut bytes);
-    head_of(got, &bytes)
+    let got = read_full(from, &mut bytes)?;
+    Ok(head_of(got, &bytes))
 }
 
-fn image_head(fd: i32) -> Head {
+fn image_head<F: Read>(from: &mut F) -> io::Result<Head> {
     let mut bytes = [0u8; 4];
-    let got = io::read_full(fd, &mut bytes);
-    head_of(got, &bytes)
+    let got = read_full(from, &mut bytes)?;
+    Ok(head_of(got, &bytes))
 }
 
 // 8 bytes, the lowest first.
@@ -105,61 +108,62 @@ fn same_image(image: &[u8], answer: &[u8]) -> bool
         == (image::token_tree::byte_at(answer, 0) as u32)
 }
 
-// Reads the answer to a text, and compares.
-fn number_outcome(fd: i32, text: &[u8]) -> Compared {
-    let mut answer = [0u8; 17];
-    if !filled(fd, &mut answer) {
-        return Compared::Different;
-    }
-    if same_number(text, &answer) {
+// What a comparison says.
+fn comparison(same: bool) -> Compared {
+    if same {
         Compared::Equal
     } else {
         Compared::Different
     }
 }
 
-fn image_outcome(fd: i32, image: &[u8]) -> Compared {
+// Reads the answer to a text, and compares.
+fn number_outcome<F: Read>(from: &mut F, text: &[u8]) -> io::Result<Compared> {
+    let mut answer = [0u8; 17];
+    if !filled(from, &mut answer)? {
+        return Ok(Compared::Different);
+    }
+    Ok(comparison(same_number(text, &answer)))
+}
+
+fn image_outcome<F: Read>(from: &mut F, image: &[u8]) -> io::Result<Compared> {
     let mut answer = [0u8; 1];
-    if !filled(fd, &mut answer) {
-        return Compared::Different;
+    if !filled(from, &mut answer)? {
+        return Ok(Compared::Different);
     }
-    if same_image(image, &answer) {
-        Compared::Equal
-    } else {
-        Compared::Different
-    }
+    Ok(comparison(same_image(image, &answer)))
 }
 
 // The rest of an entry whose text or image is as long as part.
-fn outcome_of(fd: i32, images: bool, part: &mut [u8]) -> Compared {
-    if !filled(fd, part) {
-        return Compared::Different;
+fn outcome_of<F: Read>(from: &mut F, images: bool, part: &mut [u8]) -> io::Result<Compared> {
+    if !filled(from, part)? {
+        return Ok(Compared::Different);
     }
     if images {
-        image_outcome(fd, part)
+        image_outcome(from, part)
     } else {
-        number_outcome(fd, part)
+        number_outcome(from, part)
     }
 }
 
-fn rest(fd: i32, images: bool, buf: &mut [u8], n: usize) -> Compared {
+fn rest<F: Read>(from: &mut F, images: bool, buf: &mut [u8], n: usize) -> io::Result<Compared> {
     if buf.len() < n {
-        return Compared::Different;
+        return Ok(Compared::Different);
     }
-    outcome_of(fd, images, &mut buf[..n])
+    outcome_of(from, images, &mut buf[..n])
 }
 
 // The next entry of `numbers`, or of `images`.
-fn plain_entry(fd: i32, images: bool, buf: &mut [u8]) -> Compared {
+fn plain_entry<F: Read>(from: &mut F, images: bool, buf: &mut [u8]) -> io::Result<Compared> {
     let head = if images {
-        image_head(fd)
+        image_head(from)?
     } else {
-        number_head(fd)
+        number_head(from)?
     };
     match head {
-        Head::Length(n) => rest(fd, images, buf, n),
-        Head::Cut => Compared::Different,
-        Head::End => Compared::End,
+        Head::Length(n) => rest(from, images, buf, n),
+        Head::Cut => Ok(Compared::Different),
+        Head::End => Ok(Compared::End),
     }
 }
 
@@ -171,52 +175,56 @@ enum File {
     Tokens,
 }
 
-fn entry(fd: i32, file: File, buf: &mut [u8]) -> Compared {
+fn entry<F: Read>(from: &mut F, file: File, buf: &mut [u8]) -> io::Result<Compared> {
     match file {
-        File::Numbers => plain_entry(fd, false, buf),
-        File::Images => plain_entry(fd, true, buf),
-        File::Tokens => tokens::entry(fd, buf),
+        File::Numbers => plain_entry(from, false, buf),
+        File::Images => plain_entry(from, true, buf),
+        File::Tokens => tokens::entry(from, buf),
     }
 }
 
-// All entries of a file. Nothing says that a file ends, so the turns are counted down from a number that no run uses up.
-fn replay(fd: i32, file: File, buf: &mut [u8]) -> Tally {
+// All entries of a file. Nothing says that a file ends, so the turns are counted up to a number that no run uses up.
+fn replay<F: Read>(from: &mut F, file: File, buf: &mut [u8]) -> io::Result<Tally> {
     let mut equal: u64 = 0;
     let mut different: u64 = 0;
-    let mut turns: u64 = 1_000_000;
-    while 0 < turns {
-        match entry(fd, file, buf) {
+    for _turn in 0..1_000_000u64 {
+        match entry(from, file, buf)? {
             Compared::Equal => equal += 1,
             Compared::Different => different += 1,
-            Compared::End => return Tally { equal, different },
+            Compared::End => break,
         }
-        turns -= 1;
     }
-    Tally { equal, different }
+    Ok(Tally { equal, different })
 }
 
-fn print_tally(path: &[u8], t: Tally) {
-    io::write_all(STDOUT_FILENO, path);
-    io::write_all(STDOUT_FILENO, b" ");
-    io::print_decimal(STDOUT_FILENO, t.equal);
-    io::write_all(STDOUT_FILENO, b" equal ");
-    io::print_decimal(STDOUT_FILENO, t.different);
-    io::write_all(STDOUT_FILENO, b" different\n");
+fn print_tally(rt: &impl Print, path: &str, t: Tally) -> io::Result<()> {
+    let equal = t.equal;
+    let different = t.different;
+    println!(rt; "{path} {equal} equal {different} different")
 }
 
-fn replay_file(path: &[u8], file: File, buf: &mut [u8]) {
-    let fd = os::open_read(path);
-    if fd < 0 {
-        os::fail(path);
-        return;
+// A file that cannot be opened is named on standard error, and the others are replayed all the same.
+fn replay_file(
+    rt: &(impl Files + Print + Eprint),
+    path: &str,
+    file: File,
+    buf: &mut [u8],
+) -> io::Result<()> {
+    match std::fs::open(rt, path) {
+        Ok(mut from) => {
+            let tally = replay(&mut from, file, buf)?;
+            print_tally(rt, path, tally)
+        }
+        Err(error) => {
+            let reason = Reason(error);
+            eprintln!(rt; "{path}: {reason}")
+        }
     }
-    print_tally(path, replay(fd, file, buf));
-    libc::close(fd);
 }
 
-fn main() {
+fn main(rt: HostRuntime) -> io::Result<()> {
     let mut buf = [0u8; limits::MAX_INPUT];
-    replay_file(b"numbers", File::Numbers, &mut buf);
-    replay_file(b"images", File::Images, &mut buf);
-    replay_file(b"tokens", File::Tokens, &mut buf);
+    replay_file(&rt, "numbers", File::Numbers, &mut buf)?;
+    replay_file(&rt, "images", File::Images, &mut buf)?;
+    replay_file(&rt, "tokens", File::Tokens, &mut buf)
 }

@@ -2,10 +2,13 @@
 // refusal, and the length of the written image; list, text and image follow.
 ghost use Rattle.std.specs.Prelude.{◌≡◌, true, length, take};
 
-use crate::{Compared, filled};
+use crate::{Compared, comparison, filled};
 use errors::flags::both;
 use errors::{Outcome, Refusal};
 use image::token_tree::u32_at;
+use std::io;
+use std::io::Read;
+use streams::read_full;
 
 // Some bytes more than any image needs: they are never lent.
 fn area_buffer() -> [u8; 43200]
@@ -21,7 +24,7 @@ fn same_front(area: &[u8], n: usize, image: &[u8]) -> bool
     if area.len() < n {
         return false;
     }
-    check::same(&area[..n], image)
+    &area[..n] == image
 }
 
 // Whether the bytes from place n on are as they were.
@@ -32,7 +35,7 @@ fn same_back(area: &[u8], n: usize, before: &[u8]) -> bool {
     if before.len() < n {
         return false;
     }
-    check::same(&area[n..], &before[n..])
+    &area[n..] == &before[n..]
 }
 
 // Whether it has this number, and no place.
@@ -51,7 +54,7 @@ fn same_outcome(area: &[u8], before: &[u8], outcome: Outcome, number: u32, image
             number == 0,
             both(same_front(area, n, image), same_back(area, n, before)),
         ),
-        Outcome::Refused(r) => both(same_refusal(r, number), check::same(area, before)),
+        Outcome::Refused(r) => both(same_refusal(r, number), area == before),
     }
 }
 
@@ -63,11 +66,7 @@ fn judge(list: &[u8], text: &[u8], lent: usize, number: u32, image: &[u8]) -> Co
         return Compared::Different;
     }
     let outcome = token_stream::token_stream_to_image(list, text, &mut area[..lent]);
-    if same_outcome(&area, &before, outcome, number, image) {
-        Compared::Equal
-    } else {
-        Compared::Different
-    }
+    comparison(same_outcome(&area, &before, outcome, number, image))
 }
 
 // The three parts of an entry, of n, t and m bytes.
@@ -88,30 +87,30 @@ fn judge_parts(buf: &[u8], n: u32, t: u32, lent: u32, number: u32, m: u32) -> Co
 }
 
 // The first n bytes of a buffer, read from the file; whether they were there.
-fn read_part(fd: i32, buf: &mut [u8], n: usize) -> bool {
+fn read_part<F: Read>(from: &mut F, buf: &mut [u8], n: usize) -> io::Result<bool> {
     if buf.len() < n {
-        return false;
+        return Ok(false);
     }
-    filled(fd, &mut buf[..n])
+    filled(from, &mut buf[..n])
 }
 
 // The next entry.
-pub(crate) fn entry(fd: i32, buf: &mut [u8]) -> Compared {
+pub(crate) fn entry<F: Read>(from: &mut F, buf: &mut [u8]) -> io::Result<Compared> {
     let mut head = [0u8; 20];
-    let got = io::read_full(fd, &mut head);
+    let got = read_full(from, &mut head)?;
     if got == 0 {
-        return Compared::End;
+        return Ok(Compared::End);
     }
     if got < 20 {
-        return Compared::Different;
+        return Ok(Compared::Different);
     }
     let n = u32_at(&head, 0);
     let t = u32_at(&head, 4);
     let lent = u32_at(&head, 8);
     let number = u32_at(&head, 12);
     let m = u32_at(&head, 16);
-    if read_part(fd, buf, (n as usize) + (t as usize) + (m as usize)) {
-        return judge_parts(buf, n, t, lent, number, m);
+    if read_part(from, buf, (n as usize) + (t as usize) + (m as usize))? {
+        return Ok(judge_parts(buf, n, t, lent, number, m));
     }
-    Compared::Different
+    Ok(Compared::Different)
 }

@@ -1,10 +1,11 @@
 -- A component's line, put together from what was written.
+use Rattle.std.specs.Prelude.{◌+◌, ◌*◌, ◌/◌, ◌^◌, ◌∷◌, ◌++◌}
 use mathlib.Core.Path.{◌≡◌, refl, sym, ap, ◌∙◌}
 use mathlib.Core.List.{append-nil}
 use Prim.Native.Nat.{◌<◌}
 use native.Mathlib.Omega.{arith}
 use borrow.Author.Tests.{eq-eqb, ne_eqb}
-use Rattle.definition.specs.Prelude.{ℕ, ◌+◌, ◌*◌, ◌/◌, ◌^◌, List, [], ◌∷◌, ◌++◌, map, reverse, length}
+use Rattle.definition.specs.Prelude.{ℕ, List, [], map, reverse, length}
 use Rattle.definition.specs.Basics.{sum, tab, joined, ascii}
 use Rattle.definition.specs.Image.{u32_at, bytes_at, tables}
 use Rattle.definition.specs.Answer.{width_at, text_at, untwos, bound_at, field_at}

@@ -1,4 +1,5 @@
 -- The lines of the concatenations: what is still to come, and how it begins.
+use Rattle.std.specs.Prelude.{◌+◌, ◌*◌, ◌-◌, ◌∷◌, ◌++◌}
 use mathlib.Core.Path.{◌≡◌, ap, ◌∙◌}
 use mathlib.Core.List.{append_assoc}
 use Prim.Native.Nat.{◌≤◌, ◌<◌}
@@ -9,7 +10,7 @@ use lib.ListN.{drop_of_length-le}
 use borrow.Author.Tests.{leb-true, leb-false}
 use Rattle.laws.specs.Lists.{length_tab, tab_add}
 use Rattle.laws.specs.Tests.{by_test}
-use Rattle.definition.specs.Prelude.{ℕ, suc, ◌+◌, ◌*◌, ◌-◌, List, [], ◌∷◌, ◌++◌, map, length, take, drop, leb}
+use Rattle.definition.specs.Prelude.{ℕ, suc, List, [], map, length, take, drop, leb}
 use Rattle.definition.specs.Basics.{tab, joined}
 use Rattle.definition.specs.Image.{u32_at}
 use Rattle.definition.specs.Answer.{concat_at, field_at}

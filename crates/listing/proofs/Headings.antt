@@ -1,7 +1,8 @@
 -- Line 1, put together from what was written.
+use Rattle.std.specs.Prelude.{◌/◌, ◌%◌, ◌∷◌, ◌++◌}
 use mathlib.Core.Path.{◌≡◌, ap, ◌∙◌}
 use borrow.Author.Tests.{eq-eqb, ne_eqb}
-use Rattle.definition.specs.Prelude.{ℕ, ◌/◌, ◌%◌, List, [], ◌∷◌, ◌++◌}
+use Rattle.definition.specs.Prelude.{ℕ, List, []}
 use Rattle.definition.specs.Basics.{ascii}
 use Rattle.definition.specs.Image.{u32_at}
 use Rattle.definition.specs.Answer.{width_at, text_at, is_set}

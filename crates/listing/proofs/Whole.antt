@@ -1,9 +1,10 @@
 -- The whole listing.
+use Rattle.std.specs.Prelude.{◌++◌}
 use mathlib.Core.Path.{◌≡◌, sym}
 use Prim.Native.Nat.{◌≤◌, ◌<◌}
 use native.Mathlib.Omega.{arith}
 use lib.Seq.{take_all}
-use Rattle.definition.specs.Prelude.{ℕ, List, [], ◌++◌, length, take, drop}
+use Rattle.definition.specs.Prelude.{ℕ, List, [], length, take, drop}
 use Rattle.definition.specs.Basics.{tab}
 use Rattle.definition.specs.Image.{u32_at}
 use Rattle.definition.specs.Answer.{concat_at, field_at, read_answer}

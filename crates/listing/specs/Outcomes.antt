@@ -1,8 +1,8 @@
 -- What an outcome and an answer of the listing mean.
-use Rattle.std.specs.Prelude.{◌≡◌, ◌≤◌}
+use Rattle.std.specs.Prelude.{◌≡◌, ◌≤◌, ◌+◌, ◌-◌, ◌++◌, if◌then◌else◌}
 use Rattle.std.proofs.Common.{take_all}
-use Rattle.definition.specs.Prelude.{ℕ, ◌+◌, ◌-◌, List, ◌++◌, length, take, drop, leb}
-use Rattle.definition.specs.Basics.{Result, ok, if◌then◌else◌}
+use Rattle.definition.specs.Prelude.{ℕ, List, length, take, drop, leb}
+use Rattle.definition.specs.Basics.{Result, ok}
 use Rattle.definition.specs.Listing.{listing}
 use Rattle.errors.specs.Refused.{refused_as}
 use Rattle.errors.specs.declared.Outcome.{Outcome}

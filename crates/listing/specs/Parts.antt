@@ -1,8 +1,8 @@
 -- A line of the listing in the parts that the code writes: its first word, the other words with a space before each, a newline.
-use Rattle.std.specs.Prelude.{◌≡◌}
+use Rattle.std.specs.Prelude.{◌≡◌, ◌∷◌, ◌++◌, ◌+◌, if◌then◌else◌}
 use Rattle.laws.specs.Lists.{length_tab}
-use Rattle.definition.specs.Prelude.{ℕ, Bool, true, false, List, [], ◌∷◌, ◌++◌, map, reverse, eqb, ◌+◌, Option, none, some}
-use Rattle.definition.specs.Basics.{if◌then◌else◌, joined, tab, ascii}
+use Rattle.definition.specs.Prelude.{ℕ, Bool, true, false, List, [], map, reverse, eqb, Option, none, some}
+use Rattle.definition.specs.Basics.{joined, tab, ascii}
 use Rattle.definition.specs.Image.{u32_at, bytes_at, bytes_for}
 use Rattle.listing.specs.words.Spaced.{spaced, line_parts}
 use Rattle.definition.specs.Answer.{Field, Bound, width_at, text_at, bound_at, concat_at, field_at, read_answer, is_set}

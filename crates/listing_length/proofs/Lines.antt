@@ -1,11 +1,11 @@
 -- The lengths of a listing's lines, and of the whole listing: a fixed part for each line, three bytes for each byte of text and two
 -- for each byte of a literal.
-use Rattle.std.specs.Prelude.{◌≡◌, ◌≤◌}
+use Rattle.std.specs.Prelude.{◌≡◌, ◌≤◌, ◌+◌, ◌*◌, ◌∷◌, ◌++◌, if◌then◌else◌}
 use Rattle.std.proofs.Math.Path.{refl}
 use Rattle.std.proofs.Common.{◌∙◌, mul-suc, le_trans, lit≤, length-append}
 use native.Mathlib.Omega.{arith}
-use Rattle.definition.specs.Prelude.{ℕ, zero, suc, ◌+◌, ◌*◌, Bool, true, false, List, [], ◌∷◌, ◌++◌, map, reverse, length, take, drop, eqb}
-use Rattle.definition.specs.Basics.{ok, Refusal, refused, if◌then◌else◌, joined, sum, tab, ascii}
+use Rattle.definition.specs.Prelude.{ℕ, zero, suc, Bool, true, false, List, [], map, reverse, length, take, drop, eqb}
+use Rattle.definition.specs.Basics.{ok, Refusal, refused, joined, sum, tab, ascii}
 use Rattle.definition.specs.Image.{padded}
 use Rattle.definition.specs.Answer.{Field, Concat, Read, read_answer, is_set}
 use Rattle.definition.specs.Listing.{decimal, hex, shown, bound_word, end_word, flag_word, summary_words, line, field_line, concat_lines, answer_lines, listing}

@@ -1,7 +1,7 @@
 -- The lengths of the words that show a text: a bound and an end.
-use Rattle.std.specs.Prelude.{◌≤◌}
+use Rattle.std.specs.Prelude.{◌≤◌, ◌+◌, ◌*◌}
 use Rattle.std.proofs.Common.{arith, length-append}
-use Rattle.definition.specs.Prelude.{◌+◌, ◌*◌, Option, none, some, length}
+use Rattle.definition.specs.Prelude.{Option, none, some, length}
 use Rattle.definition.specs.Basics.{ascii}
 use Rattle.definition.specs.Answer.{Bound}
 use Rattle.definition.specs.Listing.{shown, signed, bound_word, end_word}

@@ -1,5 +1,6 @@
 -- What a listing's length is told by: the bytes of text and of literals of an answer. The lengths themselves stand in proofs/.
-use Rattle.definition.specs.Prelude.{ℕ, ◌+◌, map, length}
+use Rattle.std.specs.Prelude.{◌+◌}
+use Rattle.definition.specs.Prelude.{ℕ, map, length}
 use Rattle.definition.specs.Basics.{sum}
 use Rattle.definition.specs.Answer.{Field, Read}
 use Rattle.listing_length.specs.Words.{end_text}

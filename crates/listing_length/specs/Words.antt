@@ -1,10 +1,10 @@
 -- The lengths of a line's words.
-use Rattle.std.specs.Prelude.{◌≡◌, ◌≤◌}
+use Rattle.std.specs.Prelude.{◌≡◌, ◌≤◌, ◌+◌, ◌*◌, ◌/◌, ◌%◌, ◌&&◌, ◌∷◌, if◌then◌else◌}
 use Rattle.std.proofs.Common.{◌∙◌, mul-suc, arith, length-append}
 use mathlib.Core.List.{reverse_aux}
 use Rattle.laws.specs.Tests.{by_test}
-use Rattle.definition.specs.Prelude.{ℕ, zero, suc, ◌+◌, ◌*◌, ◌/◌, ◌%◌, Bool, true, false, ◌&&◌, not, Option, none, some, List, [], ◌∷◌, map, reverse, length, ltb, eqb, ℤ, pos, negsuc}
-use Rattle.definition.specs.Basics.{if◌then◌else◌, within, joined, ascii}
+use Rattle.definition.specs.Prelude.{ℕ, zero, suc, Bool, true, false, not, Option, none, some, List, [], map, reverse, length, ltb, eqb, ℤ, pos, negsuc}
+use Rattle.definition.specs.Basics.{within, joined, ascii}
 use Rattle.definition.specs.Answer.{Bound}
 use Rattle.definition.specs.Listing.{decimal_onto, decimal, hex, shown_byte, shown, signed, width_word, align_word, flag_word}
 

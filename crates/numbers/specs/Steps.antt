@@ -1,7 +1,6 @@
 -- What the private functions say, on the way to the values.
-use Rattle.std.specs.Prelude.{◌≡◌, ◌⊎◌}
-use Rattle.definition.specs.Prelude.{ℕ, ◌+◌, Bool, not, ◌&&◌, ltb, eqb}
-use Rattle.definition.specs.Basics.{if◌then◌else◌}
+use Rattle.std.specs.Prelude.{◌≡◌, ◌⊎◌, ◌+◌, ◌&&◌, if◌then◌else◌}
+use Rattle.definition.specs.Prelude.{ℕ, Bool, not, ltb, eqb}
 use Rattle.definition.specs.Numbers.{half128}
 
 -- t is s cut to 128 bits, for an s below 2^129

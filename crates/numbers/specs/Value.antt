@@ -1,7 +1,6 @@
 -- A number of 128 bits is two halves in two's complement; its value is an integer.
-use Rattle.definition.specs.Prelude.{ℕ, ◌+◌, ◌*◌, ◌-◌, ◌^◌, Option, none, some, [], ◌∷◌, map, ltb, ℤ, pos, negsuc}
-use Rattle.std.specs.Prelude.{◌≡◌, refl}
-use Rattle.definition.specs.Basics.{if◌then◌else◌}
+use Rattle.definition.specs.Prelude.{ℕ, Option, none, some, [], map, ltb, ℤ, pos, negsuc}
+use Rattle.std.specs.Prelude.{◌≡◌, refl, ◌+◌, ◌*◌, ◌-◌, ◌^◌, ◌∷◌, if◌then◌else◌}
 use Rattle.numbers.specs.declared.I128.{I128}
 use Rattle.numbers.specs.declared.OptionI128.{OptionI128}
 use Rattle.numbers.specs.declared.OptionI128.TheVariants as I

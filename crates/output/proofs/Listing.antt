@@ -1,10 +1,11 @@
 -- The listing of what a run leaves in its area is that of the definition's run, and an input's is the program's output. Assumes nothing.
+use Rattle.std.specs.Prelude.{◌-◌, ◌∷◌}
 use mathlib.Core.Path.{◌≡◌, refl, ap, subst, ◌∙◌}
 use native.Mathlib.Omega.{arith}
 use Prim.Native.Nat.{◌≤◌, ◌<◌, min}
 use borrow.Author.Tests.{leb-true, leb-false}
 use lib.Seq.{take-append_seam, take_all}
-use Rattle.definition.specs.Prelude.{ℕ, ◌-◌, List, [], ◌∷◌, length, take, drop, get_or, leb}
+use Rattle.definition.specs.Prelude.{ℕ, List, [], length, take, drop, get_or, leb}
 use Rattle.laws.specs.Tests.{by_test}
 use Rattle.definition.specs.Basics.{Result, ok, refused, refusal_of, ◌>>=◌, area_after}
 use Rattle.definition.specs.Limits.{max_input}

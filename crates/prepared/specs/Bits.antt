@@ -1,10 +1,10 @@
 -- Bits packed into bytes, lowest first: the bytes, each bit of them, and the spare bits.
-use Rattle.std.specs.Prelude.{◌≡◌, refl, ℕ, zero, suc, ◌+◌, ◌*◌, ◌-◌, ◌/◌, ◌%◌, ◌^◌, ◌≤◌, ◌<◌}
+use Rattle.std.specs.Prelude.{◌≡◌, refl, ℕ, zero, suc, ◌+◌, ◌*◌, ◌-◌, ◌/◌, ◌%◌, ◌^◌, ◌≤◌, ◌<◌, ◌∷◌}
 use Rattle.std.proofs.Common.{sym, ap, ◌∙◌, add-zero, zero-add, zero-mul, one-mul, add-one, arith, get_or-drop}
 use Rattle.std.proofs.Math.Nat.{two-pow-succ, div-add-mod}
 use Rattle.std.proofs.Math.ListN.{get_or-eq_default}
 use Rattle.std.proofs.Math.Seq.{take-length}
-use Rattle.definition.specs.Prelude.{Bool, true, List, [], ◌∷◌, length, get_or, drop, ltb, eqb}
+use Rattle.definition.specs.Prelude.{Bool, true, List, [], length, get_or, drop, ltb, eqb}
 use Rattle.definition.specs.Basics.{sum, all, tab}
 use Rattle.definition.specs.Image.{bytes_for, bits_at}
 use Rattle.definition.specs.Tree.{byte_of, packed}

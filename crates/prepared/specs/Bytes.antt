@@ -1,11 +1,11 @@
 -- What stands at a place of a byte string, and the numbers read and written there.
-use Rattle.std.specs.Prelude.{◌≡◌, refl, ℕ, suc, ◌+◌, ◌*◌, ◌/◌, ◌%◌, ◌^◌, ◌≤◌, ◌<◌}
+use Rattle.std.specs.Prelude.{◌≡◌, refl, ℕ, suc, ◌+◌, ◌*◌, ◌/◌, ◌%◌, ◌^◌, ◌≤◌, ◌<◌, ◌∷◌, ◌++◌}
 use Rattle.std.proofs.Common.{sym, ap, ◌∙◌, add-zero, mod-eq_of_lt, arith, append_assoc, append-nil, get_or-drop, drop-drop}
 use Rattle.std.proofs.Math.Nat.{div-div-eq-div-mul, mod-add-div, add-mul-mod_self_left}
 use Rattle.std.proofs.Math.Numerals.{towards_suc}
 use Rattle.std.proofs.Math.ListN.{get_or-append}
 use Rattle.std.proofs.Math.Seq.{drop-append_seam}
-use Rattle.definition.specs.Prelude.{List, [], ◌∷◌, ◌++◌, length, get_or, take, drop, ltb}
+use Rattle.definition.specs.Prelude.{List, [], length, get_or, take, drop, ltb}
 use Rattle.definition.specs.Basics.{all, tab}
 use Rattle.definition.specs.Image.{u32_at, padded, bytes_at}
 use Rattle.definition.specs.Tree.{u32}

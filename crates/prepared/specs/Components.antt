@@ -1,11 +1,11 @@
 -- Component by component: what is read of an image that holds the nodes' records, texts and literals, and that it passes the check.
-use Rattle.std.specs.Prelude.{◌≡◌}
+use Rattle.std.specs.Prelude.{◌≡◌, ◌∷◌, ◌++◌, if◌then◌else◌}
 use Rattle.std.proofs.Math.Path.{refl, ap}
 use Rattle.std.proofs.Common.{sym, ◌∙◌, arith, length-append}
 use Prim.Native.Nat.{ℕ, suc, ◌+◌, ◌/◌, ◌%◌, ◌^◌, ◌≤◌, ◌<◌}
 use Rattle.std.proofs.Math.Nat.{add_assoc}
-use Rattle.definition.specs.Prelude.{true, List, [], ◌∷◌, ◌++◌, map, length, get_or, ltb, eqb}
-use Rattle.definition.specs.Basics.{ok, if◌then◌else◌, all, joined, tab}
+use Rattle.definition.specs.Prelude.{true, List, [], map, length, get_or, ltb, eqb}
+use Rattle.definition.specs.Basics.{ok, all, joined, tab}
 use Rattle.definition.specs.Limits.{limits}
 use Rattle.definition.specs.Image.{Rec, Entry, counts, tables, bytes_for, bits_at, start_at, entry_at, record_count, literal_width, recs_from, components_from}
 use Rattle.definition.specs.Check.{spares_zero, check_in, check_components}

@@ -1,11 +1,11 @@
 -- Refusals 6 and 7 do not meet a forest's records: words, groups, and how deep they nest.
-use Rattle.std.specs.Prelude.{◌≡◌, refl}
+use Rattle.std.specs.Prelude.{◌≡◌, refl, ◌∷◌, ◌++◌}
 use Rattle.std.proofs.Common.{ap, length-append, take_at}
 use Prim.Native.Nat.{ℕ, zero, suc, ◌+◌, ◌-◌, ◌≤◌, ◌<◌}
 use native.Mathlib.Omega.{arith}
 use Rattle.std.proofs.Math.Seq.{drop-append-add}
 use Rattle.std.proofs.lemmas.List.{get_or_at}
-use Rattle.definition.specs.Prelude.{true, List, [], ◌∷◌, ◌++◌, length, get_or, ltb, not}
+use Rattle.definition.specs.Prelude.{true, List, [], length, get_or, ltb, not}
 use Rattle.definition.specs.Basics.{ok, is_empty}
 use Rattle.definition.specs.Limits.{limits}
 use Rattle.definition.specs.Image.{Rec, Entry, kinds, opens, delimiter}

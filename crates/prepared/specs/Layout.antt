@@ -1,8 +1,8 @@
 -- The image of a tree, laid out: its six parts, where each stands, and the numbers of the header.
-use Rattle.std.specs.Prelude.{◌≡◌, refl, ℕ, suc, ◌+◌, ◌*◌, ◌^◌, ◌≤◌}
+use Rattle.std.specs.Prelude.{◌≡◌, refl, ℕ, suc, ◌+◌, ◌*◌, ◌^◌, ◌≤◌, ◌∷◌, ◌++◌}
 use Rattle.std.proofs.Common.{◌∙◌, zero-add, arith}
 use Rattle.std.proofs.Math.ListN.{length-append}
-use Rattle.definition.specs.Prelude.{true, List, [], ◌∷◌, ◌++◌, map, length, leb, ltb}
+use Rattle.definition.specs.Prelude.{true, List, [], map, length, leb, ltb}
 use Rattle.definition.specs.Basics.{all, joined, tab}
 use Rattle.definition.specs.Limits.{limits}
 use Rattle.definition.specs.Image.{u32_at, tables_for}

@@ -1,10 +1,10 @@
 -- The image of a tree that fits passes the check and reads back as the tree.
-use Rattle.std.specs.Prelude.{◌≡◌, refl, ℕ, ◌+◌, ◌*◌, ◌^◌, ◌≤◌}
+use Rattle.std.specs.Prelude.{◌≡◌, refl, ℕ, ◌+◌, ◌*◌, ◌^◌, ◌≤◌, ◌∷◌}
 use Rattle.std.proofs.Common.{sym, ◌∙◌, add-zero, arith}
 use Rattle.std.proofs.Math.Path.{ap}
 use Rattle.std.proofs.lemmas.List.{length-map}
 use Rattle.std.proofs.lemmas.Simd.{map-map}
-use Rattle.definition.specs.Prelude.{true, List, [], ◌∷◌, map, length, get_or, leb}
+use Rattle.definition.specs.Prelude.{true, List, [], map, length, get_or, leb}
 use Rattle.definition.specs.Basics.{ok, sum, all, joined, tab}
 use Rattle.definition.specs.Limits.{limits}
 use Rattle.definition.specs.Image.{Rec, kinds, u32_at, tables_for, counts, tables, bytes_for, component_count, record_count, literal_width, start_at, entry_at, components_from, tree_of}

@@ -1,13 +1,13 @@
 -- The record table and the text of an image, read back: entries, and the records with their texts.
-use Rattle.std.specs.Prelude.{◌≡◌, ℕ, zero, suc, ◌+◌, ◌*◌, ◌-◌, ◌^◌, ◌≤◌, ◌<◌}
+use Rattle.std.specs.Prelude.{◌≡◌, ℕ, zero, suc, ◌+◌, ◌*◌, ◌-◌, ◌^◌, ◌≤◌, ◌<◌, ◌&&◌, ◌∷◌, ◌++◌, if◌then◌else◌}
 use Rattle.std.proofs.Math.Path.{refl}
 use Rattle.std.proofs.Common.{ap, ◌∙◌}
 use Rattle.std.proofs.Math.Nat.{add-zero, add_assoc}
 use Rattle.std.proofs.Math.Numerals.{add-one}
 use native.Mathlib.Omega.{arith}
 use Rattle.std.proofs.Math.ListN.{length-append}
-use Rattle.definition.specs.Prelude.{Bool, true, false, ◌&&◌, not, List, [], ◌∷◌, ◌++◌, length, get_or, leb, ltb, eqb}
-use Rattle.definition.specs.Basics.{if◌then◌else◌, is_empty, all, tab}
+use Rattle.definition.specs.Prelude.{Bool, true, false, not, List, [], length, get_or, leb, ltb, eqb}
+use Rattle.definition.specs.Basics.{is_empty, all, tab}
 use Rattle.definition.specs.Image.{Rec, Entry, u32_at, counts, tables, bytes_at, start_at, entry_at, recs_from, kinds, delimiter}
 use Rattle.definition.specs.Tree.{Forest, end, word, group, flat, sound_forest, text_of, u32, record_bytes}
 use Rattle.prepared.specs.Statement.{entries_from}

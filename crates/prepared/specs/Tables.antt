@@ -1,9 +1,9 @@
 -- A table of equal rows, one after the other: its length, its bytes, and what is read row by row.
-use Rattle.std.specs.Prelude.{◌≡◌}
+use Rattle.std.specs.Prelude.{◌≡◌, ◌∷◌}
 use Rattle.std.proofs.Math.Path.{refl}
 use Prim.Native.Nat.{ℕ, suc, ◌+◌, ◌*◌}
 use native.Mathlib.Omega.{arith}
-use Rattle.definition.specs.Prelude.{Bool, true, List, [], ◌∷◌, map, length, ltb}
+use Rattle.definition.specs.Prelude.{Bool, true, List, [], map, length, ltb}
 use Rattle.definition.specs.Basics.{all, joined, tab}
 use Rattle.prepared.specs.Statement.{Bytes}
 pub use Rattle.laws.specs.Rows.{length_rows}

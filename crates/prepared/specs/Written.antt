@@ -1,7 +1,7 @@
 -- The image of a tree is a byte string.
-use Rattle.std.specs.Prelude.{◌≡◌, refl, ℕ, ◌+◌, ◌^◌}
+use Rattle.std.specs.Prelude.{◌≡◌, refl, ℕ, ◌+◌, ◌^◌, ◌∷◌, ◌++◌}
 use Rattle.std.proofs.Common.{arith}
-use Rattle.definition.specs.Prelude.{true, List, [], ◌∷◌, ◌++◌, map, length, leb}
+use Rattle.definition.specs.Prelude.{true, List, [], map, length, leb}
 use Rattle.definition.specs.Basics.{all, joined}
 use Rattle.definition.specs.Image.{Rec}
 use Rattle.definition.specs.Tree.{Tree, recs_of, all_recs, text_of, literals_of, packed, u32, record_bytes, image_of, sound_node}

@@ -1,6 +1,6 @@
 -- The image check refuses with a number of the table and places 0, 0; what it accepts is within the limits.
-use Rattle.std.specs.Prelude.{ℕ, zero, suc, ◌+◌, ◌≤◌}
-use Rattle.definition.specs.Prelude.{List, [], ◌∷◌, length, leb, ltb, eqb}
+use Rattle.std.specs.Prelude.{ℕ, zero, suc, ◌+◌, ◌≤◌, ◌∷◌}
+use Rattle.definition.specs.Prelude.{List, [], length, leb, ltb, eqb}
 use Rattle.definition.specs.Basics.{tab}
 use Rattle.definition.specs.Limits.{limits}
 use Rattle.definition.specs.Refusals.{short_image, bad_count, bad_offset, bad_entry, bad_record, too_deep}

@@ -1,7 +1,7 @@
 -- Stages 1 and 2 of one component refuse with a number of the table; their places are 0 and 0 until the tree gives them.
-use Rattle.std.specs.Prelude.{ℕ, suc, ◌+◌, ◌-◌}
-use Rattle.definition.specs.Prelude.{Bool, true, false, ◌&&◌, ◌||◌, not, Option, none, some, List, [], ◌∷◌, length, take, drop, eqb, ℤ, pos, ◌+ℤ◌, ◌-ℤ◌, lt_z, le_z, non_neg}
-use Rattle.definition.specs.Basics.{ok, ◌>>=◌, if◌then◌else◌, is_empty}
+use Rattle.std.specs.Prelude.{ℕ, suc, ◌+◌, ◌-◌, ◌&&◌, ◌||◌, ◌∷◌, ◌+ℤ◌, ◌-ℤ◌, if◌then◌else◌}
+use Rattle.definition.specs.Prelude.{Bool, true, false, not, Option, none, some, List, [], length, take, drop, eqb, ℤ, pos, lt_z, le_z, non_neg}
+use Rattle.definition.specs.Basics.{ok, ◌>>=◌, is_empty}
 use Rattle.definition.specs.Characters.{char}
 use Rattle.definition.specs.Numbers.{narrow, try_parse}
 use Rattle.definition.specs.Refusals.{Reason, need, empty_range, second_dots, three_dots, not_one_token, bound_overflow, nothing_before_range, no_literal, overflow, negative_bound, reversed, zero_width, start_above_width, end_above_width, range_above_width, end_zero_lem, open_start}

@@ -1,7 +1,7 @@
 -- Stage 3 over a tree within the limits: its refusals have places of the tree, and each concatenation keeps its components.
-use Rattle.std.specs.Prelude.{ℕ, suc, ◌+◌, ◌^◌, ◌≤◌, ◌<◌}
+use Rattle.std.specs.Prelude.{ℕ, suc, ◌+◌, ◌^◌, ◌≤◌, ◌<◌, ◌&&◌, ◌∷◌}
 use Rattle.std.proofs.Common.{arith}
-use Rattle.definition.specs.Prelude.{Bool, true, false, ◌&&◌, not, none, some, List, [], ◌∷◌, map, length, ltb, eqb, nat_abs}
+use Rattle.definition.specs.Prelude.{Bool, true, false, not, none, some, List, [], map, length, ltb, eqb, nat_abs}
 use Rattle.definition.specs.Basics.{is_empty}
 use Rattle.definition.specs.Limits.{limits}
 use Rattle.definition.specs.Refusals.{literal_in_sink, lone_filler_sink, second_filler, zero_total_width, sum_overflow}

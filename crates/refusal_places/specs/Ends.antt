@@ -1,8 +1,8 @@
 -- How an operation may end: with an answer of which something is known, or with a refusal of the table, its places within the limits.
-use Rattle.std.specs.Prelude.{◌≡◌, refl, ◌≤◌, ◌<◌}
+use Rattle.std.specs.Prelude.{◌≡◌, refl, ◌≤◌, ◌<◌, if◌then◌else◌}
 use Rattle.std.proofs.Common.{arith}
 use Rattle.definition.specs.Prelude.{ℕ, Bool, true, false, Option, none, some}
-use Rattle.definition.specs.Basics.{Refusal, refusal_of, Result, ok, refused, ◌>>=◌, with_places, if◌then◌else◌}
+use Rattle.definition.specs.Basics.{Refusal, refusal_of, Result, ok, refused, ◌>>=◌, with_places}
 use Rattle.definition.specs.Limits.{limits}
 use Rattle.definition.specs.Refusals.{Reason, mode_above_2, short_image, bad_count, bad_offset, bad_entry, bad_record, too_deep, short_area, empty_after_colon, nothing_before_range, empty_range, second_dots, three_dots, not_one_token, bound_overflow, no_literal, overflow, negative_bound, reversed, zero_width, start_above_width, end_above_width, range_above_width, end_zero_lem, open_start, literal_in_sink, lone_filler_sink, second_filler, zero_total_width, sum_overflow, filler_without_start, unequal_widths, no_common_width, only_source, middle_filler, opposite_fillers, number_of, refuse, need}
 

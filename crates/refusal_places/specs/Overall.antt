@@ -1,8 +1,8 @@
 -- Stage 4 over concatenations within the limits: the places of its refusals are indices of concatenations and components.
-use Rattle.std.specs.Prelude.{◌≡◌, refl, ℕ, suc, ◌+◌, ◌≤◌, ◌<◌}
+use Rattle.std.specs.Prelude.{◌≡◌, refl, ℕ, suc, ◌+◌, ◌≤◌, ◌<◌, ◌&&◌, ◌||◌, ◌∷◌, if◌then◌else◌}
 use Rattle.std.proofs.Common.{arith}
-use Rattle.definition.specs.Prelude.{Bool, true, false, ◌&&◌, ◌||◌, not, Option, none, some, List, [], ◌∷◌, length, leb, eqb}
-use Rattle.definition.specs.Basics.{Result, if◌then◌else◌}
+use Rattle.definition.specs.Prelude.{Bool, true, false, not, Option, none, some, List, [], length, leb, eqb}
+use Rattle.definition.specs.Basics.{Result}
 use Rattle.definition.specs.Limits.{limits}
 use Rattle.definition.specs.Refusals.{filler_without_start, unequal_widths, no_common_width, only_source, middle_filler, opposite_fillers}
 use Rattle.definition.specs.Image.{Placed}

@@ -1,10 +1,10 @@
 -- Stages 1 and 2 over a tree within the limits: their refusals have places of the tree, and what they leave is as large as the tree.
-use Rattle.std.specs.Prelude.{◌≡◌}
+use Rattle.std.specs.Prelude.{◌≡◌, ◌∷◌, ◌&&◌}
 use Rattle.std.proofs.Math.Path.{refl, ap}
 use Prim.Native.Nat.{ℕ, zero, suc, ◌+◌, ◌≤◌, ◌<◌}
 use native.Mathlib.Omega.{arith}
 use Rattle.std.proofs.Math.ListN.{length-take, length-drop}
-use Rattle.definition.specs.Prelude.{Bool, not, none, List, [], ◌∷◌, ◌&&◌, length, drop, eqb}
+use Rattle.definition.specs.Prelude.{Bool, not, none, List, [], length, drop, eqb}
 use Rattle.definition.specs.Basics.{Result, is_empty, tab}
 use Rattle.definition.specs.Limits.{limits}
 use Rattle.definition.specs.Refusals.{empty_after_colon}

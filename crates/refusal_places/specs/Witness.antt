@@ -1,6 +1,6 @@
 -- Closed refusals of the whole run: the premise is met, by each kind of place, the lowest and the greatest number and the last concatenation.
-use Rattle.std.specs.Prelude.{◌≡◌, refl, replicate}
-use Rattle.definition.specs.Prelude.{[], ◌∷◌, ◌++◌}
+use Rattle.std.specs.Prelude.{◌≡◌, refl, replicate, ◌∷◌, ◌++◌}
+use Rattle.definition.specs.Prelude.{[]}
 use Rattle.definition.specs.Basics.{ascii, refused, refusal_of}
 use Rattle.definition.specs.Tree.{Node, end, word, image_of}
 use Rattle.definition.specs.Readings.{tokens}

@@ -13,21 +13,17 @@ fn pattern(i: usize) -> u8 {
 }
 
 pub(crate) fn fill(area: &mut [u8]) {
-    let mut i = 0;
-    while i < area.len() {
-        area[i] = pattern(i);
-        i += 1;
+    for (i, byte) in area.iter_mut().enumerate() {
+        *byte = pattern(i);
     }
 }
 
 // Whether the pattern still stands from a place on.
 fn untouched(area: &[u8], from: usize) -> bool {
-    let mut i = from;
-    while i < area.len() {
+    for i in from..area.len() {
         if area[i] != pattern(i) {
             return false;
         }
-        i += 1;
     }
     true
 }
@@ -39,7 +35,7 @@ fn same_front(out: &[u8], n: usize, told: &[u8]) -> bool
     if out.len() < n {
         return false;
     }
-    check::same(&out[..n], told)
+    &out[..n] == told
 }
 
 // No listing has more bytes than these.

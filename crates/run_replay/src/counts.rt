@@ -1,6 +1,6 @@
 // How often each outcome occurred, and its print.
 use crate::{CUT_PAIR, DIFFERENT, UNDER_DEFAULT};
-use libc::STDOUT_FILENO;
+use std::io;
 
 pub(crate) fn count(counts: &mut [u64; 49], at: usize) {
     if at < 49 {
@@ -11,29 +11,23 @@ pub(crate) fn count(counts: &mut [u64; 49], at: usize) {
     }
 }
 
-fn print_count(words: &[u8], n: u64) {
-    io::write_all(STDOUT_FILENO, words);
-    io::print_decimal(STDOUT_FILENO, n);
-    io::write_all(STDOUT_FILENO, b"\n");
+fn print_count(rt: &impl Print, words: &str, n: u64) -> io::Result<()> {
+    println!(rt; "{words}: {n}")
 }
 
-fn print_refused(number: usize, n: u64) {
+fn print_refused(rt: &impl Print, number: usize, n: u64) -> io::Result<()> {
     if n == 0 {
-        return;
+        return Ok(());
     }
-    io::write_all(STDOUT_FILENO, b"refused ");
-    io::print_decimal(STDOUT_FILENO, number as u64);
-    print_count(b": ", n);
+    println!(rt; "refused {number}: {n}")
 }
 
-pub(crate) fn print_counts(counts: &[u64; 49]) {
-    print_count(b"accepted: ", counts[0]);
-    let mut number = 1;
-    while number < 46 {
-        print_refused(number, counts[number]);
-        number += 1;
+pub(crate) fn print_counts(rt: &impl Print, counts: &[u64; 49]) -> io::Result<()> {
+    print_count(rt, "accepted", counts[0])?;
+    for number in 1..46 {
+        print_refused(rt, number, counts[number])?;
     }
-    print_count(b"cut pairs equal: ", counts[CUT_PAIR]);
-    print_count(b"under a default equal: ", counts[UNDER_DEFAULT]);
-    print_count(b"different: ", counts[DIFFERENT]);
+    print_count(rt, "cut pairs equal", counts[CUT_PAIR])?;
+    print_count(rt, "under a default equal", counts[UNDER_DEFAULT])?;
+    print_count(rt, "different", counts[DIFFERENT])
 }

@@ -3,6 +3,9 @@
 use crate::compare::{compared, fill};
 use crate::entries::read_part;
 use crate::{DIFFERENT, END, UNDER_DEFAULT, area_buffer};
+use std::io;
+use std::io::Read;
+use streams::read_full;
 
 // One run over an area that is long enough for any image: whether the listing, and the starting value in force, are those told.
 fn judge<'a>(image: &'a [u8], mode: u32, default: &'a [u8], told: &[u8], value: &[u8]) -> usize {
@@ -14,7 +17,7 @@ fn judge<'a>(image: &'a [u8], mode: u32, default: &'a [u8], told: &[u8], value: 
     if compared(image, &area, outcome, told) == DIFFERENT {
         return DIFFERENT;
     }
-    if check::same(stages::in_force::value(image, default, start), value) {
+    if stages::in_force::value(image, default, start) == value {
         return UNDER_DEFAULT;
     }
     DIFFERENT
@@ -42,25 +45,25 @@ fn judge_parts(buf: &[u8], n: u32, d: u32, m: u32, v: u32) -> usize {
 }
 
 // The next entry.
-pub(crate) fn entry(fd: i32, buf: &mut [u8]) -> usize {
+pub(crate) fn entry<F: Read>(from: &mut F, buf: &mut [u8]) -> io::Result<usize> {
     let mut head = [0u8; 16];
-    let got = io::read_full(fd, &mut head);
+    let got = read_full(from, &mut head)?;
     if got == 0 {
-        return END;
+        return Ok(END);
     }
     if got < 16 {
-        return DIFFERENT;
+        return Ok(DIFFERENT);
     }
     let n = image::token_tree::u32_at(&head, 0);
     let d = image::token_tree::u32_at(&head, 4);
     let m = image::token_tree::u32_at(&head, 8);
     let v = image::token_tree::u32_at(&head, 12);
     if read_part(
-        fd,
+        from,
         buf,
         (n as usize) + (d as usize) + (m as usize) + (v as usize),
-    ) {
-        return judge_parts(buf, n, d, m, v);
+    )? {
+        return Ok(judge_parts(buf, n, d, m, v));
     }
-    DIFFERENT
+    Ok(DIFFERENT)
 }

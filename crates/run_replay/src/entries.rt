@@ -4,6 +4,10 @@ ghost use Rattle.std.specs.Prelude.{◌≡◌, true, ◌+◌, ◌*◌, ◌≤◌
 ghost use Rattle.definition.specs.Limits.{max_input};
 ghost use Rattle.listing_length.specs.run.Listing.{longest_listing};
 
+use std::io;
+use std::io::Read;
+use streams::read_full;
+
 #[derive(Clone, Copy)]
 pub(crate) enum Entry {
     Read(u32, u32, u32),
@@ -32,16 +36,16 @@ pub(crate) fn within(len: usize, from: usize, n: usize) -> bool
 }
 
 // Whether the bytes that are left fill all of buf.
-fn filled(fd: i32, buf: &mut [u8]) -> bool {
-    io::read_full(fd, buf) == buf.len()
+fn filled<F: Read>(from: &mut F, buf: &mut [u8]) -> io::Result<bool> {
+    Ok(read_full(from, buf)? == buf.len())
 }
 
 // The first n bytes of a buffer, read from the file; whether they were there.
-pub(crate) fn read_part(fd: i32, buf: &mut [u8], n: usize) -> bool {
+pub(crate) fn read_part<F: Read>(from: &mut F, buf: &mut [u8], n: usize) -> io::Result<bool> {
     if buf.len() < n {
-        return false;
+        return Ok(false);
     }
-    filled(fd, &mut buf[..n])
+    filled(from, &mut buf[..n])
 }
 
 // The length of the second input.
@@ -50,21 +54,21 @@ fn second_of(cuts: bool, k: u32) -> u32 {
 }
 
 // The next entry: its three numbers, and what follows them in the buffer.
-pub(crate) fn read_entry(fd: i32, cuts: bool, buf: &mut [u8]) -> Entry {
+pub(crate) fn read_entry<F: Read>(from: &mut F, cuts: bool, buf: &mut [u8]) -> io::Result<Entry> {
     let mut head = [0u8; 12];
-    let got = io::read_full(fd, &mut head);
+    let got = read_full(from, &mut head)?;
     if got == 0 {
-        return Entry::End;
+        return Ok(Entry::End);
     }
     if got < 12 {
-        return Entry::Different;
+        return Ok(Entry::Different);
     }
     let n = image::token_tree::u32_at(&head, 0);
     let k = image::token_tree::u32_at(&head, 4);
     let m = image::token_tree::u32_at(&head, 8);
     let second = second_of(cuts, k);
-    if read_part(fd, buf, (n as usize) + (second as usize) + (m as usize)) {
-        return Entry::Read(n, k, m);
+    if read_part(from, buf, (n as usize) + (second as usize) + (m as usize))? {
+        return Ok(Entry::Read(n, k, m));
     }
-    Entry::Different
+    Ok(Entry::Different)
 }

@@ -14,6 +14,10 @@ ghost use Rattle.std.specs.Prelude.{◌≡◌, length};
 
 use counts::count;
 use entries::{Entry, within};
+use std::io;
+use std::io::Read;
+use std::rt::Files;
+use streams::Reason;
 
 // What an entry came to is a number: 0 accepted, 1 to 45 the number of its refusal, or one of these.
 const DIFFERENT: usize = 46;
@@ -81,18 +85,21 @@ fn cut_pair(buf: &[u8], n: u32, k: u32, m: u32) -> usize {
     CUT_PAIR
 }
 
-// The next entry of `runs`, an input of n bytes, the area's length, a listing of m; or of `cuts`.
-fn plain_entry(fd: i32, cuts: bool, buf: &mut [u8]) -> usize {
-    match entries::read_entry(fd, cuts, buf) {
-        Entry::Read(n, k, m) => {
-            if cuts {
-                return cut_pair(buf, n, k, m);
-            }
-            judge_part(buf, 0, n as usize, k as usize, n as usize, m as usize)
-        }
+// An entry of `runs`, an input of n bytes, the area's length k, a listing of m; or of `cuts`.
+fn judge_entry(cuts: bool, buf: &[u8], n: u32, k: u32, m: u32) -> usize {
+    if cuts {
+        return cut_pair(buf, n, k, m);
+    }
+    judge_part(buf, 0, n as usize, k as usize, n as usize, m as usize)
+}
+
+// The next entry of `runs`, or of `cuts`.
+fn plain_entry<F: Read>(from: &mut F, cuts: bool, buf: &mut [u8]) -> io::Result<usize> {
+    Ok(match entries::read_entry(from, cuts, buf)? {
+        Entry::Read(n, k, m) => judge_entry(cuts, buf, n, k, m),
         Entry::Different => DIFFERENT,
         Entry::End => END,
-    }
+    })
 }
 
 // The files of data/.
@@ -103,43 +110,48 @@ enum File {
     Defaults,
 }
 
-fn entry(fd: i32, file: File, buf: &mut [u8]) -> usize {
+fn entry<F: Read>(from: &mut F, file: File, buf: &mut [u8]) -> io::Result<usize> {
     match file {
-        File::Runs => plain_entry(fd, false, buf),
-        File::Cuts => plain_entry(fd, true, buf),
-        File::Defaults => defaults::entry(fd, buf),
+        File::Runs => plain_entry(from, false, buf),
+        File::Cuts => plain_entry(from, true, buf),
+        File::Defaults => defaults::entry(from, buf),
     }
 }
 
-// All entries of a file. Nothing says that a file ends, so the turns are counted down from a number that no run uses up.
-fn replay(fd: i32, file: File, counts: &mut [u64; 49]) {
+// All entries of a file. Nothing says that a file ends, so the turns are counted up to a number that no run uses up.
+fn replay<F: Read>(from: &mut F, file: File, counts: &mut [u64; 49]) -> io::Result<()> {
     let mut buf = entries::entry_buffer();
-    let mut turns: u64 = 1_000_000;
-    while 0 < turns {
-        let at = entry(fd, file, &mut buf);
+    for _ in 0..1_000_000u64 {
+        let at = entry(from, file, &mut buf)?;
         if at == END {
-            return;
+            break;
         }
         count(counts, at);
-        turns -= 1;
+    }
+    Ok(())
+}
+
+// A file that cannot be opened is named on standard error and counts as different, and the others are replayed all the same.
+fn replay_file(
+    rt: &(impl Files + Eprint),
+    path: &str,
+    file: File,
+    counts: &mut [u64; 49],
+) -> io::Result<()> {
+    match std::fs::open(rt, path) {
+        Ok(mut from) => replay(&mut from, file, counts),
+        Err(error) => {
+            let reason = Reason(error);
+            count(counts, DIFFERENT);
+            eprintln!(rt; "{path}: {reason}")
+        }
     }
 }
 
-fn replay_file(path: &[u8], file: File, counts: &mut [u64; 49]) {
-    let fd = os::open_read(path);
-    if fd < 0 {
-        os::fail(path);
-        count(counts, DIFFERENT);
-        return;
-    }
-    replay(fd, file, counts);
-    libc::close(fd);
-}
-
-fn main() {
+fn main(rt: HostRuntime) -> io::Result<()> {
     let mut counts = [0u64; 49];
-    replay_file(b"runs", File::Runs, &mut counts);
-    replay_file(b"cuts", File::Cuts, &mut counts);
-    replay_file(b"defaults", File::Defaults, &mut counts);
-    counts::print_counts(&counts);
+    replay_file(&rt, "runs", File::Runs, &mut counts)?;
+    replay_file(&rt, "cuts", File::Cuts, &mut counts)?;
+    replay_file(&rt, "defaults", File::Defaults, &mut counts)?;
+    counts::print_counts(&rt, &counts)
 }

@@ -1,6 +1,7 @@
 -- Laws of lists: an i-th, none, and the last.
+use Rattle.std.specs.Prelude.{◌+◌, ◌∷◌, ◌++◌}
 use Rattle.std.proofs.Common.{◌≡◌, ◌<◌, ◌≤◌, refl, ap, ◌∙◌, le_of_suc-le-suc, add-one, arith, drop_of_length-le}
-use Rattle.definition.specs.Prelude.{ℕ, zero, suc, ◌+◌, List, [], ◌∷◌, ◌++◌, length, drop}
+use Rattle.definition.specs.Prelude.{ℕ, zero, suc, List, [], length, drop}
 
 -- a list with an i-th, and without
 pub turn_at : {A : Type 0} (l : List A) (i n : ℕ) → length l ≡ n → i < n → (a : A) × (drop i l ≡ a ∷ drop (i + 1) l)

@@ -1,6 +1,6 @@
 -- Closed examples of what is easily stated wrongly: flags, heads and blocks against the definition's bytes.
-use Rattle.std.specs.Prelude.{◌≡◌, refl}
-use Rattle.definition.specs.Prelude.{ℕ, true, false, none, some, List, [], ◌∷◌, pos, negsuc}
+use Rattle.std.specs.Prelude.{◌≡◌, refl, ◌∷◌}
+use Rattle.definition.specs.Prelude.{ℕ, true, false, none, some, List, [], pos, negsuc}
 use Rattle.definition.specs.Basics.{tab, same_bytes}
 use Rattle.definition.specs.Numbers.{half128}
 use Rattle.definition.specs.Ranges.{val, text}

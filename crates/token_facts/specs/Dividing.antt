@@ -1,9 +1,9 @@
 -- Dividers: a list of tokens is that of its concatenations and components; empty ones, and the ends of these, are found by a walk.
-use Rattle.std.specs.Prelude.{◌≡◌, refl, ◌≤◌}
+use Rattle.std.specs.Prelude.{◌≡◌, refl, ◌≤◌, ◌+◌, ◌&&◌, ◌||◌, ◌∷◌, ◌++◌, if◌then◌else◌}
 use Rattle.std.proofs.Common.{sym, ap, ◌∙◌, zero-add, add-zero, arith, length-append}
 use mathlib.Core.List.{append_assoc, reverse_aux, reverse_aux-eq, reverse_aux-append}
-use Rattle.definition.specs.Prelude.{ℕ, suc, ◌+◌, Bool, true, false, ◌&&◌, ◌||◌, not, List, [], ◌∷◌, ◌++◌, map, length, leb, eqb}
-use Rattle.definition.specs.Basics.{if◌then◌else◌, all}
+use Rattle.definition.specs.Prelude.{ℕ, suc, Bool, true, false, not, List, [], map, length, leb, eqb}
+use Rattle.definition.specs.Basics.{all}
 use Rattle.definition.specs.Characters.{char}
 use Rattle.definition.specs.TokenStream.{Leaf, ident, punct, literal, is_punct, Stream, done, leaf, delimited, on_first, new_component, divided}
 use Rattle.definition.specs.Tokens.{Token, single, opener, closer, is_done}

@@ -1,7 +1,7 @@
 -- A stream as a flat list of tokens, and what a walk over such a list finds, token by token: what the code's loops are held to. The
 -- theorems of this crate say that it is what the definition says of the stream.
-use Rattle.definition.specs.Prelude.{ℕ, zero, suc, ◌+◌, ◌*◌, ◌-◌, ◌/◌, ◌%◌, max, Bool, true, false, ◌&&◌, ◌||◌, not, List, [], ◌∷◌, ◌++◌, length, leb, eqb}
-use Rattle.definition.specs.Basics.{if◌then◌else◌}
+use Rattle.std.specs.Prelude.{◌+◌, ◌*◌, ◌-◌, ◌/◌, ◌%◌, ◌&&◌, ◌||◌, ◌∷◌, ◌++◌, if◌then◌else◌}
+use Rattle.definition.specs.Prelude.{ℕ, zero, suc, max, Bool, true, false, not, List, [], length, leb, eqb}
 use Rattle.definition.specs.Characters.{char}
 use Rattle.definition.specs.Image.{Rec, kinds, opens, delimiter}
 use Rattle.definition.specs.TokenStream.{Leaf, ident, punct, literal, leaf_text, is_ident, is_punct, Stream, done, leaf, delimited}

@@ -1,9 +1,9 @@
 -- The forests of a stream and of its components: sound where the tokens are, and of one record or more where there is a token.
-use Rattle.std.specs.Prelude.{◌≡◌, ◌≤◌}
+use Rattle.std.specs.Prelude.{◌≡◌, ◌≤◌, ◌&&◌, ◌∷◌, ◌++◌, if◌then◌else◌}
 use Rattle.std.proofs.Math.Path.{refl}
 use Rattle.std.proofs.Common.{arith}
-use Rattle.definition.specs.Prelude.{ℕ, Bool, true, false, ◌&&◌, not, List, [], ◌∷◌, ◌++◌, length, ltb}
-use Rattle.definition.specs.Basics.{if◌then◌else◌, is_empty, all}
+use Rattle.definition.specs.Prelude.{ℕ, Bool, true, false, not, List, [], length, ltb}
+use Rattle.definition.specs.Basics.{is_empty, all}
 use Rattle.definition.specs.Characters.{char}
 use Rattle.definition.specs.Image.{opens}
 use Rattle.definition.specs.Tree.{Forest, end, word, group, flat, sound_forest}

@@ -1,8 +1,7 @@
 -- One token of a list: what 50 asks of it is that it is sound and that its text lies within the lent text.
-use Rattle.std.specs.Prelude.{◌≡◌, refl, ◌≤◌}
+use Rattle.std.specs.Prelude.{◌≡◌, refl, ◌≤◌, ◌+◌, ◌-◌, ◌&&◌, ◌||◌, if◌then◌else◌}
 use Rattle.std.proofs.Common.{arith, lt-ltb, le-ltb, ltb-true, le-leb}
-use Rattle.definition.specs.Prelude.{ℕ, ◌+◌, ◌-◌, Bool, true, false, ◌&&◌, ◌||◌, not, List, length, drop, leb, ltb, eqb}
-use Rattle.definition.specs.Basics.{if◌then◌else◌}
+use Rattle.definition.specs.Prelude.{ℕ, Bool, true, false, not, List, length, drop, leb, ltb, eqb}
 use Rattle.definition.specs.Image.{opens}
 use Rattle.definition.specs.Tokens.{Token, single, opener, closer, kind_at, text_start, text_length, text_at, token_of, token_at, token_right}
 use Rattle.laws.specs.Tests.{by_test, eqb_iff, eqb_apart, leb_iff, and_iff, tested}

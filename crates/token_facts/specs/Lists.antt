@@ -1,7 +1,7 @@
 -- Laws of lists: tests of tables, and of several tests at once.
-use Rattle.std.specs.Prelude.{◌≡◌, ◌<◌}
+use Rattle.std.specs.Prelude.{◌≡◌, ◌<◌, ◌+◌, ◌∷◌}
 use Rattle.std.proofs.Math.Path.{refl}
-use Rattle.definition.specs.Prelude.{ℕ, ◌+◌, Bool, true, List, [], ◌∷◌}
+use Rattle.definition.specs.Prelude.{ℕ, Bool, true, List, []}
 use Rattle.definition.specs.Basics.{all, tab}
 use Rattle.laws.specs.Tests.{and_iff}
 use Rattle.laws.specs.Lists.{length_tab, get_or_tab, all_get_d, all_by}

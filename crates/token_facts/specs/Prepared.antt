@@ -1,10 +1,10 @@
 -- The written image: the tree of a list that is not refused fits, so its image passes the check and reads back as that tree; of a
 -- Rust token stream it is token_stream_to_ast's, its components turned round.
-use Rattle.std.specs.Prelude.{◌≡◌, refl, ◌≤◌}
+use Rattle.std.specs.Prelude.{◌≡◌, refl, ◌≤◌, ◌+◌, ◌-◌, ◌&&◌, ◌∷◌, if◌then◌else◌}
 use Rattle.std.proofs.Common.{◌∙◌, arith}
 use Rattle.std.proofs.lemmas.List.{length-map, length-reverse}
-use Rattle.definition.specs.Prelude.{ℕ, zero, suc, ◌+◌, ◌-◌, Bool, true, false, ◌&&◌, not, List, [], ◌∷◌, map, reverse, length, drop, leb, ltb, eqb}
-use Rattle.definition.specs.Basics.{if◌then◌else◌, is_empty, all, joined, tab}
+use Rattle.definition.specs.Prelude.{ℕ, zero, suc, Bool, true, false, not, List, [], map, reverse, length, drop, leb, ltb, eqb}
+use Rattle.definition.specs.Basics.{is_empty, all, joined, tab}
 use Rattle.definition.specs.Limits.{limits}
 use Rattle.definition.specs.Image.{padded}
 use Rattle.definition.specs.Tree.{Forest, Node, Tree, flat, packed, recs_of, literals_of, sound_forest, depth, sound_node, fits, image_of}

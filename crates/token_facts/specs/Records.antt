@@ -1,8 +1,8 @@
 -- The records, skips and depth that a walk over a component's tokens finds are those of its forest.
-use Rattle.std.specs.Prelude.{◌≡◌, refl, ◌≤◌}
+use Rattle.std.specs.Prelude.{◌≡◌, refl, ◌≤◌, ◌+◌, ◌-◌, ◌&&◌, ◌||◌, ◌∷◌, ◌++◌, if◌then◌else◌}
 use Rattle.std.proofs.Common.{append_assoc, append-nil, zero-add, add-zero, arith, length-append}
-use Rattle.definition.specs.Prelude.{ℕ, suc, ◌+◌, ◌-◌, max, Bool, true, false, ◌&&◌, ◌||◌, List, [], ◌∷◌, ◌++◌, length, leb}
-use Rattle.definition.specs.Basics.{if◌then◌else◌, is_empty}
+use Rattle.definition.specs.Prelude.{ℕ, suc, max, Bool, true, false, List, [], length, leb}
+use Rattle.definition.specs.Basics.{is_empty}
 use Rattle.definition.specs.Characters.{char}
 use Rattle.definition.specs.Image.{opens}
 use Rattle.definition.specs.Tree.{Forest, end, word, group, flat, depth}

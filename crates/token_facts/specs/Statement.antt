@@ -1,6 +1,6 @@
 -- What is claimed of tokens (document 02, L2).
-use Rattle.std.specs.Prelude.{◌≡◌, ◌≤◌, ◌<◌}
-use Rattle.definition.specs.Prelude.{ℕ, suc, ◌+◌, ◌*◌, ◌%◌, max, Bool, true, false, ◌&&◌, ◌||◌, List, [], ◌∷◌, ◌++◌, map, reverse, length, leb}
+use Rattle.std.specs.Prelude.{◌≡◌, ◌≤◌, ◌<◌, ◌+◌, ◌*◌, ◌%◌, ◌&&◌, ◌||◌, ◌∷◌, ◌++◌}
+use Rattle.definition.specs.Prelude.{ℕ, suc, max, Bool, true, false, List, [], map, reverse, length, leb}
 use Rattle.definition.specs.Basics.{ok, is_empty, all, joined}
 use Rattle.definition.specs.Limits.{limits}
 use Rattle.definition.specs.Image.{tree_of}

@@ -1,8 +1,8 @@
 -- A list of tokens and the stream that it holds: the list of a stream is read as that stream, and every list that is not refused with
 -- 50 is the list of a sound stream.
-use Rattle.std.specs.Prelude.{◌≡◌, refl}
+use Rattle.std.specs.Prelude.{◌≡◌, refl, ◌&&◌, ◌∷◌, ◌++◌, ◌%◌}
 use Rattle.std.proofs.Common.{sym, ap, append_assoc, append-nil, zero-add, arith}
-use Rattle.definition.specs.Prelude.{ℕ, zero, suc, true, ◌&&◌, List, [], ◌∷◌, ◌++◌, length, ◌%◌}
+use Rattle.definition.specs.Prelude.{ℕ, zero, suc, true, List, [], length}
 use Rattle.definition.specs.Basics.{all, tab}
 use Rattle.definition.specs.Image.{opens}
 use Rattle.definition.specs.TokenStream.{Leaf, Stream, done, leaf, delimited}

@@ -1,11 +1,11 @@
 -- 52: what a walk over all tokens adds up to, and the deepest nesting that it finds, are the counts and the depth of the stream's tree.
-use Rattle.std.specs.Prelude.{◌≡◌, ◌≤◌}
+use Rattle.std.specs.Prelude.{◌≡◌, ◌≤◌, ◌+◌, ◌&&◌, ◌∷◌, ◌++◌, if◌then◌else◌}
 use Rattle.std.proofs.Math.Path.{refl}
 use Rattle.std.proofs.Common.{sym, ap, ◌∙◌, zero-add, arith, length-append, leb-true, leb-false, le-leb}
 use mathlib.Core.List.{append_assoc, append-nil, map-map}
 use Rattle.std.proofs.lemmas.List.{length-map}
-use Rattle.definition.specs.Prelude.{ℕ, suc, ◌+◌, max, Bool, true, false, ◌&&◌, List, [], ◌∷◌, ◌++◌, map, reverse, length, leb, eqb}
-use Rattle.definition.specs.Basics.{if◌then◌else◌, sum, all, joined}
+use Rattle.definition.specs.Prelude.{ℕ, suc, max, Bool, true, false, List, [], map, reverse, length, leb, eqb}
+use Rattle.definition.specs.Basics.{sum, all, joined}
 use Rattle.definition.specs.Characters.{char}
 use Rattle.definition.specs.Limits.{limits}
 use Rattle.definition.specs.Tree.{Forest, Node, text_of, recs_of, depth}

@@ -1,11 +1,11 @@
 -- Sums, lengths and tests of lists that are turned round, joined, and counted.
-use Rattle.std.specs.Prelude.{◌≡◌}
+use Rattle.std.specs.Prelude.{◌≡◌, ◌+◌, ◌&&◌, ◌∷◌, ◌++◌}
 use Rattle.std.proofs.Math.Path.{refl}
 use Rattle.std.proofs.Common.{◌∙◌, length-append}
 use mathlib.Core.List.{reverse_aux, map-append}
 use Rattle.std.proofs.Math.Nat.{zero-add, add-zero}
 use native.Mathlib.Omega.{arith}
-use Rattle.definition.specs.Prelude.{ℕ, ◌+◌, Bool, true, false, ◌&&◌, List, [], ◌∷◌, ◌++◌, map, reverse, length}
+use Rattle.definition.specs.Prelude.{ℕ, Bool, true, false, List, [], map, reverse, length}
 use Rattle.definition.specs.Basics.{sum, all, joined}
 use Rattle.definition.specs.Tree.{Node, recs_of, text_of, all_recs}
 use Rattle.prepared.specs.Groups.{text_of_append}

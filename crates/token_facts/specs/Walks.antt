@@ -1,7 +1,7 @@
 -- Bounds that a walk keeps: a group's records are among all that come, and so is the text of a record that was begun.
-use Rattle.std.specs.Prelude.{◌≡◌, ◌≤◌}
+use Rattle.std.specs.Prelude.{◌≡◌, ◌≤◌, ◌∷◌, ◌++◌}
 use Rattle.std.proofs.Common.{sym, true≢false, arith, length-append}
-use Rattle.definition.specs.Prelude.{ℕ, zero, suc, true, List, [], ◌∷◌, ◌++◌, length}
+use Rattle.definition.specs.Prelude.{ℕ, zero, suc, true, List, [], length}
 use Rattle.definition.specs.Characters.{char}
 use Rattle.definition.specs.Tree.{text_of}
 use Rattle.definition.specs.TokenStream.{Leaf, leaf_text, is_ident}

@@ -1,10 +1,9 @@
 -- What a component's tokens weigh (Flat, weigh): its records, its bytes, and nothing where only dividers weigh.
-use Rattle.std.specs.Prelude.{◌≡◌, refl}
+use Rattle.std.specs.Prelude.{◌≡◌, refl, ◌+◌, ◌&&◌, ◌∷◌, ◌++◌, if◌then◌else◌}
 use mathlib.Core.List.{append_assoc}
 use Rattle.std.proofs.Math.Nat.{zero-add}
 use Rattle.std.proofs.Common.{arith, length-append}
-use Rattle.definition.specs.Prelude.{ℕ, suc, ◌+◌, Bool, true, false, ◌&&◌, List, [], ◌∷◌, ◌++◌, length}
-use Rattle.definition.specs.Basics.{if◌then◌else◌}
+use Rattle.definition.specs.Prelude.{ℕ, suc, Bool, true, false, List, [], length}
 use Rattle.definition.specs.Image.{kinds, delimiter}
 use Rattle.definition.specs.Tree.{Forest, end, word, group, flat, text_of}
 use Rattle.definition.specs.TokenStream.{Leaf, leaf_text, is_ident, Stream, done, leaf, delimited, begins_ident, before, forest_of}

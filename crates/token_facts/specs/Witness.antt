@@ -1,7 +1,7 @@
 -- A list of tokens that meets the premises of tokens-read, every-list, right-fits, tokens-prepared and tokens-rust, and its stream those
 -- of what a walk over its tokens finds; the theorems are applied to them.
-use Rattle.std.specs.Prelude.{◌≡◌, refl}
-use Rattle.definition.specs.Prelude.{ℕ, true, List, [], ◌∷◌, ◌++◌, map, reverse, length}
+use Rattle.std.specs.Prelude.{◌≡◌, refl, ◌∷◌, ◌++◌}
+use Rattle.definition.specs.Prelude.{ℕ, true, List, [], map, reverse, length}
 use Rattle.definition.specs.Basics.{ok, all, ascii}
 use Rattle.definition.specs.Image.{kinds, tree_of}
 use Rattle.definition.specs.Check.{check_image}

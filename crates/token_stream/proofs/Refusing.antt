@@ -1,11 +1,12 @@
 -- 50 to 53, each way out: what the walks found is what the definition asks of the list's stream.
+use Rattle.std.specs.Prelude.{◌+◌, ◌*◌, ◌&&◌, if◌then◌else◌}
 use mathlib.Core.Path.{◌≡◌, refl, sym, ap, ◌∙◌}
 use Prim.Native.Nat.{◌≤◌, ◌<◌}
 use native.Mathlib.Nat.{add-zero}
 use native.Mathlib.Omega.{arith}
 use borrow.Author.Tests.{le-leb, lt-leb}
-use Rattle.definition.specs.Prelude.{ℕ, suc, ◌+◌, ◌*◌, Bool, true, false, ◌&&◌, none, some, List, [], length, leb, ltb}
-use Rattle.definition.specs.Basics.{Result, ok, refused, refusal_of, ◌>>=◌, if◌then◌else◌, joined}
+use Rattle.definition.specs.Prelude.{ℕ, suc, Bool, true, false, none, some, List, [], length, leb, ltb}
+use Rattle.definition.specs.Basics.{Result, ok, refused, refusal_of, ◌>>=◌, joined}
 use Rattle.definition.specs.Limits.{limits}
 use Rattle.definition.specs.Refusals.{needs, token_number, bad_token, empty_component, over_limits, short_image_area}
 use Rattle.definition.specs.Tree.{Tree, literals_of, image_of}

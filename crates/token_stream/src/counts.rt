@@ -1,7 +1,6 @@
 // 52: the counts of the image. The walk gives up as soon as one is above its limit, so no sum can wrap.
-ghost use Rattle.std.specs.Prelude.{◌≡◌, true, ◌+◌, ◌<◌, drop};
+ghost use Rattle.std.specs.Prelude.{◌≡◌, true, ◌+◌, ◌<◌, drop, if◌then◌else◌};
 ghost use Rattle.std.proofs.Math.Option.{some, none};
-ghost use Rattle.definition.specs.Basics.{if◌then◌else◌};
 ghost use Rattle.definition.specs.Tokens.{count, tokens, token_at, tokens_right};
 ghost use Rattle.token_stream.specs.counts.Counting.{tally_of, token_tally, Small, sum_of, within as within_at, counts_in, within_in, counted_as};
 

@@ -1,7 +1,7 @@
 -- Merging from left to right, as the code walks, is the definition's merging.
-use Rattle.std.specs.Prelude.{◌≡◌, refl}
+use Rattle.std.specs.Prelude.{◌≡◌, refl, ◌∷◌}
 use Rattle.std.proofs.Common.{sym, ap, ◌∙◌, append_assoc}
-use Rattle.definition.specs.Prelude.{true, false, none, some, List, [], ◌∷◌}
+use Rattle.definition.specs.Prelude.{true, false, none, some, List, []}
 use Rattle.definition.specs.Image.{Placed}
 use Rattle.definition.specs.Component.{Component}
 use Rattle.definition.specs.Concatenation.{is_static_literal, bits_of, merge_onto, merge}

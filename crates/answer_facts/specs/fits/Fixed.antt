@@ -1,6 +1,6 @@
 -- A component as stage 2 leaves it.
-use Rattle.std.specs.Prelude.{◌≡◌}
-use Rattle.definition.specs.Prelude.{true, List, [], ◌∷◌}
+use Rattle.std.specs.Prelude.{◌≡◌, ◌∷◌}
+use Rattle.definition.specs.Prelude.{true, List, []}
 use Rattle.definition.specs.Image.{Placed}
 use Rattle.definition.specs.Component.{Component}
 use Rattle.definition.specs.Concatenation.{is_static_literal, bits_of, whole_literal}

@@ -1,7 +1,7 @@
 -- Stage 1 keeps a literal's bits or drops them, and stage 2 takes a part of them.
-use Rattle.std.specs.Prelude.{refl, ℕ, suc, ◌+◌, ◌≤◌, ◌<◌}
+use Rattle.std.specs.Prelude.{refl, ℕ, suc, ◌+◌, ◌≤◌, ◌<◌, ◌-ℤ◌}
 use Rattle.std.proofs.Common.{zero-le, le_refl, arith, length-take, length-drop, get_or-take, get_or-drop}
-use Rattle.definition.specs.Prelude.{Bool, not, Option, none, some, List, [], length, get_or, take, drop, ltb, ℤ, pos, nat_abs, ◌-ℤ◌}
+use Rattle.definition.specs.Prelude.{Bool, not, Option, none, some, List, [], length, get_or, take, drop, ltb, ℤ, pos, nat_abs}
 use Rattle.definition.specs.Basics.{ok, ◌>>=◌, is_empty, all}
 use Rattle.definition.specs.Refusals.{need, nothing_before_range, no_literal}
 use Rattle.definition.specs.Image.{Unparsed}

@@ -1,12 +1,12 @@
 -- Merging makes nothing heavier, and so the answer of a tree weighs no more than the tree.
-use Rattle.std.specs.Prelude.{◌≡◌, ◌≤◌}
+use Rattle.std.specs.Prelude.{◌≡◌, ◌≤◌, ◌+◌, ◌&&◌, ◌∷◌, ◌++◌, if◌then◌else◌}
 use Rattle.std.proofs.Math.Path.{sym, ap}
 use Rattle.std.proofs.Common.{◌∙◌, le_trans, length-append}
 use Rattle.std.proofs.Math.Nat.{le_refl}
 use native.Mathlib.Omega.{arith}
 use Rattle.std.proofs.Math.ListN.{length-map}
-use Rattle.definition.specs.Prelude.{ℕ, ◌+◌, Bool, true, false, ◌&&◌, List, [], ◌∷◌, ◌++◌, map, length}
-use Rattle.definition.specs.Basics.{if◌then◌else◌, sum, joined}
+use Rattle.definition.specs.Prelude.{ℕ, Bool, true, false, List, [], map, length}
+use Rattle.definition.specs.Basics.{sum, joined}
 use Rattle.definition.specs.Image.{Unparsed, Placed}
 use Rattle.definition.specs.Component.{Component}
 use Rattle.definition.specs.Concatenation.{Concatenation, is_static_literal, bits_of, whole_literal, merge_onto, merge, merged}

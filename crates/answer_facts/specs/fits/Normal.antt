@@ -1,9 +1,9 @@
 -- Stages 1 and 2 leave every literal with a static range as a literal of its own bits, from 0 to their number.
-use Rattle.std.specs.Prelude.{◌≡◌, refl, ℕ, zero, suc, ◌-◌, ◌≤◌, ◌<◌}
+use Rattle.std.specs.Prelude.{◌≡◌, refl, ℕ, zero, suc, ◌-◌, ◌≤◌, ◌<◌, ◌&&◌, ◌||◌, ◌∷◌, ◌-ℤ◌}
 use Rattle.std.proofs.Common.{sym, ◌∙◌, le_refl, arith, lt-ltb, ltb-true, ltb-false, leb-true}
 use Rattle.std.proofs.lemmas.Bool.{false≢true}
 use Rattle.std.proofs.Math.Seq.{length-slice}
-use Rattle.definition.specs.Prelude.{Bool, true, false, ◌&&◌, ◌||◌, Option, none, some, List, [], ◌∷◌, length, take, drop, ltb, ℤ, pos, negsuc, ◌-ℤ◌, lt_z, le_z, non_neg}
+use Rattle.definition.specs.Prelude.{Bool, true, false, Option, none, some, List, [], length, take, drop, ltb, ℤ, pos, negsuc, lt_z, le_z, non_neg}
 use Rattle.definition.specs.Basics.{ok, ◌>>=◌, same_bytes}
 use Rattle.definition.specs.Numbers.{half128, narrow}
 use Rattle.definition.specs.Refusals.{Reason, need, negative_bound, reversed, zero_width, start_above_width, end_above_width, range_above_width, end_zero_lem, open_start}

@@ -1,9 +1,9 @@
 -- An answer of a checked image fits the area, and stages 1 and 2 leave every component of one fixed.
-use Rattle.std.specs.Prelude.{◌≡◌, refl, ◌≤◌}
+use Rattle.std.specs.Prelude.{◌≡◌, refl, ◌≤◌, ◌+◌, ◌*◌, ◌∷◌}
 use Rattle.std.proofs.Common.{ap, ◌∙◌, le_refl, arith, length-append}
 use Rattle.std.proofs.lemmas.Bool.{false≢true}
 use Rattle.std.proofs.lemmas.Simd.{map-map}
-use Rattle.definition.specs.Prelude.{ℕ, ◌+◌, ◌*◌, Bool, true, List, [], ◌∷◌, map, length}
+use Rattle.definition.specs.Prelude.{ℕ, Bool, true, List, [], map, length}
 use Rattle.definition.specs.Basics.{◌>>=◌, sum, joined}
 use Rattle.definition.specs.Limits.{sizes}
 use Rattle.definition.specs.Image.{Unparsed, Placed, bytes_for, counts, tree_of}

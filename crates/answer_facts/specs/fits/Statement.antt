@@ -1,6 +1,6 @@
 -- What an answer of a checked image holds: its counts, its length, and that it fits the area of number 8.
-use Rattle.std.specs.Prelude.{◌≡◌, ◌≤◌}
-use Rattle.definition.specs.Prelude.{ℕ, ◌+◌, ◌*◌, List, map, length}
+use Rattle.std.specs.Prelude.{◌≡◌, ◌≤◌, ◌+◌, ◌*◌}
+use Rattle.definition.specs.Prelude.{ℕ, List, map, length}
 use Rattle.definition.specs.Basics.{ok, ◌>>=◌, joined}
 use Rattle.definition.specs.Limits.{sizes, area_needed}
 use Rattle.definition.specs.Image.{Placed, counts, tree_of}

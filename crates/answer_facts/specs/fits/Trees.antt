@@ -1,8 +1,8 @@
 -- The tree of an image that passes the check: as many concatenations, components and literal bytes as the header says, and short literals.
-use Rattle.std.specs.Prelude.{◌≡◌, ◌≤◌}
+use Rattle.std.specs.Prelude.{◌≡◌, ◌≤◌, ◌+◌, ◌/◌, ◌%◌, ◌^◌}
 use Rattle.std.proofs.Math.Path.{refl, ap, ap₂}
 use Rattle.std.proofs.Common.{◌∙◌, arith}
-use Rattle.definition.specs.Prelude.{ℕ, zero, suc, ◌+◌, ◌/◌, ◌%◌, ◌^◌, true, List, map, length, get_or, drop, leb, ltb}
+use Rattle.definition.specs.Prelude.{ℕ, zero, suc, true, List, map, length, get_or, drop, leb, ltb}
 use Rattle.definition.specs.Basics.{ok, sum, all, joined, tab}
 use Rattle.definition.specs.Limits.{limits}
 use Rattle.definition.specs.Image.{Unparsed, Placed, bytes_for, bits_at, counts, tables, component_count, record_count, literal_width, components_from, parts, tree_of}

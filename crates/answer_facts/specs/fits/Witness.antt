@@ -1,7 +1,7 @@
 -- Document 01's worked example meets the premises of `answer-fits` and `read-fixed`: its two literals merge, so it has fewer components
 -- and literal bytes after merging than before.
-use Rattle.std.specs.Prelude.{◌≡◌, refl}
-use Rattle.definition.specs.Prelude.{List, [], ◌∷◌, length}
+use Rattle.std.specs.Prelude.{◌≡◌, refl, ◌∷◌}
+use Rattle.definition.specs.Prelude.{List, [], length}
 use Rattle.definition.specs.Basics.{ok, ◌>>=◌, joined}
 use Rattle.definition.specs.Image.{Placed, tree_of}
 use Rattle.definition.specs.Check.{check_image}

@@ -1,6 +1,6 @@
 -- Merging from left to right, as the code walks: with a run of static literals that is open, or without one.
-use Rattle.std.specs.Prelude.{◌≡◌, refl}
-use Rattle.definition.specs.Prelude.{ℕ, true, false, Option, none, some, List, [], ◌∷◌, ◌++◌}
+use Rattle.std.specs.Prelude.{◌≡◌, refl, ◌∷◌, ◌++◌}
+use Rattle.definition.specs.Prelude.{ℕ, true, false, Option, none, some, List, []}
 use Rattle.definition.specs.Image.{Placed}
 use Rattle.definition.specs.Component.{Component}
 use Rattle.definition.specs.Concatenation.{is_static_literal, bits_of, whole_literal}

@@ -1,11 +1,11 @@
 -- What stands in an answer's bytes, read at its place: numbers, texts, bounds.
-use Rattle.std.specs.Prelude.{◌≡◌}
+use Rattle.std.specs.Prelude.{◌≡◌, ◌∷◌, ◌++◌, if◌then◌else◌}
 use Rattle.std.proofs.Math.Path.{refl, ap₂}
 use Rattle.std.proofs.Common.{sym, ap, ◌∙◌, add_assoc, arith, append_assoc, length-append, length-drop, drop-drop}
 use Prim.Native.Nat.{ℕ, zero, suc, ◌+◌, ◌*◌, ◌-◌, ◌^◌, ◌≤◌, ◌<◌}
 use Rattle.std.proofs.Math.Seq.{take-append_seam, drop-nil}
-use Rattle.definition.specs.Prelude.{Bool, true, false, List, [], ◌∷◌, ◌++◌, length, take, drop}
-use Rattle.definition.specs.Basics.{if◌then◌else◌, is_empty, sum, tab}
+use Rattle.definition.specs.Prelude.{Bool, true, false, List, [], length, take, drop}
+use Rattle.definition.specs.Basics.{is_empty, sum, tab}
 use Rattle.definition.specs.Image.{u32_at, padded, bytes_at, tables}
 use Rattle.definition.specs.Tree.{u32}
 use Rattle.definition.specs.Text.{Part}

@@ -1,9 +1,9 @@
 -- Stages 1 and 2 of a component: its texts stand in the component's text, and its literal has no more bits than before.
-use Rattle.std.specs.Prelude.{◌≡◌, refl, ℕ, ◌≤◌}
+use Rattle.std.specs.Prelude.{◌≡◌, refl, ℕ, ◌≤◌, ◌&&◌, ◌||◌, ◌∷◌, ◌++◌, ◌+ℤ◌, ◌-ℤ◌, if◌then◌else◌}
 use Rattle.std.proofs.Common.{ap, zero-le, arith, length-take, length-drop}
 use Rattle.std.proofs.Math.Nat.{le_refl}
-use Rattle.definition.specs.Prelude.{Bool, true, false, ◌&&◌, ◌||◌, not, Option, none, some, List, [], ◌∷◌, ◌++◌, length, take, drop, eqb, ℤ, pos, nat_abs, ◌+ℤ◌, ◌-ℤ◌, lt_z, le_z, non_neg}
-use Rattle.definition.specs.Basics.{ok, ◌>>=◌, if◌then◌else◌, is_empty}
+use Rattle.definition.specs.Prelude.{Bool, true, false, not, Option, none, some, List, [], length, take, drop, eqb, ℤ, pos, nat_abs, lt_z, le_z, non_neg}
+use Rattle.definition.specs.Basics.{ok, ◌>>=◌, is_empty}
 use Rattle.definition.specs.Characters.{char}
 use Rattle.definition.specs.Numbers.{try_parse}
 use Rattle.definition.specs.Refusals.{need, nothing_before_range, no_literal, overflow, negative_bound, reversed, zero_width, start_above_width, end_above_width, range_above_width, end_zero_lem, open_start}

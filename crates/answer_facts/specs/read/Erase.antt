@@ -1,9 +1,9 @@
 -- The stages do not look at the text starts: each stage of a tree without them is the stage of the tree, its result without them.
-use Rattle.std.specs.Prelude.{◌≡◌, refl}
+use Rattle.std.specs.Prelude.{◌≡◌, refl, ◌&&◌, ◌∷◌, ◌++◌, if◌then◌else◌}
 use Rattle.std.proofs.Common.{ap, ap₂, ◌∙◌}
 use Rattle.std.proofs.lemmas.List.{length-map}
-use Rattle.definition.specs.Prelude.{ℕ, suc, Bool, true, false, ◌&&◌, not, Option, none, some, List, [], ◌∷◌, map, ◌++◌, leb, ltb, eqb}
-use Rattle.definition.specs.Basics.{Result, ok, refused, ◌>>=◌, with_places, if◌then◌else◌, is_empty}
+use Rattle.definition.specs.Prelude.{ℕ, suc, Bool, true, false, not, Option, none, some, List, [], map, leb, ltb, eqb}
+use Rattle.definition.specs.Basics.{Result, ok, refused, ◌>>=◌, with_places, is_empty}
 use Rattle.definition.specs.Refusals.{need, refuse, middle_filler, opposite_fillers, zero_total_width, empty_after_colon}
 use Rattle.definition.specs.Image.{Unparsed, Placed}
 use Rattle.definition.specs.Text.{Part, part_of}

@@ -1,6 +1,7 @@
 -- How a fact is carried along: to what an operation gives where it does not refuse, to what is found, to every element of a list.
-use Rattle.definition.specs.Prelude.{ℕ, Bool, true, false, Option, none, some, List, [], ◌∷◌, ◌++◌}
-use Rattle.definition.specs.Basics.{Result, ok, Refusal, refused, ◌>>=◌, with_places, if◌then◌else◌}
+use Rattle.std.specs.Prelude.{◌∷◌, ◌++◌, if◌then◌else◌}
+use Rattle.definition.specs.Prelude.{ℕ, Bool, true, false, Option, none, some, List, []}
+use Rattle.definition.specs.Basics.{Result, ok, Refusal, refused, ◌>>=◌, with_places}
 
 pub data Yields {A : Type 0} (P : A → Type 0) : Result A → Type 0 where
   given : {a : A} → P a → Yields P (ok a)

@@ -1,10 +1,10 @@
 -- The components of an answer's bytes, read back one after the other, with their literals.
-use Rattle.std.specs.Prelude.{◌≡◌}
+use Rattle.std.specs.Prelude.{◌≡◌, ◌∷◌, ◌++◌, if◌then◌else◌}
 use Rattle.std.proofs.Math.Path.{refl, ap, ap₂}
 use Rattle.std.proofs.Common.{sym, ◌∙◌, arith, length-append}
 use Prim.Native.Nat.{ℕ, suc, ◌+◌, ◌*◌, ◌^◌, ◌<◌}
-use Rattle.definition.specs.Prelude.{Option, none, some, List, [], ◌∷◌, ◌++◌, map, length, drop, eqb}
-use Rattle.definition.specs.Basics.{if◌then◌else◌, sum, tab, joined}
+use Rattle.definition.specs.Prelude.{Option, none, some, List, [], map, length, drop, eqb}
+use Rattle.definition.specs.Basics.{sum, tab, joined}
 use Rattle.definition.specs.Limits.{sizes}
 use Rattle.definition.specs.Image.{Placed, u32_at, padded, bytes_at, bytes_for, tables}
 use Rattle.definition.specs.Tree.{u32, packed}

@@ -1,9 +1,9 @@
 -- The items of a text stand in it: one after the other, each with what stands inside it.
-use Rattle.std.specs.Prelude.{◌≡◌, refl, ℕ, zero, suc, ◌+◌}
+use Rattle.std.specs.Prelude.{◌≡◌, refl, ℕ, zero, suc, ◌+◌, ◌∷◌, ◌++◌}
 use Rattle.std.proofs.Common.{sym, ap, ◌∙◌, add-zero, arith, length-append, take-append-drop, drop-drop}
 use mathlib.Core.List.{append_assoc, drop_last-prefix}
 use Rattle.std.proofs.Math.Seq.{drop-append_seam}
-use Rattle.definition.specs.Prelude.{List, [], ◌∷◌, ◌++◌, length, take, drop, drop_last}
+use Rattle.definition.specs.Prelude.{List, [], length, take, drop, drop_last}
 use Rattle.definition.specs.Image.{Rec}
 use Rattle.definition.specs.Tree.{text_of}
 use Rattle.definition.specs.Text.{Part, Item, more, chunks, items_of, items, bytes_of, part_of}

@@ -1,8 +1,8 @@
 -- The components of a tree, placed: each one's text stands at its text start, and all of them are small.
-use Rattle.std.specs.Prelude.{◌≡◌, refl, ℕ, suc, ◌+◌, ◌*◌, ◌≤◌}
+use Rattle.std.specs.Prelude.{◌≡◌, refl, ℕ, suc, ◌+◌, ◌*◌, ◌≤◌, ◌∷◌, ◌++◌}
 use Rattle.std.proofs.Common.{ap, ◌∙◌, le_trans, arith, length-drop, take-append-drop}
 use Rattle.std.proofs.lemmas.List.{length-map}
-use Rattle.definition.specs.Prelude.{true, List, [], ◌∷◌, ◌++◌, map, length, drop}
+use Rattle.definition.specs.Prelude.{true, List, [], map, length, drop}
 use Rattle.definition.specs.Basics.{ok, sum, all, joined}
 use Rattle.definition.specs.Limits.{limits}
 use Rattle.definition.specs.Image.{parts}

@@ -1,10 +1,10 @@
 -- The answer's bytes, read back at document 01's offsets, say what the stages' answer says.
-use Rattle.std.specs.Prelude.{◌≡◌, refl, ℕ, suc, ◌+◌, ◌*◌, ◌^◌, ◌≤◌, ◌<◌}
+use Rattle.std.specs.Prelude.{◌≡◌, refl, ℕ, suc, ◌+◌, ◌*◌, ◌^◌, ◌≤◌, ◌<◌, ◌∷◌, ◌++◌}
 use Rattle.std.proofs.Math.Path.{sym, ap}
 use Rattle.std.proofs.Common.{◌∙◌, le_trans, add-zero, arith, length-append}
 use Rattle.std.proofs.lemmas.Simd.{map-map}
 use Rattle.std.proofs.lemmas.List.{length-map, map-append}
-use Rattle.definition.specs.Prelude.{Option, none, some, List, [], ◌∷◌, ◌++◌, map, length, leb}
+use Rattle.definition.specs.Prelude.{Option, none, some, List, [], map, length, leb}
 use Rattle.definition.specs.Basics.{sum, tab, joined}
 use Rattle.definition.specs.Limits.{limits, sizes}
 use Rattle.definition.specs.Image.{Placed, u32_at, bytes_at, tables}

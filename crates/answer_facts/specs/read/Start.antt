@@ -1,7 +1,7 @@
 -- An accepted run's answer tells its starting value whatever follows it in the area, and the text that it names lies in the image.
-use Rattle.std.specs.Prelude.{◌≡◌, refl, ◌≤◌, ◌<◌}
+use Rattle.std.specs.Prelude.{◌≡◌, refl, ◌≤◌, ◌<◌, ◌+◌, ◌^◌, ◌∷◌, ◌++◌}
 use Rattle.std.proofs.Common.{sym, ap, ◌∙◌, arith, append-nil}
-use Rattle.definition.specs.Prelude.{ℕ, ◌+◌, ◌^◌, true, Option, none, some, List, [], ◌∷◌, ◌++◌, length}
+use Rattle.definition.specs.Prelude.{ℕ, true, Option, none, some, List, [], length}
 use Rattle.definition.specs.Basics.{ok, joined, ascii}
 use Rattle.definition.specs.Limits.{sizes}
 use Rattle.definition.specs.Image.{Placed, u32_at, counts, tables, tree_of}

@@ -1,7 +1,7 @@
 -- The answer of an accepted run, read back from its bytes, is the stages' answer with each text as its bytes; and the stages do not
 -- look at the text starts.
-use Rattle.std.specs.Prelude.{◌≡◌}
-use Rattle.definition.specs.Prelude.{ℕ, ◌+◌, ◌*◌, ◌^◌, Option, none, some, true, List, [], ◌∷◌, ◌++◌, map, length, ℤ}
+use Rattle.std.specs.Prelude.{◌≡◌, ◌+◌, ◌*◌, ◌^◌, ◌∷◌, ◌++◌}
+use Rattle.definition.specs.Prelude.{ℕ, Option, none, some, true, List, [], map, length, ℤ}
 use Rattle.definition.specs.Basics.{Result, ok, refused, sum, tab}
 use Rattle.definition.specs.Image.{Unparsed, Placed, u32_at}
 use Rattle.definition.specs.Tree.{Tree, image_of, fits, u32, packed}

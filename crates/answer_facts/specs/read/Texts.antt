@@ -1,8 +1,8 @@
 -- Every text of a range that stage 1 reads stands in its component's text.
-use Rattle.std.specs.Prelude.{◌≡◌, refl, ℕ}
+use Rattle.std.specs.Prelude.{◌≡◌, refl, ℕ, ◌&&◌, ◌∷◌, ◌++◌, ◌+ℤ◌, ◌-ℤ◌, if◌then◌else◌}
 use Rattle.std.proofs.Common.{ap}
-use Rattle.definition.specs.Prelude.{Bool, true, false, ◌&&◌, not, Option, none, some, List, [], ◌∷◌, ◌++◌, take, drop, eqb, ℤ, pos, ◌+ℤ◌, ◌-ℤ◌}
-use Rattle.definition.specs.Basics.{ok, ◌>>=◌, if◌then◌else◌, is_empty}
+use Rattle.definition.specs.Prelude.{Bool, true, false, not, Option, none, some, List, [], take, drop, eqb, ℤ, pos}
+use Rattle.definition.specs.Basics.{ok, ◌>>=◌, is_empty}
 use Rattle.definition.specs.Characters.{char}
 use Rattle.definition.specs.Numbers.{narrow}
 use Rattle.definition.specs.Refusals.{Reason, need, refuse, bound_overflow, not_one_token, empty_range}

@@ -1,11 +1,11 @@
 -- The stages over a tree whose components' texts stand in one text: so do the answer's texts, and the answer is no larger than the tree.
-use Rattle.std.specs.Prelude.{◌≡◌, refl}
+use Rattle.std.specs.Prelude.{◌≡◌, refl, ◌&&◌, ◌∷◌, ◌++◌, if◌then◌else◌}
 use Rattle.std.proofs.Common.{ap, ap₂, ◌∙◌, arith, length-append}
 use Prim.Native.Nat.{ℕ, suc, ◌+◌, ◌≤◌}
 use Rattle.std.proofs.Math.Nat.{le_refl, le_trans}
 use Rattle.std.proofs.Math.ListN.{length-map}
-use Rattle.definition.specs.Prelude.{Bool, true, false, ◌&&◌, not, Option, none, some, List, [], ◌∷◌, ◌++◌, map, length, drop, ltb, eqb, pos}
-use Rattle.definition.specs.Basics.{Result, ok, ◌>>=◌, with_places, if◌then◌else◌, is_empty, sum, joined}
+use Rattle.definition.specs.Prelude.{Bool, true, false, not, Option, none, some, List, [], map, length, drop, ltb, eqb, pos}
+use Rattle.definition.specs.Basics.{Result, ok, ◌>>=◌, with_places, is_empty, sum, joined}
 use Rattle.definition.specs.Refusals.{need, empty_after_colon, zero_total_width}
 use Rattle.definition.specs.Image.{Unparsed, Placed}
 use Rattle.definition.specs.Tree.{text_of}

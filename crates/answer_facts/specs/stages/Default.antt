@@ -1,7 +1,7 @@
 -- What a default changes (document 02, L1): an empty one nothing, any other takes away the refusal 40 and changes no answer.
-use Rattle.std.specs.Prelude.{◌≡◌, refl}
+use Rattle.std.specs.Prelude.{◌≡◌, refl, ◌&&◌, ◌||◌, ◌∷◌}
 use Rattle.std.proofs.Common.{sym, ap, ◌∙◌}
-use Rattle.definition.specs.Prelude.{ℕ, suc, Bool, true, false, ◌&&◌, ◌||◌, not, Option, none, some, List, [], ◌∷◌, map, length, leb, eqb}
+use Rattle.definition.specs.Prelude.{ℕ, suc, Bool, true, false, not, Option, none, some, List, [], map, length, leb, eqb}
 use Rattle.definition.specs.Basics.{Result, ok, refused, refusal_of, ◌>>=◌, with_places, is_empty}
 use Rattle.definition.specs.Limits.{area_needed}
 use Rattle.definition.specs.Refusals.{need, mode_above_2, short_area, filler_without_start}

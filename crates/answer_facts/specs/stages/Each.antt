@@ -1,10 +1,10 @@
 -- Stages 1 and 2 over lists and trees, by what they accept: each component is read for itself, told only whether it is the most
 -- significant of concatenation 0. So a component can be put in another's place.
-use Rattle.std.specs.Prelude.{◌≡◌}
+use Rattle.std.specs.Prelude.{◌≡◌, ◌&&◌, ◌∷◌, ◌++◌}
 use Rattle.std.proofs.Math.Path.{refl}
 use Rattle.std.proofs.Common.{sym, ap, ◌∙◌}
 use Rattle.std.proofs.Math.Dec.{eqb-suc-zero}
-use Rattle.definition.specs.Prelude.{ℕ, suc, Bool, true, false, ◌&&◌, List, [], ◌∷◌, ◌++◌, length, eqb}
+use Rattle.definition.specs.Prelude.{ℕ, suc, Bool, true, false, List, [], length, eqb}
 use Rattle.definition.specs.Basics.{Result, ok, ◌>>=◌, is_empty}
 use Rattle.definition.specs.Component.{each_in, each}
 use Rattle.laws.specs.Results.{bind_ok, placed_ok}

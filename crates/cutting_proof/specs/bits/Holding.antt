@@ -1,11 +1,11 @@
 -- The answer holds each bit of a literal at its place.
-use Rattle.std.specs.Prelude.{◌≡◌, refl, ◌<◌}
+use Rattle.std.specs.Prelude.{◌≡◌, refl, ◌<◌, ◌+◌, ◌-◌, ◌∷◌, ◌++◌}
 use Rattle.std.proofs.Common.{sym, ap, ap₂, ◌∙◌, append_assoc, arith, lt-ltb, length-append, get_or-append-add, get_or-drop, get_or-take}
 use Rattle.std.proofs.lemmas.Bool.{false≢true}
 use Rattle.std.proofs.lemmas.Simd.{map-map}
 use Rattle.std.proofs.Math.ListN.{get_or-append}
 use Rattle.std.proofs.Math.Seq.{append_snoc, take-append_seam, length-slice}
-use Rattle.definition.specs.Prelude.{ℕ, ◌+◌, ◌-◌, true, none, some, List, [], ◌∷◌, ◌++◌, map, length, get_or, take, pos}
+use Rattle.definition.specs.Prelude.{ℕ, true, none, some, List, [], map, length, get_or, take, pos}
 use Rattle.definition.specs.Basics.{sum, joined}
 use Rattle.definition.specs.Image.{Placed}
 use Rattle.definition.specs.Ranges.{Usbr}

@@ -1,7 +1,7 @@
 -- What merging makes of a list in the midst of a run: the components below the run stay apart, and the run's bits stand in one literal.
-use Rattle.std.specs.Prelude.{◌≡◌, refl}
+use Rattle.std.specs.Prelude.{◌≡◌, refl, ◌&&◌, ◌∷◌, ◌++◌}
 use Rattle.std.proofs.Common.{sym, append_assoc, append-nil}
-use Rattle.definition.specs.Prelude.{ℕ, true, false, ◌&&◌, List, [], ◌∷◌, ◌++◌, map}
+use Rattle.definition.specs.Prelude.{ℕ, true, false, List, [], map}
 use Rattle.definition.specs.Basics.{is_empty, joined}
 use Rattle.definition.specs.Image.{Placed}
 use Rattle.definition.specs.Component.{Component}

@@ -1,9 +1,9 @@
 -- The places of a literal's bits and of its pieces' bits are the same.
-use Rattle.std.specs.Prelude.{◌≡◌, refl, ◌≤◌, ◌<◌}
+use Rattle.std.specs.Prelude.{◌≡◌, refl, ◌≤◌, ◌<◌, ◌+◌, ◌-◌, ◌∷◌, ◌++◌}
 use Rattle.std.proofs.Common.{sym, ◌∙◌, zero-add, add_assoc, arith, append_assoc, nltb→le}
 use Rattle.std.proofs.Math.Seq.{take-append_seam, take-append-add, get_or-append_seam}
 use Rattle.std.proofs.lemmas.List.{take-append-le, map-append}
-use Rattle.definition.specs.Prelude.{ℕ, suc, ◌+◌, ◌-◌, true, List, [], ◌∷◌, ◌++◌, map, length, take, ltb}
+use Rattle.definition.specs.Prelude.{ℕ, suc, true, List, [], map, length, take, ltb}
 use Rattle.definition.specs.Basics.{sum}
 use Rattle.definition.specs.Image.{Placed}
 use Rattle.definition.specs.Component.{Component}

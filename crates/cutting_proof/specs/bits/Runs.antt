@@ -1,7 +1,7 @@
 -- The run of literals with static ranges that ends a list.
-use Rattle.std.specs.Prelude.{◌≡◌, refl}
-use Rattle.definition.specs.Prelude.{Bool, true, false, ◌&&◌, List, [], ◌∷◌, ◌++◌}
-use Rattle.definition.specs.Basics.{if◌then◌else◌, is_empty}
+use Rattle.std.specs.Prelude.{◌≡◌, refl, ◌&&◌, ◌∷◌, ◌++◌, if◌then◌else◌}
+use Rattle.definition.specs.Prelude.{Bool, true, false, List, []}
+use Rattle.definition.specs.Basics.{is_empty}
 use Rattle.definition.specs.Image.{Placed}
 use Rattle.definition.specs.Component.{Component}
 use Rattle.definition.specs.Concatenation.{is_static_literal}

@@ -1,7 +1,7 @@
 -- The stages of a whole tree: every component after stage 2 is normal, and the answer's components are the merged concatenations'.
-use Rattle.std.specs.Prelude.{◌≡◌}
+use Rattle.std.specs.Prelude.{◌≡◌, ◌∷◌}
 use Rattle.std.proofs.Common.{ap, ◌∙◌, le_refl}
-use Rattle.definition.specs.Prelude.{true, List, [], ◌∷◌, map}
+use Rattle.definition.specs.Prelude.{true, List, [], map}
 use Rattle.definition.specs.Basics.{all, joined}
 use Rattle.definition.specs.Tree.{Node, Tree, sound_node, fits}
 use Rattle.definition.specs.Component.{Parsed}

@@ -1,6 +1,6 @@
 -- Bit places: the bits of a literal and of its pieces lie at the same place of the same component, and the answer holds them there.
-use Rattle.std.specs.Prelude.{◌≡◌, ◌≤◌, ◌<◌}
-use Rattle.definition.specs.Prelude.{ℕ, ◌+◌, ◌-◌, true, some, List, [], ◌∷◌, ◌++◌, length, get_or, ltb}
+use Rattle.std.specs.Prelude.{◌≡◌, ◌≤◌, ◌<◌, ◌+◌, ◌-◌, ◌∷◌, ◌++◌}
+use Rattle.definition.specs.Prelude.{ℕ, true, some, List, [], length, get_or, ltb}
 use Rattle.definition.specs.Basics.{ok, all}
 use Rattle.definition.specs.Image.{Placed}
 use Rattle.definition.specs.Tree.{Tree, fits}

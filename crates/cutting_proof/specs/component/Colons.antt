@@ -1,9 +1,8 @@
 -- A starting value's colon in a forest, and in the items of its records.
-use Rattle.std.specs.Prelude.{◌≡◌, refl}
+use Rattle.std.specs.Prelude.{◌≡◌, refl, ◌+◌, ◌∷◌, if◌then◌else◌}
 use Rattle.std.proofs.Common.{sym, ap, ◌∙◌, subst, true≢false, append-nil}
 use Rattle.std.proofs.lemmas.Bool.{false≢true}
-use Rattle.definition.specs.Prelude.{ℕ, ◌+◌, Bool, true, false, Option, none, some, List, [], ◌∷◌, length}
-use Rattle.definition.specs.Basics.{if◌then◌else◌}
+use Rattle.definition.specs.Prelude.{ℕ, Bool, true, false, Option, none, some, List, [], length}
 use Rattle.definition.specs.Characters.{char}
 use Rattle.definition.specs.Image.{opens}
 use Rattle.definition.specs.Tree.{Forest, end, word, group, text_of}

@@ -1,7 +1,7 @@
 -- The x of a bound that was read fits 128 bits.
-use Rattle.std.specs.Prelude.{◌≡◌, refl}
-use Rattle.definition.specs.Prelude.{ℕ, Bool, true, false, ◌&&◌, Option, none, some, List, [], ◌∷◌, length, get_or, take, drop, ltb, eqb, ℤ, pos, neg_ℤ, ◌+ℤ◌, ◌-ℤ◌}
-use Rattle.definition.specs.Basics.{Result, ok, refused, ◌>>=◌, if◌then◌else◌, is_empty}
+use Rattle.std.specs.Prelude.{◌≡◌, refl, ◌&&◌, ◌∷◌, ◌+ℤ◌, ◌-ℤ◌, if◌then◌else◌}
+use Rattle.definition.specs.Prelude.{ℕ, Bool, true, false, Option, none, some, List, [], length, get_or, take, drop, ltb, eqb, ℤ, pos, neg_ℤ}
+use Rattle.definition.specs.Basics.{Result, ok, refused, ◌>>=◌, is_empty}
 use Rattle.definition.specs.Characters.{char}
 use Rattle.definition.specs.Numbers.{half128, fits128, narrow, digits, signed_as, inner, radix_of, unsigned_parse, try_parse}
 use Rattle.definition.specs.Refusals.{Reason, need, refuse, not_one_token, bound_overflow, overflow}

@@ -1,9 +1,9 @@
 -- The items of a forest's records: one for each word and each group at its top level.
-use Rattle.std.specs.Prelude.{◌≡◌}
+use Rattle.std.specs.Prelude.{◌≡◌, ◌+◌, ◌&&◌, ◌∷◌, ◌++◌, if◌then◌else◌}
 use Rattle.std.proofs.Math.Path.{refl}
 use Rattle.std.proofs.Common.{ap, ◌∙◌, append_assoc, arith, length-append}
-use Rattle.definition.specs.Prelude.{ℕ, ◌+◌, Bool, true, false, ◌&&◌, not, Option, none, some, List, [], ◌∷◌, ◌++◌, drop_last, length, ltb, eqb}
-use Rattle.definition.specs.Basics.{if◌then◌else◌, is_empty, all}
+use Rattle.definition.specs.Prelude.{ℕ, Bool, true, false, not, Option, none, some, List, [], drop_last, length, ltb, eqb}
+use Rattle.definition.specs.Basics.{is_empty, all}
 use Rattle.definition.specs.Image.{Rec, kinds, opens, delimiter}
 use Rattle.definition.specs.Tree.{Forest, end, word, group, flat, text_of, sound_forest}
 use Rattle.definition.specs.Text.{Item, more, chunks, item_of, items_of, items}

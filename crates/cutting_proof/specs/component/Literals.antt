@@ -1,10 +1,10 @@
 -- Stage 1 of a literal with fixed bounds, and of what has a bracket that is read as two numbers.
-use Rattle.std.specs.Prelude.{◌≡◌, refl, ◌≤◌, ◌<◌}
+use Rattle.std.specs.Prelude.{◌≡◌, refl, ◌≤◌, ◌<◌, ◌∷◌, ◌+ℤ◌, if◌then◌else◌}
 use Rattle.std.proofs.Common.{sym, ap, ap₂, ◌∙◌, subst}
 use Rattle.std.proofs.lemmas.Bool.{false≢true, not-true}
 use Rattle.std.proofs.Math.Option.{none-ne-some}
-use Rattle.definition.specs.Prelude.{ℕ, Bool, true, false, not, Option, none, some, List, [], ◌∷◌, length, ℤ, pos, negsuc, ◌+ℤ◌}
-use Rattle.definition.specs.Basics.{Result, ok, refused, ◌>>=◌, if◌then◌else◌, is_empty}
+use Rattle.definition.specs.Prelude.{ℕ, Bool, true, false, not, Option, none, some, List, [], length, ℤ, pos, negsuc}
+use Rattle.definition.specs.Basics.{Result, ok, refused, ◌>>=◌, is_empty}
 use Rattle.definition.specs.Numbers.{fits128, try_parse}
 use Rattle.definition.specs.Refusals.{need, overflow, nothing_before_range, no_literal}
 use Rattle.definition.specs.Tree.{Forest, flat}

@@ -1,9 +1,9 @@
 -- Where a text stands does not matter for what is read from it: reading keeps what offsets are taken from.
-use Rattle.std.specs.Prelude.{◌≡◌, refl}
+use Rattle.std.specs.Prelude.{◌≡◌, refl, ◌+◌, ◌&&◌, ◌∷◌, ◌++◌, ◌+ℤ◌, ◌-ℤ◌, if◌then◌else◌}
 use Rattle.std.proofs.Common.{sym, ap, ap₂, ◌∙◌}
 use Rattle.std.proofs.Math.Path.{fun_ext}
-use Rattle.definition.specs.Prelude.{ℕ, zero, suc, ◌+◌, Bool, true, false, ◌&&◌, Option, none, some, List, [], ◌∷◌, ◌++◌, map, length, take, drop, eqb, ℤ, pos, ◌+ℤ◌, ◌-ℤ◌}
-use Rattle.definition.specs.Basics.{Result, ok, refused, ◌>>=◌, if◌then◌else◌}
+use Rattle.definition.specs.Prelude.{ℕ, zero, suc, Bool, true, false, Option, none, some, List, [], map, length, take, drop, eqb, ℤ, pos}
+use Rattle.definition.specs.Basics.{Result, ok, refused, ◌>>=◌}
 use Rattle.definition.specs.Characters.{char}
 use Rattle.definition.specs.Numbers.{narrow}
 use Rattle.definition.specs.Refusals.{Reason, need, refuse, not_one_token, bound_overflow}

@@ -1,9 +1,9 @@
 -- Stages 1 and 2 of a literal with fixed bounds, and of its pieces.
-use Rattle.std.specs.Prelude.{◌≡◌, ◌≤◌, ◌<◌}
+use Rattle.std.specs.Prelude.{◌≡◌, ◌≤◌, ◌<◌, ◌∷◌}
 use Rattle.std.proofs.Math.Path.{refl, ap}
 use Rattle.std.proofs.Common.{sym, ◌∙◌, subst}
 use Rattle.std.proofs.Math.Option.{none-ne-some}
-use Rattle.definition.specs.Prelude.{ℕ, Bool, true, false, not, Option, none, some, List, [], ◌∷◌, length}
+use Rattle.definition.specs.Prelude.{ℕ, Bool, true, false, not, Option, none, some, List, [], length}
 use Rattle.definition.specs.Basics.{Result, ok, refused, ◌>>=◌, with_places, is_empty}
 use Rattle.definition.specs.Refusals.{need, empty_after_colon}
 use Rattle.definition.specs.Image.{Rec, Unparsed, Placed}

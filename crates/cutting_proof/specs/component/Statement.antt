@@ -1,6 +1,6 @@
 -- What stages 1 and 2 make of a literal with fixed bounds, and of a piece of it.
-use Rattle.std.specs.Prelude.{◌≡◌, ◌≤◌, ◌<◌}
-use Rattle.definition.specs.Prelude.{ℕ, ◌-◌, Bool, true, false, some, List, [], ◌∷◌, length, take, drop, pos}
+use Rattle.std.specs.Prelude.{◌≡◌, ◌≤◌, ◌<◌, ◌-◌, ◌∷◌}
+use Rattle.definition.specs.Prelude.{ℕ, Bool, true, false, some, List, [], length, take, drop, pos}
 use Rattle.definition.specs.Basics.{ok}
 use Rattle.definition.specs.Image.{Unparsed, Placed}
 use Rattle.definition.specs.Tree.{Forest, end, Node, sound_forest}

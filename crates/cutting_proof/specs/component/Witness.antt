@@ -1,6 +1,6 @@
 -- A literal with a starting value that meets what the theorems ask: `a:5[..4]` of 4 bits, and the bracket `1..3` for a piece.
-use Rattle.std.specs.Prelude.{◌≡◌, refl}
-use Rattle.definition.specs.Prelude.{true, some, [], ◌∷◌}
+use Rattle.std.specs.Prelude.{◌≡◌, refl, ◌∷◌}
+use Rattle.definition.specs.Prelude.{true, some, []}
 use Rattle.definition.specs.Basics.{same_bytes, all, ascii}
 use Rattle.definition.specs.Numbers.{half128, digit_worth, digits_from, inner, unsigned_parse, try_parse}
 use Rattle.definition.specs.Image.{kinds}

@@ -1,7 +1,7 @@
 -- Stage 3 of a tree with cut literals: concatenations that stages 4 and 5 cannot tell from those of the tree.
-use Rattle.std.specs.Prelude.{◌≡◌, refl, ◌≤◌}
+use Rattle.std.specs.Prelude.{◌≡◌, refl, ◌≤◌, ◌∷◌}
 use Rattle.std.proofs.Common.{ap}
-use Rattle.definition.specs.Prelude.{ℕ, suc, Bool, true, none, some, List, [], ◌∷◌, length, ltb}
+use Rattle.definition.specs.Prelude.{ℕ, suc, Bool, true, none, some, List, [], length, ltb}
 use Rattle.definition.specs.Basics.{ok}
 use Rattle.definition.specs.Refusals.{zero_total_width}
 use Rattle.definition.specs.Image.{Placed}

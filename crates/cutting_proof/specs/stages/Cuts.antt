@@ -1,10 +1,10 @@
 -- A list of components with literals cut in places, and what every cut keeps: whether the list is empty, whether it has a component
 -- of a sort that no literal is, and the merged list.
-use Rattle.std.specs.Prelude.{◌≡◌, refl, ◌≤◌, ◌<◌}
+use Rattle.std.specs.Prelude.{◌≡◌, refl, ◌≤◌, ◌<◌, ◌&&◌, ◌||◌, ◌∷◌, ◌++◌}
 use Rattle.std.proofs.Common.{sym, ap, ◌∙◌, append_assoc, arith, take-append-drop, take-take, length-take-le, ltb-true}
 use Rattle.std.proofs.lemmas.List.{drop-append-le}
 use Rattle.std.proofs.Math.Seq.{slice, length-slice}
-use Rattle.definition.specs.Prelude.{ℕ, Bool, true, false, ◌&&◌, ◌||◌, List, [], ◌∷◌, ◌++◌, length, take, drop, ltb}
+use Rattle.definition.specs.Prelude.{ℕ, Bool, true, false, List, [], length, take, drop, ltb}
 use Rattle.definition.specs.Basics.{is_empty}
 use Rattle.definition.specs.Image.{Placed}
 use Rattle.definition.specs.Ranges.{Usbr}

@@ -1,10 +1,10 @@
 -- Stages 1 and 2 of the tree with the pieces: they differ from those of the tree with the literal in the literal's place only.
-use Rattle.std.specs.Prelude.{◌≡◌, refl, ◌≤◌, ◌<◌}
+use Rattle.std.specs.Prelude.{◌≡◌, refl, ◌≤◌, ◌<◌, ◌&&◌, ◌∷◌, ◌++◌}
 use Rattle.std.proofs.Math.Path.{sym, ap}
 use Rattle.std.proofs.Common.{ap₂, ◌∙◌, arith, ltb-true}
 use mathlib.Core.List.{map-append, head-eq_of_cons-eq, tail-eq_of_cons-eq}
 use Rattle.std.proofs.lemmas.List.{length-map}
-use Rattle.definition.specs.Prelude.{ℕ, Bool, true, false, ◌&&◌, Option, some, List, [], ◌∷◌, ◌++◌, map, length, ltb}
+use Rattle.definition.specs.Prelude.{ℕ, Bool, true, false, Option, some, List, [], map, length, ltb}
 use Rattle.definition.specs.Basics.{Result, ok, ◌>>=◌, is_empty}
 use Rattle.definition.specs.Image.{Unparsed, Placed}
 use Rattle.definition.specs.Tree.{Forest, end, Node, sound_forest}

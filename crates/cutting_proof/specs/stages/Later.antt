@@ -1,6 +1,6 @@
 -- Stages 3 to 5 give the same answer for the literal and for its pieces.
-use Rattle.std.specs.Prelude.{◌≡◌, ◌≤◌}
-use Rattle.definition.specs.Prelude.{ℕ, Bool, Option, List, [], ◌∷◌, ◌++◌, map, length}
+use Rattle.std.specs.Prelude.{◌≡◌, ◌≤◌, ◌∷◌, ◌++◌}
+use Rattle.definition.specs.Prelude.{ℕ, Bool, Option, List, [], map, length}
 use Rattle.definition.specs.Basics.{Result, ok, ◌>>=◌}
 use Rattle.definition.specs.Image.{Placed}
 use Rattle.definition.specs.Text.{Part}

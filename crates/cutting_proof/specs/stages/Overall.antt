@@ -1,8 +1,8 @@
 -- Stage 4 of such concatenations: it accepts them with the same result.
-use Rattle.std.specs.Prelude.{◌≡◌, refl}
+use Rattle.std.specs.Prelude.{◌≡◌, refl, ◌&&◌, ◌||◌, ◌∷◌, if◌then◌else◌}
 use Rattle.std.proofs.Common.{sym, ap, ap₂, ◌∙◌, subst}
-use Rattle.definition.specs.Prelude.{ℕ, suc, Bool, true, false, ◌&&◌, ◌||◌, not, Option, none, some, List, [], ◌∷◌, map, length, leb, eqb}
-use Rattle.definition.specs.Basics.{Result, ok, with_places, if◌then◌else◌}
+use Rattle.definition.specs.Prelude.{ℕ, suc, Bool, true, false, not, Option, none, some, List, [], map, length, leb, eqb}
+use Rattle.definition.specs.Basics.{Result, ok, with_places}
 use Rattle.definition.specs.Refusals.{need, refuse, filler_without_start, no_common_width, only_source, middle_filler, opposite_fillers}
 use Rattle.definition.specs.Image.{Placed}
 use Rattle.definition.specs.Component.{Component}

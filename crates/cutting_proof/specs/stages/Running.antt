@@ -1,7 +1,7 @@
 -- Stage 3 of a list with cut literals: the running check accepts it with the same result.
-use Rattle.std.specs.Prelude.{◌≡◌, ◌≤◌, ◌<◌}
+use Rattle.std.specs.Prelude.{◌≡◌, ◌≤◌, ◌<◌, ◌+◌, ◌-◌, ◌^◌, ◌∷◌}
 use Rattle.std.proofs.Common.{sym, ap, ◌∙◌, add-zero, add_assoc, le_trans, arith, ltb-true, lt-ltb}
-use Rattle.definition.specs.Prelude.{ℕ, suc, ◌+◌, ◌-◌, ◌^◌, Bool, true, false, not, Option, none, some, List, ◌∷◌, length, ltb, eqb, pos}
+use Rattle.definition.specs.Prelude.{ℕ, suc, Bool, true, false, not, Option, none, some, List, length, ltb, eqb, pos}
 use Rattle.definition.specs.Basics.{Result, ok, ◌>>=◌, with_places, is_empty, same_bytes}
 use Rattle.definition.specs.Numbers.{half128}
 use Rattle.definition.specs.Refusals.{need, sum_overflow, literal_in_sink}

@@ -1,7 +1,7 @@
 -- The starting value depends on the most significant component of concatenation 0 only.
-use Rattle.std.specs.Prelude.{◌≡◌, refl}
+use Rattle.std.specs.Prelude.{◌≡◌, refl, ◌∷◌, ◌++◌}
 use Rattle.std.proofs.Common.{◌∙◌, append-nil, append_assoc}
-use Rattle.definition.specs.Prelude.{ℕ, suc, true, not, Option, none, some, List, [], ◌∷◌, ◌++◌}
+use Rattle.definition.specs.Prelude.{ℕ, suc, true, not, Option, none, some, List, []}
 use Rattle.definition.specs.Basics.{Result, ok, ◌>>=◌, with_places, is_empty}
 use Rattle.definition.specs.Refusals.{need, empty_after_colon}
 use Rattle.definition.specs.Image.{Unparsed, Placed}

@@ -1,4 +1,5 @@
 -- 6 and 7: what a table of records gives at the places that the code reads, and each way through the record checker's loop.
+use Rattle.std.specs.Prelude.{◌+◌, ◌&&◌, ◌∷◌}
 use mathlib.Core.Path.{◌≡◌, refl, sym, ap, ◌∙◌}
 use mathlib.Core.Bool.{and-true}
 use native.Mathlib.Nat.{add-zero, sub-zero, suc-add, add-suc}
@@ -6,7 +7,7 @@ use native.Mathlib.Numerals.{add-one}
 use native.Mathlib.Omega.{arith}
 use borrow.Author.Tests.{leb-true, le-leb, lt-ltb, le-ltb, ne_eqb}
 use Prim.Native.Nat.{◌<◌, ◌≤◌, ◌-◌}
-use Rattle.definition.specs.Prelude.{ℕ, zero, suc, ◌+◌, Bool, true, false, ◌&&◌, List, ◌∷◌, length, take, drop, leb, ltb, eqb}
+use Rattle.definition.specs.Prelude.{ℕ, zero, suc, Bool, true, false, List, length, take, drop, leb, ltb, eqb}
 use Rattle.definition.specs.Basics.{Result, ok, refused, tab}
 use Rattle.definition.specs.Limits.{limits}
 use Rattle.definition.specs.Refusals.{need, bad_record, too_deep}

@@ -1,10 +1,11 @@
 -- 5: entries one by one, each law one turn of a loop: what is still to come, after what was seen.
+use Rattle.std.specs.Prelude.{◌+◌, ◌*◌, ◌&&◌, ◌∷◌}
 use mathlib.Core.Path.{◌≡◌, refl, sym, ap, ◌∙◌}
 use native.Mathlib.Nat.{add-zero, zero-add, add_assoc, mul-suc, mul-le-mul_left}
 use native.Mathlib.Numerals.{add-one}
 use native.Mathlib.Omega.{arith}
 use Prim.Native.Nat.{◌<◌, ◌≤◌, ◌-◌}
-use Rattle.definition.specs.Prelude.{ℕ, suc, ◌+◌, ◌*◌, Bool, true, false, ◌&&◌, List, [], ◌∷◌, map, leb, eqb}
+use Rattle.definition.specs.Prelude.{ℕ, suc, Bool, true, false, List, [], map, leb, eqb}
 use Rattle.definition.specs.Basics.{sum, all, tab}
 use Rattle.definition.specs.Image.{u32_at, bytes_for, counts, tables, component_count, record_count, literal_width}
 use Rattle.definition.specs.Check.{spares_zero, entries_right}

@@ -1,9 +1,10 @@
 -- Component after component, the places in an image that passed 2 to 4, and the whole check in its parts.
+use Rattle.std.specs.Prelude.{◌+◌, ◌&&◌}
 use mathlib.Core.Path.{◌≡◌, refl, sym, ap, ◌∙◌}
 use Prim.Native.Nat.{◌<◌, ◌≤◌, ◌-◌}
 use native.Mathlib.Omega.{arith}
 use borrow.Author.Tests.{lt-leb, le-leb, ne_eqb}
-use Rattle.definition.specs.Prelude.{ℕ, ◌+◌, Bool, true, false, ◌&&◌, List, map, length, leb, eqb}
+use Rattle.definition.specs.Prelude.{ℕ, Bool, true, false, List, map, length, leb, eqb}
 use Rattle.definition.specs.Basics.{Result, ok, refused, refusal_of, sum, all, tab}
 use Rattle.definition.specs.Refusals.{need, short_image, bad_count, bad_offset, bad_entry, bad_record}
 use Rattle.definition.specs.Image.{u32_at, bytes_for, counts, tables_for, tables, component_count, record_count, literal_width, start_at, entry_at}

@@ -1,9 +1,10 @@
 -- A byte against a power of two.
+use Rattle.std.specs.Prelude.{◌^◌}
 use mathlib.Core.Path.{◌≡◌}
 use native.Mathlib.Nat.{pow-le-pow_right}
 use native.Mathlib.Omega.{arith}
 use Prim.Native.Nat.{◌<◌, ◌≤◌}
-use Rattle.definition.specs.Prelude.{ℕ, ◌^◌, ltb}
+use Rattle.definition.specs.Prelude.{ℕ, ltb}
 
 -- a bit in one of eight places does not wrap
 pub in_byte : (k : ℕ) → k < 8 → 2 ^ k ≤ 256

@@ -1,6 +1,7 @@
 -- An opener's and a closer's rule, its delimiter's byte found by itself.
+use Rattle.std.specs.Prelude.{◌&&◌}
 use mathlib.Core.Path.{◌≡◌}
-use Rattle.definition.specs.Prelude.{ℕ, ◌&&◌, eqb}
+use Rattle.definition.specs.Prelude.{ℕ, eqb}
 use Rattle.definition.specs.Image.{Entry, kinds, delimiter}
 use Rattle.definition.specs.Check.{text_right, delimiter_right, close_right}
 use Rattle.image.specs.record_rules.Rules.{opener_right}

@@ -1,4 +1,5 @@
 -- Numbers and bytes written one next to the other, and whether bytes lie within so many.
+use Rattle.std.specs.Prelude.{◌+◌, ◌-◌, ◌%◌, ◌∷◌, ◌++◌}
 use mathlib.Core.Path.{◌≡◌, refl, sym, ap, ◌∙◌}
 use Prim.Native.Nat.{◌≤◌, ◌<◌}
 use native.Mathlib.Nat.{add-zero}
@@ -6,7 +7,7 @@ use native.Mathlib.Omega.{arith}
 use lib.ListN.{set}
 use lib.Seq.{sets}
 use borrow.Author.Tests.{le-leb, lt-leb, leb-true, leb-false}
-use Rattle.definition.specs.Prelude.{ℕ, ◌+◌, ◌-◌, ◌%◌, false, List, [], ◌∷◌, ◌++◌, leb}
+use Rattle.definition.specs.Prelude.{ℕ, false, List, [], leb}
 use Rattle.definition.specs.Image.{tables_for}
 use Rattle.definition.specs.Tree.{u32}
 use Rattle.laws.specs.Rows.{u32_low}

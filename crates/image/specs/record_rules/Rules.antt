@@ -1,6 +1,6 @@
 -- The image check's rules over numbers that were read already. Each is the definition's own where it is given what the image says.
-use Rattle.definition.specs.Prelude.{ℕ, ◌%◌, ◌^◌, Bool, true, ◌&&◌, leb, ltb, eqb}
-use Rattle.definition.specs.Basics.{if◌then◌else◌}
+use Rattle.std.specs.Prelude.{◌%◌, ◌^◌, ◌&&◌, if◌then◌else◌}
+use Rattle.definition.specs.Prelude.{ℕ, Bool, true, leb, ltb, eqb}
 use Rattle.definition.specs.Image.{Entry, kinds, opens, delimiter}
 use Rattle.definition.specs.Check.{text_right, delimiter_right}
 use Rattle.image.specs.declared.record_rules.Numbers.{Numbers}

@@ -1,8 +1,7 @@
 -- The structs of the reader, as the definition's records.
-use Rattle.std.specs.Prelude.{◌≡◌, refl}
+use Rattle.std.specs.Prelude.{◌≡◌, refl, ◌+◌, ◌*◌, if◌then◌else◌}
 use Rattle.std.proofs.Common.{ap, ◌∙◌}
-use Rattle.definition.specs.Prelude.{ℕ, ◌+◌, ◌*◌, List, get_or, eqb}
-use Rattle.definition.specs.Basics.{if◌then◌else◌}
+use Rattle.definition.specs.Prelude.{ℕ, List, get_or, eqb}
 use Rattle.definition.specs.Image.{u32_at, counts, tables_for, tables, Entry, entry_at}
 use Rattle.image.specs.declared.token_tree.Counts.{Counts}
 use Rattle.image.specs.declared.token_tree.Tables.{Tables}

@@ -1,9 +1,9 @@
 -- Rows one after the other: written so, and as the rows of a tree's parts.
-use Rattle.std.specs.Prelude.{◌≡◌, refl, ◌≤◌}
+use Rattle.std.specs.Prelude.{◌≡◌, refl, ◌≤◌, ◌+◌, ◌∷◌, ◌++◌}
 use Rattle.std.proofs.Common.{sym, ap, ◌∙◌, arith, length-append}
 use Rattle.std.proofs.lemmas.List.{map-append}
 use Rattle.std.proofs.lemmas.List.Edits.{sets}
-use Rattle.definition.specs.Prelude.{ℕ, ◌+◌, List, [], ◌∷◌, ◌++◌, map, length}
+use Rattle.definition.specs.Prelude.{ℕ, List, [], map, length}
 use Rattle.definition.specs.Basics.{joined}
 use Rattle.definition.specs.Tree.{u32, Tree, Node, recs_of, all_recs, text_of, literals_of, packed, record_bytes}
 use Rattle.laws.specs.Lists.{joined_append}

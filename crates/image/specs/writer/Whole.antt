@@ -1,9 +1,9 @@
 -- A header, and the tables filled with the rows of a tree: the tree's image.
-use Rattle.std.specs.Prelude.{◌≡◌, refl}
+use Rattle.std.specs.Prelude.{◌≡◌, refl, ◌+◌, ◌*◌, ◌++◌}
 use Rattle.std.proofs.Common.{sym, ap, ◌∙◌, zero-add, arith}
 use Rattle.std.proofs.Math.ListN.{length-append}
 use Rattle.std.proofs.lemmas.List.Edits.{sets}
-use Rattle.definition.specs.Prelude.{ℕ, ◌+◌, ◌*◌, List, ◌++◌, length}
+use Rattle.definition.specs.Prelude.{ℕ, List, length}
 use Rattle.definition.specs.Basics.{joined}
 use Rattle.definition.specs.Image.{tables_for}
 use Rattle.definition.specs.Tree.{u32, Tree, Node, recs_of, all_recs, image_of}

@@ -1,9 +1,9 @@
 -- The laws of a tree's rows on a small tree: their premises can be met, and what they say can be computed.
-use Rattle.std.specs.Prelude.{◌≡◌, refl, ◌≤◌, replicate}
+use Rattle.std.specs.Prelude.{◌≡◌, refl, ◌≤◌, replicate, ◌∷◌, ◌++◌}
 use Rattle.std.proofs.Common.{arith}
 use Rattle.std.proofs.lemmas.List.{length-replicate}
 use Rattle.std.proofs.lemmas.List.Edits.{sets}
-use Rattle.definition.specs.Prelude.{ℕ, List, [], ◌∷◌, ◌++◌, length, drop}
+use Rattle.definition.specs.Prelude.{ℕ, List, [], length, drop}
 use Rattle.definition.specs.Compute.{computed}
 use Rattle.definition.specs.Image.{kinds}
 use Rattle.definition.specs.Tree.{Tree, Node, end, word, group, image_of}

@@ -1,8 +1,8 @@
 -- Writing an image: its header, and the rows of its tables, each table filled from its start. What is said of a tree: once each table
 -- holds the tree's rows, the area holds the tree's image, and beyond it what it held.
-use Rattle.std.specs.Prelude.{◌≡◌, ◌≤◌}
+use Rattle.std.specs.Prelude.{◌≡◌, ◌≤◌, ◌+◌, ◌++◌}
 use Rattle.std.proofs.lemmas.List.Edits.{sets}
-use Rattle.definition.specs.Prelude.{ℕ, ◌+◌, List, [], ◌++◌, map, length, drop}
+use Rattle.definition.specs.Prelude.{ℕ, List, [], map, length, drop}
 use Rattle.definition.specs.Basics.{joined}
 use Rattle.definition.specs.Image.{tables_for}
 use Rattle.definition.specs.Tree.{u32, Tree, Node, recs_of, all_recs, text_of, literals_of, record_bytes, image_of}

@@ -1,5 +1,6 @@
 -- The outcome of a run as one number: the answer's length, or number · 2^32 + concatenation · 2^16 + component.
-use Rattle.definition.specs.Prelude.{ℕ, ◌+◌, ◌*◌, ◌^◌}
+use Rattle.std.specs.Prelude.{◌+◌, ◌*◌, ◌^◌}
+use Rattle.definition.specs.Prelude.{ℕ}
 use Rattle.definition.specs.Basics.{Result, ok, refused}
 
 abbrev pub code_of : Result ℕ → ℕ

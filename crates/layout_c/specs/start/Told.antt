@@ -1,6 +1,6 @@
 -- Where the starting value in force stands, as one number, and the bytes that the header finds by it (include/layout.h, layout_in_force).
-use Rattle.definition.specs.Prelude.{ℕ, ◌+◌, ◌*◌, ◌/◌, ◌%◌, ◌^◌, List, [], take, drop, eqb}
-use Rattle.definition.specs.Basics.{if◌then◌else◌}
+use Rattle.std.specs.Prelude.{◌+◌, ◌*◌, ◌/◌, ◌%◌, ◌^◌, if◌then◌else◌}
+use Rattle.definition.specs.Prelude.{ℕ, List, [], take, drop, eqb}
 use Rattle.stages.specs.declared.in_force.InForce.{InForce}
 use Rattle.stages.specs.declared.in_force.InForce.TheVariants.{Nothing, Image, Default}
 

@@ -1,4 +1,5 @@
 -- Division by ten in parts of 32 bits, and the digits that are left to write.
+use Rattle.std.specs.Prelude.{◌+◌, ◌*◌, ◌-◌, ◌/◌, ◌%◌, ◌^◌, ◌∷◌, ◌++◌}
 use mathlib.Core.Path.{◌≡◌, refl, sym, ap, ◌∙◌}
 use mathlib.Core.List.{append_assoc}
 use Prim.Native.Nat.{◌≤◌, ◌<◌}
@@ -6,7 +7,7 @@ use native.Mathlib.Nat.{div-add-mod'}
 use native.Mathlib.Omega.{arith}
 use borrow.Author.Tests.{le-ltb, ltb-true}
 use Rattle.laws.specs.Tests.{by_test}
-use Rattle.definition.specs.Prelude.{ℕ, zero, suc, ◌+◌, ◌*◌, ◌-◌, ◌/◌, ◌%◌, ◌^◌, Bool, true, false, List, [], ◌∷◌, ◌++◌, length, ltb}
+use Rattle.definition.specs.Prelude.{ℕ, zero, suc, Bool, true, false, List, [], length, ltb}
 use Rattle.definition.specs.Listing.{decimal_onto}
 use Rattle.listing.specs.digits.Put.{Put, ◌⨾◌, read_as, put_nothing}
 

@@ -1,10 +1,11 @@
 -- A number of 128 bits in two's complement: its sign and its size.
+use Rattle.std.specs.Prelude.{◌+◌, ◌*◌, ◌-◌, ◌^◌, ◌∷◌}
 use mathlib.Core.Path.{◌≡◌, ap}
 use Prim.Native.Nat.{◌≤◌, ◌<◌}
 use native.Mathlib.Nat.{suc-mul, add-mul, mul-le-mul_right}
 use native.Mathlib.Omega.{arith}
 use borrow.Author.Tests.{lt-ltb, le-ltb}
-use Rattle.definition.specs.Prelude.{ℕ, suc, ◌+◌, ◌*◌, ◌-◌, ◌^◌, List, [], ◌∷◌}
+use Rattle.definition.specs.Prelude.{ℕ, suc, List, []}
 use Rattle.definition.specs.Numbers.{half128}
 use Rattle.definition.specs.Answer.{untwos}
 use Rattle.definition.specs.Listing.{decimal, signed}

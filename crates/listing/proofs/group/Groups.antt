@@ -1,6 +1,7 @@
 -- A concatenation's own line, put together from what was written.
+use Rattle.std.specs.Prelude.{◌+◌, ◌*◌, ◌∷◌}
 use mathlib.Core.Path.{◌≡◌, ◌∙◌}
-use Rattle.definition.specs.Prelude.{ℕ, ◌+◌, ◌*◌, List, [], ◌∷◌}
+use Rattle.definition.specs.Prelude.{ℕ, List, []}
 use Rattle.definition.specs.Basics.{ascii}
 use Rattle.definition.specs.Image.{u32_at}
 use Rattle.definition.specs.Answer.{width_at, concat_at}

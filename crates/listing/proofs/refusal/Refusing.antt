@@ -1,6 +1,7 @@
 -- A refusal's line, put together from what was written.
+use Rattle.std.specs.Prelude.{◌∷◌, ◌++◌}
 use mathlib.Core.Path.{◌≡◌, sym, ap, ◌∙◌}
-use Rattle.definition.specs.Prelude.{ℕ, List, [], ◌∷◌, ◌++◌}
+use Rattle.definition.specs.Prelude.{ℕ, List, []}
 use Rattle.definition.specs.Basics.{ascii}
 use Rattle.definition.specs.Listing.{decimal, line, listing}
 use Rattle.errors.specs.Refused.{refused_as}

@@ -1,4 +1,5 @@
 -- Text and hex, byte by byte.
+use Rattle.std.specs.Prelude.{◌+◌, ◌-◌, ◌/◌, ◌%◌, ◌^◌, ◌&&◌, ◌∷◌, ◌++◌}
 use mathlib.Core.Path.{◌≡◌, refl, sym, ap, ◌∙◌}
 use mathlib.Core.List.{append-nil, reverse-append}
 use Prim.Native.Nat.{◌≤◌, ◌<◌}
@@ -6,7 +7,7 @@ use native.Mathlib.Numerals.{add-one}
 use native.Mathlib.Omega.{arith}
 use lib.Seq.{get_or-drop}
 use Rattle.laws.specs.Lists.{joined_append}
-use Rattle.definition.specs.Prelude.{ℕ, zero, suc, ◌+◌, ◌-◌, ◌/◌, ◌%◌, ◌^◌, Bool, true, false, ◌&&◌, not, List, [], ◌∷◌, ◌++◌, map, reverse, length, get_or, drop, eqb}
+use Rattle.definition.specs.Prelude.{ℕ, zero, suc, Bool, true, false, not, List, [], map, reverse, length, get_or, drop, eqb}
 use Rattle.definition.specs.Basics.{within, joined}
 use Rattle.definition.specs.Image.{padded, bytes_at}
 use Rattle.definition.specs.Listing.{hex_digit, hex, shown_byte, shown}

@@ -1,10 +1,11 @@
 -- The words of a line, put together from what was written.
+use Rattle.std.specs.Prelude.{◌+◌, ◌*◌, ◌^◌, ◌∷◌}
 use mathlib.Core.Path.{◌≡◌, ap}
 use mathlib.Core.List.{append-nil}
 use native.Mathlib.Omega.{arith}
 use Prim.Native.Nat.{◌≤◌}
 use borrow.Author.Tests.{ne_eqb}
-use Rattle.definition.specs.Prelude.{ℕ, ◌+◌, ◌*◌, ◌^◌, Bool, true, false, List, [], ◌∷◌}
+use Rattle.definition.specs.Prelude.{ℕ, Bool, true, false, List, []}
 use Rattle.definition.specs.Basics.{ascii}
 use Rattle.definition.specs.Answer.{is_set}
 use Rattle.definition.specs.Listing.{decimal, width_word, align_word, flag_word, summary_words}

@@ -1,12 +1,11 @@
 -- Writing at a place of a buffer: as much as fits is written, and the place after it is counted up to 2^64 - 1, the greatest usize.
-use Rattle.std.specs.Prelude.{◌≡◌, refl, ◌≤◌, ◌<◌, set}
+use Rattle.std.specs.Prelude.{◌≡◌, refl, ◌≤◌, ◌<◌, set, ◌+◌, ◌-◌, ◌^◌, ◌∷◌, ◌++◌, if◌then◌else◌}
 use Rattle.std.proofs.Common.{sym, ap, ◌∙◌, append_assoc, append-nil, le_refl, zero-add, add-zero, add-suc, suc-add, add_assoc, arith, length-append, take-append-drop, drop_of_length-le, add-one, length-take-le, take_all, take-suc, le-leb, leb-true, leb-false}
 use Rattle.std.proofs.lemmas.List.Edits.{sets, sets-eq}
 use Rattle.std.proofs.Math.Seq.{length-sets, set_out}
 use Rattle.std.proofs.lemmas.Bool.{lt-leb}
 use Rattle.laws.specs.Tests.{by_test}
-use Rattle.definition.specs.Prelude.{ℕ, true, false, suc, ◌+◌, ◌-◌, ◌^◌, List, [], ◌∷◌, ◌++◌, length, get_or, take, drop, leb}
-use Rattle.definition.specs.Basics.{if◌then◌else◌}
+use Rattle.definition.specs.Prelude.{ℕ, true, false, suc, List, [], length, get_or, take, drop, leb}
 
 -- a place, or the greatest usize where it is beyond
 unfoldable pub capped : ℕ → ℕ

@@ -1,5 +1,6 @@
 -- A concatenation's own line.
-use Rattle.definition.specs.Prelude.{ℕ, List, ◌∷◌}
+use Rattle.std.specs.Prelude.{◌∷◌}
+use Rattle.definition.specs.Prelude.{ℕ, List}
 use Rattle.definition.specs.Basics.{ascii}
 use Rattle.definition.specs.Answer.{Concat}
 use Rattle.definition.specs.Listing.{line, decimal, summary_words}

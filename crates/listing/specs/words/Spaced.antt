@@ -1,7 +1,7 @@
 -- A line of the listing: its first word, the other words with a space before each, a newline.
-use Rattle.std.specs.Prelude.{◌≡◌, refl}
+use Rattle.std.specs.Prelude.{◌≡◌, refl, ◌∷◌, ◌++◌}
 use Rattle.std.proofs.Common.{sym, ◌∙◌, append_assoc, append-nil}
-use Rattle.definition.specs.Prelude.{ℕ, List, [], ◌∷◌, ◌++◌}
+use Rattle.definition.specs.Prelude.{ℕ, List, []}
 use Rattle.definition.specs.Listing.{line}
 
 -- words, each with a space before it

@@ -1,7 +1,7 @@
 -- The listing of an accepted run, from its answer.
-use Rattle.std.specs.Prelude.{◌≡◌, ◌≤◌, ◌<◌}
+use Rattle.std.specs.Prelude.{◌≡◌, ◌≤◌, ◌<◌, ◌+◌, ◌*◌, ◌^◌}
 use Rattle.std.proofs.Common.{arith}
-use Rattle.definition.specs.Prelude.{ℕ, ◌+◌, ◌*◌, ◌^◌, List, length}
+use Rattle.definition.specs.Prelude.{ℕ, List, length}
 use Rattle.definition.specs.Basics.{ok, joined}
 use Rattle.definition.specs.Limits.{limits}
 use Rattle.definition.specs.Image.{counts, tree_of}

@@ -1,7 +1,7 @@
 -- The bytes of text of a component that stage 1 reads: with its starting value, at most twice the bytes of its records.
-use Rattle.std.specs.Prelude.{◌≤◌}
+use Rattle.std.specs.Prelude.{◌≤◌, ◌+◌, ◌*◌}
 use Rattle.std.proofs.Common.{arith}
-use Rattle.definition.specs.Prelude.{ℕ, ◌+◌, ◌*◌, Bool, true, false, length}
+use Rattle.definition.specs.Prelude.{ℕ, Bool, true, false, length}
 use Rattle.definition.specs.Image.{Unparsed}
 use Rattle.definition.specs.Tree.{text_of}
 use Rattle.definition.specs.Text.{items}

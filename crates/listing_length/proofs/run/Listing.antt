@@ -1,7 +1,7 @@
 -- The listing of every run, accepted or refused, is of at most `longest_listing` bytes.
-use Rattle.std.specs.Prelude.{◌≡◌, refl, ◌≤◌}
+use Rattle.std.specs.Prelude.{◌≡◌, refl, ◌≤◌, ◌-◌, ◌∷◌}
 use Rattle.std.proofs.Common.{le_trans, lit≤}
-use Rattle.definition.specs.Prelude.{ℕ, ◌-◌, List, [], ◌∷◌, length, take}
+use Rattle.definition.specs.Prelude.{ℕ, List, [], length, take}
 use Rattle.definition.specs.Basics.{Result, ok, refused, refusal_of}
 use Rattle.definition.specs.Limits.{max_input}
 use Rattle.definition.specs.Listing.{listing, program_area, output}

@@ -1,8 +1,8 @@
 -- The bytes of text of an answer: at most twice those of the tree's records.
-use Rattle.std.specs.Prelude.{◌≡◌, ◌≤◌}
+use Rattle.std.specs.Prelude.{◌≡◌, ◌≤◌, ◌+◌, ◌&&◌, ◌∷◌, ◌++◌, if◌then◌else◌}
 use Rattle.std.proofs.Common.{zero-le, le_refl, arith}
-use Rattle.definition.specs.Prelude.{ℕ, suc, ◌+◌, Bool, true, false, ◌&&◌, not, Option, none, some, List, [], ◌∷◌, ◌++◌, map}
-use Rattle.definition.specs.Basics.{ok, ◌>>=◌, with_places, if◌then◌else◌, is_empty, sum, joined}
+use Rattle.definition.specs.Prelude.{ℕ, suc, Bool, true, false, not, Option, none, some, List, [], map}
+use Rattle.definition.specs.Basics.{ok, ◌>>=◌, with_places, is_empty, sum, joined}
 use Rattle.definition.specs.Refusals.{need, empty_after_colon}
 use Rattle.definition.specs.Image.{Unparsed, Placed}
 use Rattle.definition.specs.Text.{Part, part_of}

@@ -1,8 +1,8 @@
 -- The bytes of text that items have: no more than the records they are made of, and what stands inside a group no more than the group.
-use Rattle.std.specs.Prelude.{◌≡◌, refl, ◌≤◌}
+use Rattle.std.specs.Prelude.{◌≡◌, refl, ◌≤◌, ◌+◌, ◌∷◌, ◌++◌}
 use Rattle.std.proofs.Common.{arith, length-append, take-append-drop}
 use mathlib.Core.List.{drop_last-prefix}
-use Rattle.definition.specs.Prelude.{ℕ, zero, suc, ◌+◌, List, [], ◌∷◌, ◌++◌, length, take, drop, drop_last}
+use Rattle.definition.specs.Prelude.{ℕ, zero, suc, List, [], length, take, drop, drop_last}
 use Rattle.definition.specs.Image.{Rec}
 use Rattle.definition.specs.Tree.{text_of}
 use Rattle.definition.specs.Text.{Item, more, chunks, item_of, items_of, items, bytes_of, part_of}

@@ -1,6 +1,6 @@
 -- The length of the longest listing. That no run's listing is longer stands in proofs/.
-use Rattle.std.specs.Prelude.{◌≡◌, refl}
-use Rattle.definition.specs.Prelude.{ℕ, ◌+◌, ◌*◌}
+use Rattle.std.specs.Prelude.{◌≡◌, refl, ◌+◌, ◌*◌}
+use Rattle.definition.specs.Prelude.{ℕ}
 use Rattle.definition.specs.Limits.{limits}
 
 -- The words of 16 concatenations and 256 components; three bytes for each byte of text, which an answer has at most twice (a

@@ -1,8 +1,8 @@
 -- The bytes of text of the bounds and ranges that are read of items: no more than the items have; a bracket without dots, twice.
-use Rattle.std.specs.Prelude.{◌≤◌}
+use Rattle.std.specs.Prelude.{◌≤◌, ◌+◌, ◌-◌, ◌∷◌, ◌++◌, ◌+ℤ◌, ◌-ℤ◌, if◌then◌else◌}
 use Rattle.std.proofs.Common.{zero-le, le_refl, le_trans, arith, length-append}
-use Rattle.definition.specs.Prelude.{ℕ, suc, ◌+◌, ◌-◌, Bool, true, false, not, Option, none, some, List, [], ◌∷◌, ◌++◌, length, take, drop, eqb, ℤ, pos, ◌+ℤ◌, ◌-ℤ◌}
-use Rattle.definition.specs.Basics.{Result, ok, ◌>>=◌, if◌then◌else◌, is_empty}
+use Rattle.definition.specs.Prelude.{ℕ, suc, Bool, true, false, not, Option, none, some, List, [], length, take, drop, eqb, ℤ, pos}
+use Rattle.definition.specs.Basics.{Result, ok, ◌>>=◌, is_empty}
 use Rattle.definition.specs.Characters.{char}
 use Rattle.definition.specs.Numbers.{narrow}
 use Rattle.definition.specs.Refusals.{Reason, need, refuse, bound_overflow, not_one_token, empty_range, second_dots}

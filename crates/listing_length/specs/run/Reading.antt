@@ -1,10 +1,10 @@
 -- What is read of an answer's bytes is no longer than the answer: its texts and literals, whatever the image.
-use Rattle.std.specs.Prelude.{◌≡◌, refl, ◌≤◌, ◌<◌}
+use Rattle.std.specs.Prelude.{◌≡◌, refl, ◌≤◌, ◌<◌, ◌+◌, ◌*◌, ◌^◌, ◌∷◌, if◌then◌else◌}
 use Rattle.std.proofs.Math.Path.{ap}
 use Rattle.std.proofs.Common.{◌∙◌, add-zero}
 use native.Mathlib.Omega.{arith}
-use Rattle.definition.specs.Prelude.{ℕ, suc, ◌+◌, ◌*◌, ◌^◌, Bool, Option, none, some, List, [], ◌∷◌, map, length, drop, eqb}
-use Rattle.definition.specs.Basics.{if◌then◌else◌, sum, tab, joined}
+use Rattle.definition.specs.Prelude.{ℕ, suc, Bool, Option, none, some, List, [], map, length, drop, eqb}
+use Rattle.definition.specs.Basics.{sum, tab, joined}
 use Rattle.definition.specs.Limits.{sizes}
 use Rattle.definition.specs.Image.{Placed, u32_at, bytes_for, tables}
 use Rattle.definition.specs.Tree.{u32}

@@ -1,12 +1,12 @@
 -- The records of an image that passes the check have T bytes of text in all: their text starts rise from 0 to T.
-use Rattle.std.specs.Prelude.{◌≡◌, ◌≤◌, ◌<◌}
+use Rattle.std.specs.Prelude.{◌≡◌, ◌≤◌, ◌<◌, ◌+◌, ◌*◌, ◌-◌, ◌∷◌, if◌then◌else◌}
 use Rattle.std.proofs.Math.Path.{refl, ap}
 use Rattle.std.proofs.Common.{◌∙◌, zero-add, take-append-drop, length-take, length-drop, eq-eqb, ne_eqb}
 use Rattle.std.proofs.Math.Numerals.{add-one}
 use native.Mathlib.Omega.{arith}
 use Rattle.std.proofs.Math.ListN.{length-append}
-use Rattle.definition.specs.Prelude.{ℕ, zero, suc, ◌+◌, ◌*◌, ◌-◌, Bool, true, List, [], ◌∷◌, length, take, drop, eqb}
-use Rattle.definition.specs.Basics.{ok, if◌then◌else◌, sum, all, joined, tab}
+use Rattle.definition.specs.Prelude.{ℕ, zero, suc, Bool, true, List, [], length, take, drop, eqb}
+use Rattle.definition.specs.Basics.{ok, sum, all, joined, tab}
 use Rattle.definition.specs.Image.{Entry, bytes_at, bytes_for, counts, tables, component_count, record_count, literal_width, start_at, entry_at, recs_from, components_from, parts, opens, tree_of}
 use Rattle.definition.specs.Check.{text_right, word_right, inside_of, closer_of, after_of, open_right, close_right, check_in, check_components, check_image}
 use Rattle.definition.specs.Tree.{text_of}

@@ -1,5 +1,6 @@
 -- The bytes of text of a component before and after the stages, and of a starting value.
-use Rattle.definition.specs.Prelude.{ℕ, ◌*◌, Option, none, some, length}
+use Rattle.std.specs.Prelude.{◌*◌}
+use Rattle.definition.specs.Prelude.{ℕ, Option, none, some, length}
 use Rattle.definition.specs.Image.{Unparsed, Placed}
 use Rattle.definition.specs.Tree.{text_of}
 use Rattle.definition.specs.Text.{Part}

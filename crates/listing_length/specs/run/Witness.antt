@@ -1,7 +1,7 @@
 -- A closed run that meets the premises of the theorems on the way: a starting value, and a bracket without dots, whose text is read twice.
-use Rattle.std.specs.Prelude.{◌≡◌, refl, ◌≤◌, ◌<◌}
+use Rattle.std.specs.Prelude.{◌≡◌, refl, ◌≤◌, ◌<◌, ◌*◌, ◌^◌, ◌∷◌}
 use Rattle.std.proofs.Common.{lit≤}
-use Rattle.definition.specs.Prelude.{ℕ, ◌*◌, ◌^◌, List, [], ◌∷◌, length}
+use Rattle.definition.specs.Prelude.{ℕ, List, [], length}
 use Rattle.definition.specs.Basics.{ok, joined, ascii}
 use Rattle.definition.specs.Image.{counts, kinds, tree_of}
 use Rattle.definition.specs.Check.{check_image}

@@ -1,7 +1,7 @@
 -- Reading digits one after the other: what each way through the loop gives.
+use Rattle.std.specs.Prelude.{if◌then◌else◌}
 use Rattle.std.proofs.Common.{◌≡◌, ℕ, ◌+◌, ◌*◌, ◌<◌, ◌≤◌, Bool, true, false, ltb, ◌⊎◌, List, [], ◌∷◌, length, get_or, drop, sym, refl, inl, inr, mul-le-mul_left, add-one, arith, drop_of_length-le, drop-cons, ltb-false, le-ltb, lt-ltb}
 use mathlib.Core.Option.{Option, none, some}
-use Rattle.definition.specs.Basics.{if◌then◌else◌}
 use Rattle.definition.specs.Numbers.{digit_worth, digit_in, digits_from, digits}
 use Rattle.numbers.specs.digit.Worth.{worth_byte}
 use Rattle.numbers.specs.parse.Parts.{capped, capped_option, full128}

@@ -1,7 +1,7 @@
 -- A number without a sign, in two halves, as a number with one: what each way through the code gives.
+use Rattle.std.specs.Prelude.{if◌then◌else◌}
 use Rattle.std.proofs.Common.{◌≡◌, ℕ, zero, suc, ◌+◌, ◌*◌, ◌^◌, ◌<◌, ◌≤◌, Bool, true, false, ltb, ℤ, pos, neg_ℤ, refl, mul-le-mul_right, suc-mul, arith, lit<, ltb-false, le-ltb, lt-ltb}
 use mathlib.Core.Option.{Option, none, some}
-use Rattle.definition.specs.Basics.{if◌then◌else◌}
 use Rattle.definition.specs.Numbers.{half128, narrow, signed_as}
 use Rattle.numbers.specs.Value.{value_of}
 use Rattle.numbers.specs.parse.Parts.{capped_option, negated, full128}

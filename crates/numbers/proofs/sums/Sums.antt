@@ -1,8 +1,8 @@
 -- A sum cut to 128 bits: the three signs tell whether it is the true sum. A difference is told by the sum that it was taken from.
 -- Assumes nothing.
+use Rattle.std.specs.Prelude.{if◌then◌else◌}
 use Rattle.std.proofs.Common.{◌≡◌, ℕ, ◌+◌, Bool, true, false, ◌⊎◌, ℤ, ◌+ℤ◌, ◌-ℤ◌, neg_ℤ, inl, inr, ⊎_elim, arith}
 use mathlib.Core.Option.{none, some}
-use Rattle.definition.specs.Basics.{if◌then◌else◌}
 use Rattle.definition.specs.Numbers.{half128, narrow}
 use Rattle.numbers.specs.Steps.{Wraps, overflow}
 use Rattle.numbers.proofs.Difference.{Is, Beyond, add_is, neg_is, same_is, beyond_fits, narrow_some, narrow_none}

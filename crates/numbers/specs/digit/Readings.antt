@@ -1,6 +1,6 @@
 -- What a digit is, at the ends of its ranges and next to them, and numbers that hang on it: closed examples, by computation.
-use Rattle.std.specs.Prelude.{◌≡◌, refl}
-use Rattle.definition.specs.Prelude.{Option, none, some, List, [], ◌∷◌, map, String, ℤ, pos, negsuc}
+use Rattle.std.specs.Prelude.{◌≡◌, refl, ◌∷◌}
+use Rattle.definition.specs.Prelude.{Option, none, some, List, [], map, String, ℤ, pos, negsuc}
 use Rattle.definition.specs.Basics.{ascii}
 use Rattle.definition.specs.Numbers.{try_parse, half128, digit_worth, digits_from, inner, unsigned_parse}
 use Rattle.numbers.specs.digit.Worth.{worth_byte}

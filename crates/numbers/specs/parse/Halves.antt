@@ -1,5 +1,6 @@
 -- The digits' value in two halves.
-use Rattle.definition.specs.Prelude.{ℕ, ◌+◌, ◌*◌, ◌^◌, Option, none, some}
+use Rattle.std.specs.Prelude.{◌+◌, ◌*◌, ◌^◌}
+use Rattle.definition.specs.Prelude.{ℕ, Option, none, some}
 use Rattle.numbers.specs.declared.parse.halves.U128.{U128}
 use Rattle.numbers.specs.declared.parse.halves.OptionU128.{OptionU128}
 use Rattle.numbers.specs.declared.parse.halves.OptionU128.TheVariants as U

@@ -1,6 +1,6 @@
 -- What the parts of reading a number give.
-use Rattle.definition.specs.Prelude.{ℕ, ◌*◌, ◌^◌, Option, none, some, ltb, eqb, ℤ, pos, neg_ℤ}
-use Rattle.definition.specs.Basics.{if◌then◌else◌}
+use Rattle.std.specs.Prelude.{◌*◌, ◌^◌, if◌then◌else◌}
+use Rattle.definition.specs.Prelude.{ℕ, Option, none, some, ltb, eqb, ℤ, pos, neg_ℤ}
 
 -- 2^128, kept shut in proofs
 unfoldable pub full128 : ℕ

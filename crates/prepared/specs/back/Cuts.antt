@@ -1,9 +1,9 @@
 -- Parts of a byte string that stand back to back, and tables of equal parts.
-use Rattle.std.specs.Prelude.{◌≡◌, ◌≤◌, ◌<◌}
+use Rattle.std.specs.Prelude.{◌≡◌, ◌≤◌, ◌<◌, ◌+◌, ◌*◌, ◌++◌}
 use Rattle.std.proofs.Common.{ap, ◌∙◌, length-take, length-drop, take-add, drop-drop}
 use Rattle.std.proofs.Math.Nat.{mul-zero}
 use native.Mathlib.Omega.{arith}
-use Rattle.definition.specs.Prelude.{ℕ, zero, suc, ◌+◌, ◌*◌, List, ◌++◌, length, take, drop}
+use Rattle.definition.specs.Prelude.{ℕ, zero, suc, List, length, take, drop}
 use Rattle.definition.specs.Basics.{joined, tab}
 
 module _ {A : Type 0} where

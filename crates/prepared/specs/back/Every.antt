@@ -1,8 +1,8 @@
 -- Every byte string that passes the image check is the image of a tree that fits.
-use Rattle.std.specs.Prelude.{◌≡◌, refl, ◌≤◌, ◌<◌}
+use Rattle.std.specs.Prelude.{◌≡◌, refl, ◌≤◌, ◌<◌, ◌+◌, ◌/◌, ◌%◌, ◌^◌, ◌&&◌, ◌∷◌, ◌++◌, if◌then◌else◌}
 use Rattle.std.proofs.Common.{arith, ne_eqb}
-use Rattle.definition.specs.Prelude.{ℕ, zero, suc, ◌+◌, ◌/◌, ◌%◌, ◌^◌, Bool, true, ◌&&◌, List, [], ◌∷◌, ◌++◌, map, length, get_or, take, leb, ltb, eqb}
-use Rattle.definition.specs.Basics.{ok, if◌then◌else◌, within, sum, all, joined, tab}
+use Rattle.definition.specs.Prelude.{ℕ, zero, suc, Bool, true, List, [], map, length, get_or, take, leb, ltb, eqb}
+use Rattle.definition.specs.Basics.{ok, within, sum, all, joined, tab}
 use Rattle.definition.specs.Limits.{limits}
 use Rattle.definition.specs.Refusals.{short_image, bad_count, bad_offset, bad_entry, bad_record}
 use Rattle.definition.specs.Image.{u32_at, bytes_for, counts, tables, record_count, literal_width, start_at, entry_at}

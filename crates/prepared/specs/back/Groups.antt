@@ -1,11 +1,11 @@
 -- Records that pass the check nest: they are the records of a forest that is sound and not too deep.
-use Rattle.std.specs.Prelude.{◌≡◌, ◌≤◌, ◌<◌}
+use Rattle.std.specs.Prelude.{◌≡◌, ◌≤◌, ◌<◌, ◌+◌, ◌-◌, ◌∷◌, ◌++◌, if◌then◌else◌}
 use Rattle.std.proofs.Math.Path.{refl}
 use Rattle.std.proofs.Common.{sym, ap, ◌∙◌, arith, drop-cons, length-take-le, lt-ltb}
 use Rattle.std.proofs.Math.ListN.{length-take, length-drop, length-map}
 use Rattle.std.proofs.Math.Seq.{split_at}
-use Rattle.definition.specs.Prelude.{ℕ, zero, suc, ◌+◌, ◌-◌, Bool, true, false, not, List, [], ◌∷◌, ◌++◌, map, length, get_or, take, drop, ltb, eqb}
-use Rattle.definition.specs.Basics.{ok, if◌then◌else◌, is_empty, all}
+use Rattle.definition.specs.Prelude.{ℕ, zero, suc, Bool, true, false, not, List, [], map, length, get_or, take, drop, ltb, eqb}
+use Rattle.definition.specs.Basics.{ok, is_empty, all}
 use Rattle.definition.specs.Limits.{limits}
 use Rattle.definition.specs.Refusals.{bad_record, too_deep}
 use Rattle.definition.specs.Image.{Entry, Rec, kinds, opens, delimiter}

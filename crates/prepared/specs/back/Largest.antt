@@ -1,8 +1,8 @@
 -- No image that passes the check is longer than `maxImage`, 51,304 bytes: "input above 51,306 bytes is judged on its first 51,306, which no
 -- image can fill."
-use Rattle.std.specs.Prelude.{◌≡◌, refl, ◌≤◌, ◌<◌}
+use Rattle.std.specs.Prelude.{◌≡◌, refl, ◌≤◌, ◌<◌, ◌+◌, ◌*◌, ◌-◌, ◌∷◌}
 use Rattle.std.proofs.Common.{arith, length-take-le}
-use Rattle.definition.specs.Prelude.{ℕ, ◌+◌, ◌*◌, ◌-◌, List, ◌∷◌, length, take}
+use Rattle.definition.specs.Prelude.{ℕ, List, length, take}
 use Rattle.definition.specs.Basics.{ok}
 use Rattle.definition.specs.Limits.{limits, max_image, max_input}
 use Rattle.definition.specs.Image.{u32_at, counts, tables}

@@ -1,10 +1,10 @@
 -- A literal's bits, packed again, are its bytes, since its spare bits are zero.
-use Rattle.std.specs.Prelude.{◌≡◌, ◌≤◌, ◌<◌}
+use Rattle.std.specs.Prelude.{◌≡◌, ◌≤◌, ◌<◌, ◌+◌, ◌*◌, ◌/◌, ◌%◌, ◌^◌}
 use Rattle.std.proofs.Common.{sym, ◌∙◌, lt_of_lt_of_le, arith, get_or-drop, ltb-false}
 use Rattle.std.proofs.Math.Path.{ap}
 use Rattle.std.proofs.Math.Nat.{zero-add, div-eq_of_lt, pow-le-pow_right}
 use Rattle.std.proofs.Math.ListN.{get_or-eq_default}
-use Rattle.definition.specs.Prelude.{ℕ, suc, ◌+◌, ◌*◌, ◌/◌, ◌%◌, ◌^◌, List, length, get_or, drop, ltb}
+use Rattle.definition.specs.Prelude.{ℕ, suc, List, length, get_or, drop, ltb}
 use Rattle.definition.specs.Basics.{sum}
 use Rattle.definition.specs.Image.{bytes_for, bits_at}
 use Rattle.definition.specs.Tree.{byte_of, packed}

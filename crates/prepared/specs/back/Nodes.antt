@@ -1,10 +1,10 @@
 -- The components of an image that passes the check are the nodes of a tree.
-use Rattle.std.specs.Prelude.{◌≡◌, ◌≤◌, ◌<◌}
+use Rattle.std.specs.Prelude.{◌≡◌, ◌≤◌, ◌<◌, ◌+◌, ◌/◌, ◌%◌, ◌^◌, ◌∷◌, ◌++◌}
 use Rattle.std.proofs.Math.Path.{refl, ap}
 use Rattle.std.proofs.Common.{◌∙◌, arith}
 use Rattle.std.proofs.Math.Nat.{add_assoc}
 use Rattle.std.proofs.Math.ListN.{length-map}
-use Rattle.definition.specs.Prelude.{ℕ, zero, suc, ◌+◌, ◌/◌, ◌%◌, ◌^◌, true, List, [], ◌∷◌, ◌++◌, map, length, get_or}
+use Rattle.definition.specs.Prelude.{ℕ, zero, suc, true, List, [], map, length, get_or}
 use Rattle.definition.specs.Basics.{ok, sum, all, joined, tab}
 use Rattle.definition.specs.Limits.{limits}
 use Rattle.definition.specs.Image.{Entry, bytes_for, bits_at}

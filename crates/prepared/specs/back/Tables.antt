@@ -1,9 +1,9 @@
 -- The tables of an image: numbers that are written again as they were read, and a list cut into parts.
-use Rattle.std.specs.Prelude.{◌≡◌, ◌≤◌, ◌<◌}
+use Rattle.std.specs.Prelude.{◌≡◌, ◌≤◌, ◌<◌, ◌+◌, ◌*◌, ◌∷◌, ◌++◌}
 use Rattle.std.proofs.Math.Path.{refl}
 use Rattle.std.proofs.Common.{sym, ap₂, ◌∙◌, mul-zero, add-zero, arith, take-append-drop, length-take-le}
 use Rattle.std.proofs.Math.ListN.{length-drop}
-use Rattle.definition.specs.Prelude.{ℕ, zero, suc, ◌+◌, ◌*◌, List, [], ◌∷◌, ◌++◌, map, length, drop}
+use Rattle.definition.specs.Prelude.{ℕ, zero, suc, List, [], map, length, drop}
 use Rattle.definition.specs.Basics.{joined, sum, tab}
 use Rattle.definition.specs.Image.{u32_at, parts}
 use Rattle.definition.specs.Tree.{u32}

@@ -1,12 +1,12 @@
 -- The records of an image, their texts one after the other: the text table, and the record table.
-use Rattle.std.specs.Prelude.{◌≡◌, ◌≤◌, ◌<◌}
+use Rattle.std.specs.Prelude.{◌≡◌, ◌≤◌, ◌<◌, ◌+◌, ◌-◌, ◌++◌, if◌then◌else◌}
 use Rattle.std.proofs.Math.Path.{refl}
 use Rattle.std.proofs.Common.{sym, ap, take-append-drop, drop-drop, eq-eqb, ne_eqb}
 use Rattle.std.proofs.Math.Numerals.{add-one}
 use native.Mathlib.Omega.{arith}
 use Rattle.std.proofs.Math.Seq.{drop-length}
-use Rattle.definition.specs.Prelude.{ℕ, zero, suc, ◌+◌, ◌-◌, true, List, ◌++◌, map, length, drop, eqb}
-use Rattle.definition.specs.Basics.{if◌then◌else◌, all, joined, tab}
+use Rattle.definition.specs.Prelude.{ℕ, zero, suc, true, List, map, length, drop, eqb}
+use Rattle.definition.specs.Basics.{all, joined, tab}
 use Rattle.definition.specs.Image.{Entry}
 use Rattle.definition.specs.Check.{text_right}
 use Rattle.definition.specs.Tree.{text_of, u32, record_bytes}

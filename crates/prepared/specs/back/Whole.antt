@@ -1,11 +1,11 @@
 -- An image whose tables are right is the image of a tree that fits: the parts, put together.
-use Rattle.std.specs.Prelude.{◌≡◌, ◌≤◌, ◌<◌}
+use Rattle.std.specs.Prelude.{◌≡◌, ◌≤◌, ◌<◌, ◌+◌, ◌*◌, ◌∷◌, ◌++◌, if◌then◌else◌}
 use Rattle.std.proofs.Math.Path.{sym}
 use Rattle.std.proofs.Common.{ap, ◌∙◌, zero-add, add-zero, arith, length-take, take_all, take-add, get_or-take, get_or-drop, ne_eqb}
 use Rattle.std.proofs.lemmas.Simd.{map-map}
 use Rattle.std.proofs.lemmas.List.{length-map}
-use Rattle.definition.specs.Prelude.{ℕ, suc, ◌+◌, ◌*◌, true, List, [], ◌∷◌, ◌++◌, map, length, get_or, take, drop, leb, ltb, eqb}
-use Rattle.definition.specs.Basics.{if◌then◌else◌, sum, all, joined, tab}
+use Rattle.definition.specs.Prelude.{ℕ, suc, true, List, [], map, length, get_or, take, drop, leb, ltb, eqb}
+use Rattle.definition.specs.Basics.{sum, all, joined, tab}
 use Rattle.definition.specs.Limits.{limits}
 use Rattle.definition.specs.Image.{Entry, u32_at, tables_for, bytes_for, parts}
 use Rattle.definition.specs.Tree.{Tree, u32, recs_of, all_recs, text_of, record_bytes, literals_of, image_of, sound_node, fits}

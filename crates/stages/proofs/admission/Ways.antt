@@ -1,7 +1,8 @@
 -- What a run asks before the stages: each way out of the three tests.
+use Rattle.std.specs.Prelude.{◌+◌, ◌*◌}
 use Rattle.std.proofs.Common.{◌≡◌, ◌<◌, ◌≤◌, sym, ◌∙◌, le-leb}
 use borrow.Author.Tests.{lt-leb}
-use Rattle.definition.specs.Prelude.{ℕ, ◌+◌, ◌*◌, Bool, true, false, List, leb}
+use Rattle.definition.specs.Prelude.{ℕ, Bool, true, false, List, leb}
 use Rattle.definition.specs.Basics.{ok, refused, refusal_of}
 use Rattle.definition.specs.Limits.{area_needed}
 use Rattle.definition.specs.Refusals.{need, short_area}

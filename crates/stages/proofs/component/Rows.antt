@@ -1,7 +1,8 @@
 -- Components in the store: the row of one, one more in front, two stores as one and one as two, and words written behind them.
+use Rattle.std.specs.Prelude.{◌+◌, ◌*◌, ◌-◌, ◌∷◌, ◌++◌}
 use Rattle.std.proofs.Common.{◌≡◌, ◌<◌, ◌≤◌, sym, refl, ap, ◌∙◌, subst, append_assoc, add-zero, arith, length-append, length-drop, take-append-drop, length-take-le, take-add, drop_at}
 use lib.Seq.{sets, sets-eq, length-sets, take-append_seam}
-use Rattle.definition.specs.Prelude.{ℕ, suc, ◌+◌, ◌*◌, ◌-◌, List, [], ◌∷◌, ◌++◌, map, length, get_or, take, drop}
+use Rattle.definition.specs.Prelude.{ℕ, suc, List, [], map, length, get_or, take, drop}
 use Rattle.definition.specs.Basics.{joined}
 use Rattle.definition.specs.Image.{Placed}
 use Rattle.definition.specs.Component.{Component}

@@ -1,9 +1,10 @@
 -- The two words of the i-th concatenation, where the words of all stand one after the other.
+use Rattle.std.specs.Prelude.{◌+◌, ◌*◌, ◌^◌, ◌∷◌}
 use Rattle.std.proofs.Common.{◌≡◌, sym, ap, ◌∙◌, subst, add-zero, zero-add, arith}
 use Rattle.definition.specs.Basics.{joined}
 use Rattle.definition.specs.Answer.{flag}
 use Rattle.definition.specs.Concatenation.{Concatenation, align_number, merge}
-use Rattle.definition.specs.Prelude.{ℕ, zero, suc, ◌+◌, ◌*◌, ◌^◌, List, [], ◌∷◌, map, length, get_or, drop}
+use Rattle.definition.specs.Prelude.{ℕ, zero, suc, List, [], map, length, get_or, drop}
 use Rattle.prepared.specs.Bytes.{Holds, holds_left, holds_right, holds_get_or}
 use Rattle.stages.specs.concatenation.Heads.{width_or0, head_words, HeadsAre, CheckedOne, AllChecked, one_more}
 

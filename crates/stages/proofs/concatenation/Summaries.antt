@@ -1,6 +1,7 @@
 -- Summaries: what holds of a concatenation that has one, and of lists of them.
+use Rattle.std.specs.Prelude.{◌&&◌, ◌||◌, ◌∷◌}
 use Rattle.std.proofs.Common.{◌≡◌, sym, refl, ap, ◌∙◌, eq-eqb, ne_eqb}
-use Rattle.definition.specs.Prelude.{ℕ, Option, none, some, Bool, true, false, not, ◌&&◌, ◌||◌, List, [], ◌∷◌, eqb}
+use Rattle.definition.specs.Prelude.{ℕ, Option, none, some, Bool, true, false, not, List, [], eqb}
 use Rattle.definition.specs.Basics.{Result, ok, Refusal, refused, refusal_of, ◌>>=◌, with_places}
 use Rattle.definition.specs.Refusals.{need, refuse, middle_filler, unequal_widths, filler_without_start, number_of}
 use Rattle.definition.specs.Concatenation.{Concatenation, is_align, align_mid}

@@ -1,6 +1,7 @@
 -- What the code reads in an answer's head is what the head says of the starting value.
+use Rattle.std.specs.Prelude.{◌+◌, ◌/◌, ◌%◌}
 use Rattle.std.proofs.Common.{◌≡◌, refl, eq-eqb, ne_eqb}
-use Rattle.definition.specs.Prelude.{ℕ, ◌+◌, ◌/◌, ◌%◌, List}
+use Rattle.definition.specs.Prelude.{ℕ, List}
 use Rattle.definition.specs.Image.{u32_at, tables}
 use Rattle.stages.specs.in_force.InForce.{told_in}
 use Rattle.stages.specs.declared.in_force.InForce.TheVariants.{Image, Default}

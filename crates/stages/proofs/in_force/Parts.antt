@@ -1,7 +1,8 @@
 -- The part of an image from a place on, by a test of where it ends.
+use Rattle.std.specs.Prelude.{◌+◌, ◌-◌}
 use Rattle.std.proofs.Common.{◌≡◌, ◌<◌, ◌≤◌, refl, ap, arith, le-leb}
 use borrow.Author.Tests.{lt-leb}
-use Rattle.definition.specs.Prelude.{ℕ, ◌+◌, ◌-◌, List, [], length, take, drop}
+use Rattle.definition.specs.Prelude.{ℕ, List, [], length, take, drop}
 use Rattle.stages.specs.in_force.InForce.{part_at}
 
 pub part_outside : (image : List ℕ) (at n : ℕ) → length image < at + n → [] ≡ part_at image at n

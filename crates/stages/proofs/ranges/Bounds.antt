@@ -1,8 +1,9 @@
 -- Bounds in code and in the definition: a text's emptiness, the number of a bound, and what simplifying and raising give.
+use Rattle.std.specs.Prelude.{◌+◌, ◌*◌, ◌-◌, ◌^◌, ◌∷◌, ◌+ℤ◌, if◌then◌else◌}
 use Rattle.std.proofs.Common.{◌≡◌, ◌<◌, ◌≤◌, sym, refl, ap, ◌∙◌, subst, arith, eq-eqb, ne_eqb}
 use lib.Dec.{eqb-suc-zero}
-use Rattle.definition.specs.Prelude.{ℕ, zero, suc, ◌+◌, ◌*◌, ◌-◌, ◌^◌, Bool, false, Option, none, some, List, [], ◌∷◌, length, ltb, eqb, ℤ, pos, negsuc, nat_abs, ◌+ℤ◌}
-use Rattle.definition.specs.Basics.{Result, ok, if◌then◌else◌, is_empty}
+use Rattle.definition.specs.Prelude.{ℕ, zero, suc, Bool, false, Option, none, some, List, [], length, ltb, eqb, ℤ, pos, negsuc, nat_abs}
+use Rattle.definition.specs.Basics.{Result, ok, is_empty}
 use Rattle.definition.specs.Numbers.{narrow, try_parse}
 use Rattle.definition.specs.Refusals.{Reason, refuse, overflow, bound_overflow}
 use Rattle.definition.specs.Image.{padded}

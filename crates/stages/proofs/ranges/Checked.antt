@@ -1,6 +1,7 @@
 -- Stage 2 of a range, on the definition alone: both bounds, then the tests, and what the tests leave.
+use Rattle.std.specs.Prelude.{◌&&◌}
 use Rattle.std.proofs.Common.{◌≡◌, sym, refl, ◌∙◌, subst}
-use Rattle.definition.specs.Prelude.{Bool, true, false, ◌&&◌, Option, none, some, pos, lt_z, non_neg}
+use Rattle.definition.specs.Prelude.{Bool, true, false, Option, none, some, pos, lt_z, non_neg}
 use Rattle.definition.specs.Basics.{Result, ok, refused, refusal_of, ◌>>=◌}
 use Rattle.definition.specs.Refusals.{need, negative_bound, reversed, zero_width}
 use Rattle.definition.specs.Ranges.{Usbr}

@@ -1,7 +1,8 @@
 -- The run tells the starting value in force: where an accepted answer's head says that it stands, its bytes are the definition's.
+use Rattle.std.specs.Prelude.{◌+◌, ◌∷◌, if◌then◌else◌}
 use Rattle.std.proofs.Common.{◌≡◌, ◌≤◌, sym, refl, ap, ◌∙◌, append-nil, arith, length-drop, ne_eqb}
-use Rattle.definition.specs.Prelude.{ℕ, zero, suc, ◌+◌, Bool, true, false, not, List, [], ◌∷◌, length, take, drop, eqb}
-use Rattle.definition.specs.Basics.{Result, ok, refused, ◌>>=◌, if◌then◌else◌, is_empty, area_after}
+use Rattle.definition.specs.Prelude.{ℕ, zero, suc, Bool, true, false, not, List, [], length, take, drop, eqb}
+use Rattle.definition.specs.Basics.{Result, ok, refused, ◌>>=◌, is_empty, area_after}
 use Rattle.definition.specs.Limits.{sizes}
 use Rattle.definition.specs.Image.{u32_at, padded, bytes_at, tables}
 use Rattle.definition.specs.Answer.{is_set, read_answer}

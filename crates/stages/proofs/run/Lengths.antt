@@ -1,7 +1,8 @@
 -- Stages 1 and 2 keep the sizes of a tree, and leave every component fixed.
+use Rattle.std.specs.Prelude.{◌+◌, ◌*◌, ◌&&◌, ◌∷◌}
 use Rattle.std.proofs.Common.{◌≡◌, ◌≤◌, sym, refl, ap, ◌∙◌, arith}
 use lib.ListN.{length-map}
-use Rattle.definition.specs.Prelude.{ℕ, suc, ◌+◌, ◌*◌, Bool, ◌&&◌, List, [], ◌∷◌, map, length}
+use Rattle.definition.specs.Prelude.{ℕ, suc, Bool, List, [], map, length}
 use Rattle.definition.specs.Basics.{Result, ok, refused, ◌>>=◌, is_empty, sum, joined}
 use Rattle.definition.specs.Image.{Unparsed, Placed, counts, tree_of}
 use Rattle.definition.specs.Check.{check_image}

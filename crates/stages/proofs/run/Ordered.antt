@@ -1,6 +1,7 @@
 -- The run in the order of the code: what it asks before the stages, the starting value, stages 1 and 2, and the later ones.
+use Rattle.std.specs.Prelude.{◌∷◌}
 use Rattle.std.proofs.Common.{◌≡◌, ◌<◌, sym, refl, ap, ◌∙◌, lt-ltb}
-use Rattle.definition.specs.Prelude.{ℕ, suc, Option, List, [], ◌∷◌, get_or, length, leb, ltb}
+use Rattle.definition.specs.Prelude.{ℕ, suc, Option, List, [], get_or, length, leb, ltb}
 use Rattle.definition.specs.Basics.{Result, ok, refused, ◌>>=◌, all}
 use Rattle.definition.specs.Limits.{area_needed}
 use Rattle.definition.specs.Refusals.{need, mode_above_2, short_area}

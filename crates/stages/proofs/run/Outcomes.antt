@@ -1,8 +1,9 @@
 -- What the stages come to, way by way.
+use Rattle.std.specs.Prelude.{◌*◌, ◌&&◌, ◌||◌, ◌∷◌, if◌then◌else◌}
 use Rattle.std.proofs.Common.{◌≡◌, ◌≤◌, sym, refl, ap, ◌∙◌, ap₂, arith}
 use lib.Seq.{sets}
-use Rattle.definition.specs.Prelude.{ℕ, ◌*◌, ◌&&◌, ◌||◌, Bool, true, false, not, none, some, List, [], ◌∷◌, map, length, eqb, leb}
-use Rattle.definition.specs.Basics.{Result, ok, refused, ◌>>=◌, if◌then◌else◌, is_empty, within}
+use Rattle.definition.specs.Prelude.{ℕ, Bool, true, false, not, none, some, List, [], map, length, eqb, leb}
+use Rattle.definition.specs.Basics.{Result, ok, refused, ◌>>=◌, is_empty, within}
 use Rattle.definition.specs.Refusals.{short_image, bad_count}
 use Rattle.definition.specs.Image.{Placed, counts, tree_of}
 use Rattle.definition.specs.Check.{counts_right, check_image}

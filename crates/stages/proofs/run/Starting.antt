@@ -1,6 +1,7 @@
 -- The text of the component that is scanned for a starting value begins within the image.
+use Rattle.std.specs.Prelude.{◌+◌, ◌*◌, ◌-◌, ◌∷◌, ◌++◌}
 use Rattle.std.proofs.Common.{◌≡◌, ◌<◌, ◌≤◌, sym, subst, add-zero, add_assoc, zero-add, arith, length-append, ne_eqb}
-use Rattle.definition.specs.Prelude.{ℕ, zero, suc, ◌+◌, ◌*◌, ◌-◌, List, [], ◌∷◌, ◌++◌, length}
+use Rattle.definition.specs.Prelude.{ℕ, zero, suc, List, [], length}
 use Rattle.definition.specs.Basics.{sum, joined, tab}
 use Rattle.definition.specs.Image.{u32_at, bytes_for, counts, component_count, tree_of}
 use Rattle.definition.specs.Tree.{Tree, Node, recs_of, text_of}

@@ -1,6 +1,7 @@
 -- The items of a forest's records: one for each word and each group at its top level.
+use Rattle.std.specs.Prelude.{◌+◌, ◌&&◌, ◌∷◌, ◌++◌}
 use Rattle.std.proofs.Common.{◌≡◌, refl, ap, ◌∙◌, append_assoc, arith, length-append}
-use Rattle.definition.specs.Prelude.{ℕ, ◌+◌, Bool, true, false, ◌&&◌, not, List, [], ◌∷◌, ◌++◌, length, ltb}
+use Rattle.definition.specs.Prelude.{ℕ, Bool, true, false, not, List, [], length, ltb}
 use Rattle.definition.specs.Basics.{is_empty, all}
 use Rattle.definition.specs.Image.{Rec, kinds, opens, delimiter}
 use Rattle.definition.specs.Tree.{Forest, end, word, group, flat, sound_forest}

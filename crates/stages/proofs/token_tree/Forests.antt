@@ -1,6 +1,7 @@
 -- The items of a sound forest stand in the table that its records are written to, and so do those inside its groups.
+use Rattle.std.specs.Prelude.{◌+◌, ◌*◌, ◌-◌, ◌^◌, ◌&&◌, ◌∷◌, ◌++◌}
 use Rattle.std.proofs.Common.{◌≡◌, ◌<◌, ◌≤◌, sym, refl, ap, ◌∙◌, subst, append_assoc, add_assoc, arith, length-append}
-use Rattle.definition.specs.Prelude.{ℕ, ◌+◌, ◌*◌, ◌-◌, ◌^◌, Bool, true, false, ◌&&◌, not, List, [], ◌∷◌, ◌++◌, drop_last, length, get_or, ltb}
+use Rattle.definition.specs.Prelude.{ℕ, Bool, true, false, not, List, [], drop_last, length, get_or, ltb}
 use Rattle.definition.specs.Basics.{is_empty, all}
 use Rattle.definition.specs.Image.{Rec, u32_at, bytes_at, opens, delimiter}
 use Rattle.definition.specs.Tree.{Forest, end, word, group, flat, text_of, u32, record_bytes, sound_forest}

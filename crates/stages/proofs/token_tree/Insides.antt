@@ -1,6 +1,7 @@
 -- Inside a group that is the last item of a run.
+use Rattle.std.specs.Prelude.{◌+◌, ◌-◌}
 use Rattle.std.proofs.Common.{◌≡◌, subst, arith}
-use Rattle.definition.specs.Prelude.{ℕ, ◌+◌, ◌-◌, true, List, length}
+use Rattle.definition.specs.Prelude.{ℕ, true, List, length}
 use Rattle.definition.specs.Text.{Item, items, is_group}
 use Rattle.stages.specs.token_tree.Laid.{Stands, Laid}
 use Rattle.stages.specs.token_tree.Table.{skip_in}

@@ -1,6 +1,7 @@
 -- The last item of a run, found by stepping from item to item.
+use Rattle.std.specs.Prelude.{◌+◌, ◌∷◌}
 use Rattle.std.proofs.Common.{◌≡◌, ◌<◌, ◌≤◌, sym, refl, ap, ◌∙◌, subst}
-use Rattle.definition.specs.Prelude.{ℕ, ◌+◌, List, ◌∷◌, length}
+use Rattle.definition.specs.Prelude.{ℕ, List, length}
 use Rattle.definition.specs.Text.{Item}
 use Rattle.stages.specs.token_tree.Laid.{Laid, Runs, place_of}
 use Rattle.stages.specs.token_tree.Table.{skip_in, start_or}

@@ -1,6 +1,7 @@
 -- What the functions of tables and texts make.
+use Rattle.std.specs.Prelude.{◌+◌, ◌*◌, ◌-◌}
 use Rattle.std.proofs.Common.{◌≡◌, eq-eqb, ne_eqb}
-use Rattle.definition.specs.Prelude.{ℕ, ◌+◌, ◌*◌, ◌-◌, List}
+use Rattle.definition.specs.Prelude.{ℕ, List}
 use Rattle.definition.specs.Image.{u32_at}
 use Rattle.stages.specs.declared.token_tree.types.PBind.{PBind}
 use Rattle.stages.specs.declared.token_tree.types.PText.{PText}

@@ -1,7 +1,8 @@
 -- Places of items, and a run cut at one.
+use Rattle.std.specs.Prelude.{◌+◌, ◌-◌, ◌&&◌, ◌∷◌, ◌++◌}
 use mathlib.Core.Bool.{and-true, and-false}
 use Rattle.std.proofs.Common.{◌≡◌, ◌<◌, ◌≤◌, sym, refl, ap, ◌∙◌, subst, add-zero, arith, get_or-drop, eq-eqb, ne_eqb}
-use Rattle.definition.specs.Prelude.{ℕ, zero, suc, ◌+◌, ◌-◌, Bool, true, false, ◌&&◌, not, List, [], ◌∷◌, ◌++◌, length, get_or, drop, eqb}
+use Rattle.definition.specs.Prelude.{ℕ, zero, suc, Bool, true, false, not, List, [], length, get_or, drop, eqb}
 use Rattle.definition.specs.Basics.{same_bytes}
 use Rattle.definition.specs.Image.{bytes_at, padded}
 use Rattle.definition.specs.Text.{Item, is_group, is_token}

@@ -1,6 +1,7 @@
 -- A component in the rows of its image: where its run ends, and that its items stand there.
+use Rattle.std.specs.Prelude.{◌+◌, ◌∷◌, ◌++◌}
 use Rattle.std.proofs.Common.{◌≡◌, ◌≤◌, sym, ap, ◌∙◌, add-zero, arith, length-append, eq-eqb, ne_eqb}
-use Rattle.definition.specs.Prelude.{ℕ, suc, ◌+◌, List, [], ◌∷◌, ◌++◌, length}
+use Rattle.definition.specs.Prelude.{ℕ, suc, List, [], length}
 use Rattle.definition.specs.Basics.{joined}
 use Rattle.definition.specs.Image.{bytes_for}
 use Rattle.definition.specs.Tree.{Node, recs_of, all_recs, literals_of, text_of, packed}

@@ -1,6 +1,7 @@
 -- Every image that passes the check has its components in rows.
+use Rattle.std.specs.Prelude.{◌+◌, ◌*◌, ◌^◌, ◌∷◌, ◌++◌}
 use Rattle.std.proofs.Common.{◌≡◌, ◌<◌, ◌≤◌, sym, refl, ap, ◌∙◌, subst, add_assoc, arith, length-append}
-use Rattle.definition.specs.Prelude.{ℕ, suc, ◌+◌, ◌*◌, ◌^◌, true, List, [], ◌∷◌, ◌++◌, map, length, leb}
+use Rattle.definition.specs.Prelude.{ℕ, suc, true, List, [], map, length, leb}
 use Rattle.definition.specs.Basics.{all, joined}
 use Rattle.definition.specs.Image.{bytes_for, tables, counts}
 use Rattle.definition.specs.Tree.{Tree, Node, recs_of, all_recs, text_of, literals_of, u32, packed, record_bytes, image_of, fits, sound_node}

@@ -1,6 +1,7 @@
 -- A run that is walked item by item stays within the image.
+use Rattle.std.specs.Prelude.{◌+◌, ◌^◌}
 use Rattle.std.proofs.Common.{◌≡◌, ◌<◌, ◌≤◌, sym, refl, ◌∙◌, subst, arith}
-use Rattle.definition.specs.Prelude.{ℕ, ◌+◌, ◌^◌, List}
+use Rattle.definition.specs.Prelude.{ℕ, List}
 use Rattle.definition.specs.Text.{Item}
 use Rattle.stages.specs.token_tree.Laid.{Laid, Runs}
 use Rattle.stages.specs.declared.token_tree.types.Tree.{Tree}

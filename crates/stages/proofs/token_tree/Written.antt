@@ -1,7 +1,8 @@
 -- The text of items that stand in a run is one part of the text.
+use Rattle.std.specs.Prelude.{◌+◌, ◌-◌, ◌∷◌}
 use Rattle.std.proofs.Common.{◌≡◌, ◌<◌, ◌≤◌, refl, ◌∙◌, add_assoc, arith, eq-eqb, ne_eqb}
 use borrow.Author.Tests.{eqb-false}
-use Rattle.definition.specs.Prelude.{ℕ, ◌+◌, ◌-◌, List, [], ◌∷◌, length, eqb}
+use Rattle.definition.specs.Prelude.{ℕ, List, [], length, eqb}
 use Rattle.definition.specs.Image.{padded, bytes_at}
 use Rattle.definition.specs.Text as Text
 use Rattle.definition.specs.Text.{Item, bytes_of}

@@ -1,5 +1,6 @@
 -- The bytes of the answer's blocks, from a row's words and from heads.
-use Rattle.definition.specs.Prelude.{ℕ, ◌+◌, ◌/◌, ◌%◌, ◌^◌, Bool, List, ◌++◌, get_or}
+use Rattle.std.specs.Prelude.{◌+◌, ◌/◌, ◌%◌, ◌^◌, ◌++◌}
+use Rattle.definition.specs.Prelude.{ℕ, Bool, List, get_or}
 use Rattle.definition.specs.Tree.{u32}
 use Rattle.definition.specs.Answer.{flag}
 

@@ -1,7 +1,7 @@
 -- The answer of a run that refuses nothing, block by block.
-use Rattle.std.specs.Prelude.{◌≡◌, ◌<◌, ◌≤◌}
+use Rattle.std.specs.Prelude.{◌≡◌, ◌<◌, ◌≤◌, ◌+◌, ◌*◌}
 use Rattle.std.proofs.lemmas.List.Edits.{sets}
-use Rattle.definition.specs.Prelude.{ℕ, ◌+◌, ◌*◌, List, map, length}
+use Rattle.definition.specs.Prelude.{ℕ, List, map, length}
 use Rattle.definition.specs.Basics.{joined}
 use Rattle.definition.specs.Limits.{sizes}
 use Rattle.definition.specs.Image.{Placed}

@@ -1,7 +1,7 @@
 -- A component's eleven words, from its parts in code and as the definition's, and the store that holds them.
-use Rattle.std.specs.Prelude.{◌≡◌, ◌<◌, ◌≤◌}
-use Rattle.definition.specs.Prelude.{ℕ, ◌+◌, ◌*◌, ◌-◌, ◌/◌, ◌%◌, ◌^◌, true, Option, none, some, List, [], ◌∷◌, map, length, drop, eqb, pos, non_neg}
-use Rattle.definition.specs.Basics.{if◌then◌else◌, is_empty, joined}
+use Rattle.std.specs.Prelude.{◌≡◌, ◌<◌, ◌≤◌, ◌+◌, ◌*◌, ◌-◌, ◌/◌, ◌%◌, ◌^◌, ◌∷◌, if◌then◌else◌}
+use Rattle.definition.specs.Prelude.{ℕ, true, Option, none, some, List, [], map, length, drop, eqb, pos, non_neg}
+use Rattle.definition.specs.Basics.{is_empty, joined}
 use Rattle.definition.specs.Image.{Placed}
 use Rattle.definition.specs.Text as Text
 use Rattle.definition.specs.Ranges as Ranges

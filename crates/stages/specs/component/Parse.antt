@@ -1,6 +1,6 @@
 -- Stage 1 of a component over the items of its run.
-use Rattle.std.specs.Prelude.{◌≡◌, ◌≤◌}
-use Rattle.definition.specs.Prelude.{ℕ, ◌+◌, Bool, true, false, none, some, List, [], ◌∷◌, ◌++◌, length, drop}
+use Rattle.std.specs.Prelude.{◌≡◌, ◌≤◌, ◌+◌, ◌∷◌, ◌++◌}
+use Rattle.definition.specs.Prelude.{ℕ, Bool, true, false, none, some, List, [], length, drop}
 use Rattle.definition.specs.Basics.{Result}
 use Rattle.definition.specs.Image.{Unparsed, kinds}
 use Rattle.definition.specs.Text.{Item, items}

@@ -1,6 +1,6 @@
 -- Stage 2 of a component, step by step as the code goes.
-use Rattle.std.specs.Prelude.{◌≡◌, ◌<◌, ◌≤◌}
-use Rattle.definition.specs.Prelude.{ℕ, ◌-◌, ◌^◌, true, ◌&&◌, List, pos, lt_z, le_z, non_neg}
+use Rattle.std.specs.Prelude.{◌≡◌, ◌<◌, ◌≤◌, ◌-◌, ◌^◌, ◌&&◌}
+use Rattle.definition.specs.Prelude.{ℕ, true, List, pos, lt_z, le_z, non_neg}
 use Rattle.definition.specs.Basics.{Result, ok, ◌>>=◌}
 use Rattle.definition.specs.Ranges.{Usbr}
 use Rattle.definition.specs.Component.{Component, ComponentType, literal, variable, filler, cut_literal, simplify_literal, if_static, if_static_end, if_known, has_end}

@@ -1,7 +1,7 @@
 -- The starting value in code, and the record behind its colon.
-use Rattle.std.specs.Prelude.{◌≡◌, ◌<◌, ◌≤◌, ◌⊎◌}
-use Rattle.definition.specs.Prelude.{ℕ, suc, ◌+◌, ◌*◌, ◌-◌, ◌^◌, Bool, true, false, ◌&&◌, not, Option, none, some, List, [], ◌∷◌, length, eqb}
-use Rattle.definition.specs.Basics.{Result, ok, ◌>>=◌, with_places, if◌then◌else◌, is_empty, sum, tab}
+use Rattle.std.specs.Prelude.{◌≡◌, ◌<◌, ◌≤◌, ◌⊎◌, ◌+◌, ◌*◌, ◌-◌, ◌^◌, ◌&&◌, ◌∷◌, if◌then◌else◌}
+use Rattle.definition.specs.Prelude.{ℕ, suc, Bool, true, false, not, Option, none, some, List, [], length, eqb}
+use Rattle.definition.specs.Basics.{Result, ok, ◌>>=◌, with_places, is_empty, sum, tab}
 use Rattle.definition.specs.Refusals.{need, empty_after_colon}
 use Rattle.definition.specs.Image.{Placed, u32_at, tree_of, component_count}
 use Rattle.definition.specs.Tree as Tree

@@ -1,7 +1,7 @@
 -- A component in code as the definition's: `base` is where its text begins in the text table, `at` the byte of the image where its
 -- literal stands.
-use Rattle.std.specs.Prelude.{◌≡◌, ◌≤◌}
-use Rattle.definition.specs.Prelude.{ℕ, ◌-◌, List, drop}
+use Rattle.std.specs.Prelude.{◌≡◌, ◌≤◌, ◌-◌}
+use Rattle.definition.specs.Prelude.{ℕ, List, drop}
 use Rattle.definition.specs.Basics.{Result, ok, refused, refusal_of}
 use Rattle.definition.specs.Component as Def
 use Rattle.numbers.specs.declared.OptionI128.{OptionI128}

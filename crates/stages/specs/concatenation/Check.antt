@@ -1,7 +1,7 @@
 -- Stage 3 of one concatenation over its kept components.
-use Rattle.std.specs.Prelude.{◌≡◌, ◌≤◌}
-use Rattle.definition.specs.Prelude.{ℕ, ◌+◌, ◌*◌, ◌/◌, ◌%◌, Bool, true, false, List, get_or, eqb}
-use Rattle.definition.specs.Basics.{Result, ok, ◌>>=◌, if◌then◌else◌}
+use Rattle.std.specs.Prelude.{◌≡◌, ◌≤◌, ◌+◌, ◌*◌, ◌/◌, ◌%◌, if◌then◌else◌}
+use Rattle.definition.specs.Prelude.{ℕ, Bool, true, false, List, get_or, eqb}
+use Rattle.definition.specs.Basics.{Result, ok, ◌>>=◌}
 use Rattle.definition.specs.Image.{Placed}
 use Rattle.definition.specs.Ranges.{static_width}
 use Rattle.definition.specs.Component.{Component, has_end}

@@ -1,7 +1,7 @@
 -- The two words of a concatenation, and stage 3 of all of them.
-use Rattle.std.specs.Prelude.{◌≡◌, ◌≤◌}
-use Rattle.definition.specs.Prelude.{ℕ, ◌+◌, ◌*◌, ◌/◌, ◌%◌, ◌^◌, Option, none, some, List, [], ◌∷◌, map, length, eqb, leb}
-use Rattle.definition.specs.Basics.{if◌then◌else◌, ok, joined}
+use Rattle.std.specs.Prelude.{◌≡◌, ◌≤◌, ◌+◌, ◌*◌, ◌/◌, ◌%◌, ◌^◌, ◌∷◌, if◌then◌else◌}
+use Rattle.definition.specs.Prelude.{ℕ, Option, none, some, List, [], map, length, eqb, leb}
+use Rattle.definition.specs.Basics.{ok, joined}
 use Rattle.definition.specs.Image.{Placed}
 use Rattle.definition.specs.Answer.{flag}
 use Rattle.definition.specs.Component.{Component}

@@ -1,7 +1,7 @@
 -- What stage 4 reads of a concatenation, its answer in code, and its steps.
-use Rattle.definition.specs.Prelude.{ℕ, suc, Bool, true, false, not, ◌&&◌, ◌||◌, Option, none, some, List, [], ◌∷◌, length, eqb}
-use Rattle.std.specs.Prelude.{◌≡◌, ◌≢◌}
-use Rattle.definition.specs.Basics.{Result, ok, refused, refusal_of, ◌>>=◌, with_places, if◌then◌else◌}
+use Rattle.definition.specs.Prelude.{ℕ, suc, Bool, true, false, not, Option, none, some, List, [], length, eqb}
+use Rattle.std.specs.Prelude.{◌≡◌, ◌≢◌, ◌&&◌, ◌||◌, ◌∷◌, if◌then◌else◌}
+use Rattle.definition.specs.Basics.{Result, ok, refused, refusal_of, ◌>>=◌, with_places}
 use Rattle.definition.specs.Refusals.{need, refuse, no_common_width, only_source, middle_filler, opposite_fillers}
 use Rattle.definition.specs.Image.{Placed}
 use Rattle.definition.specs.Component.{Component}

@@ -1,7 +1,7 @@
 -- The starting value in force in code: where an answer's head says that it stands, and the bytes that stand there.
-use Rattle.std.specs.Prelude.{◌≤◌}
-use Rattle.definition.specs.Prelude.{ℕ, ◌+◌, List, [], length, take, drop, leb}
-use Rattle.definition.specs.Basics.{Result, ok, refused, if◌then◌else◌}
+use Rattle.std.specs.Prelude.{◌≤◌, ◌+◌, if◌then◌else◌}
+use Rattle.definition.specs.Prelude.{ℕ, List, [], length, take, drop, leb}
+use Rattle.definition.specs.Basics.{Result, ok, refused}
 use Rattle.definition.specs.Limits.{max_image}
 use Rattle.definition.specs.Image.{u32_at, tables}
 use Rattle.definition.specs.Answer.{is_set}

@@ -1,7 +1,7 @@
 -- Stage 2 of a range, step by step as the code goes, each a part of the definition's.
-use Rattle.std.specs.Prelude.{◌≡◌}
-use Rattle.definition.specs.Prelude.{ℕ, Bool, true, false, ◌&&◌, ◌||◌, Option, none, some, ℤ, pos, lt_z, le_z, non_neg}
-use Rattle.definition.specs.Basics.{Result, ok, ◌>>=◌, if◌then◌else◌}
+use Rattle.std.specs.Prelude.{◌≡◌, ◌&&◌, ◌||◌, if◌then◌else◌}
+use Rattle.definition.specs.Prelude.{ℕ, Bool, true, false, Option, none, some, ℤ, pos, lt_z, le_z, non_neg}
+use Rattle.definition.specs.Basics.{Result, ok, ◌>>=◌}
 use Rattle.definition.specs.Refusals.{need, negative_bound, reversed, zero_width, start_above_width, end_above_width, range_above_width, end_zero_lem, open_start}
 use Rattle.definition.specs.Ranges.{Usb, Usbr, val, static_val}
 use Rattle.definition.specs.Component.{simplify_usb, simplify_end, if_static, if_static_end, if_known, is_zero, has_end, with_end}

@@ -1,7 +1,7 @@
 -- The scan for dots in code, and the definition's: the code's state is the definition's, items by their records.
-use Rattle.std.specs.Prelude.{◌≡◌, ◌<◌, ◌≤◌}
-use Rattle.definition.specs.Prelude.{ℕ, ◌+◌, ◌-◌, Bool, true, false, Option, none, some, List, length, take, drop, eqb}
-use Rattle.definition.specs.Basics.{Result, ok, refused, ◌>>=◌, if◌then◌else◌}
+use Rattle.std.specs.Prelude.{◌≡◌, ◌<◌, ◌≤◌, ◌+◌, ◌-◌, if◌then◌else◌}
+use Rattle.definition.specs.Prelude.{ℕ, Bool, true, false, Option, none, some, List, length, take, drop, eqb}
+use Rattle.definition.specs.Basics.{Result, ok, refused, ◌>>=◌}
 use Rattle.definition.specs.Text.{Item}
 use Rattle.definition.specs.Ranges.{Usb, Usbr, Scan, scan_dots, parse_start, parse_end}
 use Rattle.stages.specs.token_tree.Table.{start_in, RecordFits}

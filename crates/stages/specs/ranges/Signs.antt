@@ -1,6 +1,6 @@
 -- The signs of a bound in code, and the definition's cuts: a cut by the record of its sign, 0 for none.
-use Rattle.definition.specs.Prelude.{ℕ, ◌+◌, Option, none, some, List, length, eqb}
-use Rattle.definition.specs.Basics.{if◌then◌else◌}
+use Rattle.std.specs.Prelude.{◌+◌, if◌then◌else◌}
+use Rattle.definition.specs.Prelude.{ℕ, Option, none, some, List, length, eqb}
 use Rattle.definition.specs.Characters.{char}
 use Rattle.definition.specs.Text.{Item, is_token}
 use Rattle.definition.specs.Ranges.{Cut, cut_last, cut_pair}

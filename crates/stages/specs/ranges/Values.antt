@@ -1,6 +1,6 @@
 -- Bounds and ranges in code as the definition's. Texts are places of the text table; `base` is where the component's text begins there.
-use Rattle.std.specs.Prelude.{◌≡◌, ◌<◌}
-use Rattle.definition.specs.Prelude.{ℕ, ◌^◌, Option, none, some, List}
+use Rattle.std.specs.Prelude.{◌≡◌, ◌<◌, ◌^◌}
+use Rattle.definition.specs.Prelude.{ℕ, Option, none, some, List}
 use Rattle.definition.specs.Basics.{Result, ok, refused, refusal_of}
 use Rattle.definition.specs.Ranges as Ranges
 use Rattle.definition.specs.Ranges.{static_width}

@@ -1,6 +1,6 @@
 -- The whole run in code: the outcome and the lent area, as the definition's; and each function above the stages, by what is left to do.
-use Rattle.std.specs.Prelude.{◌≡◌, ◌≤◌}
-use Rattle.definition.specs.Prelude.{ℕ, ◌*◌, not, Option, List, length}
+use Rattle.std.specs.Prelude.{◌≡◌, ◌≤◌, ◌*◌}
+use Rattle.definition.specs.Prelude.{ℕ, not, Option, List, length}
 use Rattle.definition.specs.Basics.{Result, ok, ◌>>=◌, is_empty, joined, area_after}
 use Rattle.definition.specs.Limits.{area_needed}
 use Rattle.definition.specs.Image.{Placed, counts, tree_of}

@@ -1,6 +1,6 @@
 -- What an image that passed the check is: the image of a tree, its components in rows.
-use Rattle.std.specs.Prelude.{◌≡◌, ◌<◌, ◌≤◌}
-use Rattle.definition.specs.Prelude.{ℕ, ◌+◌, ◌^◌, List, length}
+use Rattle.std.specs.Prelude.{◌≡◌, ◌<◌, ◌≤◌, ◌+◌, ◌^◌}
+use Rattle.definition.specs.Prelude.{ℕ, List, length}
 use Rattle.definition.specs.Basics.{ok, joined}
 use Rattle.definition.specs.Image.{counts, tables, tree_of}
 use Rattle.definition.specs.Check.{check_image}

@@ -1,7 +1,7 @@
 -- The items of a run as they stand in the record table of an image, from record r up to record `stop`, their text from place s up to
 -- `tail` of the text table; `base` is where the component's text starts there.
-use Rattle.std.specs.Prelude.{◌≡◌, ◌<◌, ◌≤◌}
-use Rattle.definition.specs.Prelude.{ℕ, zero, suc, ◌+◌, ◌*◌, ◌-◌, ◌^◌, true, false, List, [], ◌∷◌, length, get_or}
+use Rattle.std.specs.Prelude.{◌≡◌, ◌<◌, ◌≤◌, ◌+◌, ◌*◌, ◌-◌, ◌^◌, ◌∷◌}
+use Rattle.definition.specs.Prelude.{ℕ, zero, suc, true, false, List, [], length, get_or}
 use Rattle.definition.specs.Image.{bytes_at, kinds, delimiter}
 use Rattle.definition.specs.Tree.{Forest, flat, text_of, record_bytes, sound_forest}
 use Rattle.definition.specs.Text.{Item, is_group}

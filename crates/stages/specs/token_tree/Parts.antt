@@ -1,7 +1,6 @@
 -- A part of the text table as the definition's part of a component's text, that begins at text place `base`.
-use Rattle.std.specs.Prelude.{◌≡◌, ◌<◌, ◌≤◌}
-use Rattle.definition.specs.Prelude.{ℕ, ◌+◌, ◌-◌, List, length, eqb}
-use Rattle.definition.specs.Basics.{if◌then◌else◌}
+use Rattle.std.specs.Prelude.{◌≡◌, ◌<◌, ◌≤◌, ◌+◌, ◌-◌, if◌then◌else◌}
+use Rattle.definition.specs.Prelude.{ℕ, List, length, eqb}
 use Rattle.definition.specs.Image.{bytes_at, padded}
 use Rattle.definition.specs.Text as Text
 use Rattle.stages.specs.declared.token_tree.types.Part.{Part}

@@ -1,6 +1,6 @@
 -- The components of a tree as they stand in its image's tables, one after the other.
-use Rattle.std.specs.Prelude.{◌≡◌, ◌<◌, ◌≤◌}
-use Rattle.definition.specs.Prelude.{ℕ, suc, ◌+◌, ◌*◌, ◌^◌, List, [], ◌∷◌, length}
+use Rattle.std.specs.Prelude.{◌≡◌, ◌<◌, ◌≤◌, ◌+◌, ◌*◌, ◌^◌, ◌∷◌}
+use Rattle.definition.specs.Prelude.{ℕ, suc, List, [], length}
 use Rattle.definition.specs.Image.{Unparsed, u32_at, bytes_for}
 use Rattle.definition.specs.Tree.{Node, recs_of, text_of, packed}
 use Rattle.prepared.specs.Bytes.{Holds}

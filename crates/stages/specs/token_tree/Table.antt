@@ -1,7 +1,6 @@
 -- Records by number in the record table, and the tables of an image, as the code holds them.
-use Rattle.std.specs.Prelude.{◌≡◌, ◌<◌, ◌≤◌}
-use Rattle.definition.specs.Prelude.{ℕ, ◌+◌, ◌*◌, ◌^◌, List, length, get_or, eqb}
-use Rattle.definition.specs.Basics.{if◌then◌else◌}
+use Rattle.std.specs.Prelude.{◌≡◌, ◌<◌, ◌≤◌, ◌+◌, ◌*◌, ◌^◌, if◌then◌else◌}
+use Rattle.definition.specs.Prelude.{ℕ, List, length, get_or, eqb}
 use Rattle.definition.specs.Image.{u32_at, counts, tables}
 use Rattle.stages.specs.declared.token_tree.types.Entry.{Entry}
 use Rattle.stages.specs.declared.token_tree.types.Tree.{Tree}

@@ -1,8 +1,7 @@
 // The two sides of a bound's sign: "A number on the right is added to x, or after `-` taken from it. A number on the left moves into x,
 // the text keeping its `-`. Two non-numbers: kept as written."
-ghost use Rattle.std.specs.Prelude.{◌≡◌, ℕ, ◌+◌, ◌^◌, ◌<◌, ◌≤◌, List, length};
+ghost use Rattle.std.specs.Prelude.{◌≡◌, ℕ, ◌+◌, ◌^◌, ◌<◌, ◌≤◌, List, length, if◌then◌else◌};
 ghost use Rattle.definition.specs.Numbers.{narrow};
-ghost use Rattle.definition.specs.Basics.{if◌then◌else◌};
 ghost use Rattle.definition.specs.Ranges.{number_in, side as side_of};
 ghost use Rattle.numbers.specs.Value.{value_of, option_of};
 ghost use Rattle.stages.specs.token_tree.Parts.{part_of, PartFits};

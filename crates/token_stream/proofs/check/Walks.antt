@@ -1,11 +1,12 @@
 -- The walks of 50 and 51: what is left of the list says what all of it says. Each walk has a turn, ways to stop, and an end.
+use Rattle.std.specs.Prelude.{◌+◌, ◌-◌, ◌&&◌, ◌∷◌, if◌then◌else◌}
 use mathlib.Core.Path.{◌≡◌, refl, sym, ap, ◌∙◌}
 use Prim.Native.Nat.{◌≤◌, ◌<◌}
 use native.Mathlib.Numerals.{add-one}
 use native.Mathlib.Omega.{arith}
 use borrow.Author.Tests.{eqb-true, ltb-true, ltb-false}
-use Rattle.definition.specs.Prelude.{ℕ, zero, suc, ◌+◌, ◌-◌, Bool, true, false, ◌&&◌, List, [], ◌∷◌, drop, ltb, eqb}
-use Rattle.definition.specs.Basics.{if◌then◌else◌, all, tab}
+use Rattle.definition.specs.Prelude.{ℕ, zero, suc, Bool, true, false, List, [], drop, ltb, eqb}
+use Rattle.definition.specs.Basics.{all, tab}
 use Rattle.definition.specs.Tokens.{Token, single, opener, closer, kind_at, text_at, token_of, token_at, count, tokens, tokens_right, nested}
 use Rattle.laws.specs.Tests.{by_test, and_iff, eqb_apart}
 use Rattle.token_facts.specs.Flat.{after, none_empty_in}

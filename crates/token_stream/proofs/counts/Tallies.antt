@@ -1,11 +1,11 @@
 -- What one token weighs, by the code's tests: a divider, a group's, or a leaf.
+use Rattle.std.specs.Prelude.{◌+◌, ◌&&◌, if◌then◌else◌}
 use mathlib.Core.Path.{◌≡◌, refl, sym, ap, ◌∙◌}
 use Prim.Native.Nat.{◌≤◌, ◌<◌}
 use native.Mathlib.Omega.{arith}
 use borrow.Author.Tests.{eqb-true, le-ltb}
 use lib.Seq.{slice, take_all}
-use Rattle.definition.specs.Prelude.{ℕ, ◌+◌, Bool, true, false, ◌&&◌, not, List, length, drop, ltb, eqb}
-use Rattle.definition.specs.Basics.{if◌then◌else◌}
+use Rattle.definition.specs.Prelude.{ℕ, Bool, true, false, not, List, length, drop, ltb, eqb}
 use Rattle.definition.specs.Characters.{char}
 use Rattle.definition.specs.TokenStream.{Leaf, leaf_text, is_punct}
 use Rattle.definition.specs.Tokens.{Token, single, opener, closer, kind_at, text_start, text_length, text_at, token_at, count, tokens, tokens_right}

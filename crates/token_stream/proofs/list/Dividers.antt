@@ -1,10 +1,10 @@
 -- A comma or a semicolon that divides, and the depth after a token.
+use Rattle.std.specs.Prelude.{◌+◌, ◌-◌, ◌&&◌, ◌||◌, if◌then◌else◌}
 use mathlib.Core.Path.{◌≡◌, refl, ◌∙◌}
 use Prim.Native.Nat.{◌≤◌, ◌<◌}
 use native.Mathlib.Omega.{arith}
 use lib.ListN.{drop_of_length-le}
-use Rattle.definition.specs.Prelude.{ℕ, suc, ◌+◌, ◌-◌, Bool, true, false, ◌&&◌, ◌||◌, List, [], drop, ltb, eqb}
-use Rattle.definition.specs.Basics.{if◌then◌else◌}
+use Rattle.definition.specs.Prelude.{ℕ, suc, Bool, true, false, List, [], drop, ltb, eqb}
 use Rattle.definition.specs.Characters.{char}
 use Rattle.definition.specs.TokenStream.{is_punct}
 use Rattle.definition.specs.Tokens.{Token, single, opener, closer, token_at, count, tokens, tokens_right}

@@ -1,12 +1,12 @@
 -- Dividers, token by token: forwards to the semicolon that ends a concatenation, backwards to the comma that begins a component.
+use Rattle.std.specs.Prelude.{◌+◌, ◌-◌, ◌&&◌, ◌∷◌, if◌then◌else◌}
 use mathlib.Core.Path.{◌≡◌, refl, sym, ap, ◌∙◌}
 use Prim.Native.Nat.{◌≤◌, ◌<◌}
 use native.Mathlib.Omega.{arith}
 use lib.ListN.{drop_of_length-le}
 use lib.Seq.{slice, slice_empty}
 use borrow.Author.Tests.{ltb-true, ltb-false}
-use Rattle.definition.specs.Prelude.{ℕ, suc, ◌+◌, ◌-◌, Bool, true, false, ◌&&◌, List, ◌∷◌, reverse, length, drop, ltb, eqb}
-use Rattle.definition.specs.Basics.{if◌then◌else◌}
+use Rattle.definition.specs.Prelude.{ℕ, suc, Bool, true, false, List, reverse, length, drop, ltb, eqb}
 use Rattle.definition.specs.Characters.{char}
 use Rattle.definition.specs.Tokens.{Token, single, opener, closer, kind_at, token_at, count, tokens, tokens_right}
 use Rattle.laws.specs.Tests.{by_test, and_iff, eqb_iff, eqb_apart}

@@ -1,10 +1,11 @@
 -- Components written one after the other: the room that is left, and what stands in the area then.
+use Rattle.std.specs.Prelude.{◌+◌, ◌*◌, ◌-◌, ◌∷◌, ◌++◌}
 use mathlib.Core.Path.{◌≡◌, refl, sym, ap, subst, ◌∙◌}
 use mathlib.Core.List.{map-append, reverse-append}
 use Prim.Native.Nat.{◌≤◌}
 use native.Mathlib.Omega.{arith}
 use lib.ListN.{length-append}
-use Rattle.definition.specs.Prelude.{ℕ, ◌+◌, ◌*◌, ◌-◌, Bool, List, [], ◌∷◌, ◌++◌, map, reverse, length, leb}
+use Rattle.definition.specs.Prelude.{ℕ, Bool, List, [], map, reverse, length, leb}
 use Rattle.definition.specs.Basics.{all, joined, tab}
 use Rattle.definition.specs.Limits.{limits}
 use Rattle.definition.specs.Tree.{Forest, Node, recs_of, all_recs, text_of, packed, literals_of, record_bytes, depth}

@@ -1,11 +1,12 @@
 -- The concatenations in order: where the first ends, and what is said of all once the others are written.
+use Rattle.std.specs.Prelude.{◌+◌, ◌*◌, ◌-◌, ◌/◌, ◌^◌, ◌∷◌, ◌++◌}
 use mathlib.Core.Path.{◌≡◌, refl, sym, ap, subst, ◌∙◌}
 use mathlib.Core.List.{append-nil}
 use Prim.Native.Nat.{◌≤◌, ◌<◌}
 use native.Mathlib.Omega.{arith}
 use lib.ListN.{length-append, length-drop, length-map}
 use lib.Seq.{sets, slice, take-add, take_at, drop_at, drop-drop, drop-append-add, length-take-le}
-use Rattle.definition.specs.Prelude.{ℕ, ◌+◌, ◌*◌, ◌-◌, ◌/◌, ◌^◌, List, [], ◌∷◌, ◌++◌, map, length, take, drop, leb}
+use Rattle.definition.specs.Prelude.{ℕ, List, [], map, length, take, drop, leb}
 use Rattle.definition.specs.Basics.{all, joined}
 use Rattle.definition.specs.Tree.{u32, Node, text_of, record_bytes}
 use Rattle.definition.specs.TokenStream.{Stream}

@@ -1,11 +1,12 @@
 -- The components of a concatenation from the last on: where the last stands, and what is said of all once the others are written.
+use Rattle.std.specs.Prelude.{◌+◌, ◌-◌, ◌∷◌, ◌++◌}
 use mathlib.Core.Path.{◌≡◌, refl, sym, ap, subst, ◌∙◌}
 use mathlib.Core.List.{append_assoc, reverse-append}
 use Prim.Native.Nat.{◌≤◌, ◌<◌}
 use native.Mathlib.Omega.{arith}
 use lib.ListN.{length-append}
 use lib.Seq.{slice, take-add, drop-append-le, drop_at, length-take-le, length-slice}
-use Rattle.definition.specs.Prelude.{ℕ, ◌+◌, ◌-◌, true, List, [], ◌∷◌, ◌++◌, reverse, length, take, drop}
+use Rattle.definition.specs.Prelude.{ℕ, true, List, [], reverse, length, take, drop}
 use Rattle.definition.specs.Basics.{all}
 use Rattle.definition.specs.TokenStream.{Stream}
 use Rattle.definition.specs.Tokens.{Token, tokens}

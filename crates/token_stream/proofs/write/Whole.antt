@@ -1,11 +1,12 @@
 -- The whole image: what was admitted is concatenations from the first token on, and their rows with the header are the tree's image.
+use Rattle.std.specs.Prelude.{◌+◌, ◌*◌, ◌-◌, ◌&&◌, ◌++◌}
 use mathlib.Core.Path.{◌≡◌, sym, ap, subst, ◌∙◌}
 use mathlib.Core.List.{map-map}
 use Prim.Native.Nat.{◌≤◌}
 use native.Mathlib.Omega.{arith}
 use lib.ListN.{length-map}
 use lib.Seq.{sets}
-use Rattle.definition.specs.Prelude.{ℕ, ◌+◌, ◌*◌, ◌-◌, true, ◌&&◌, List, [], ◌++◌, map, length, drop, leb}
+use Rattle.definition.specs.Prelude.{ℕ, true, List, [], map, length, drop, leb}
 use Rattle.definition.specs.Basics.{all, joined}
 use Rattle.definition.specs.Limits.{limits}
 use Rattle.definition.specs.Image.{tables_for}

@@ -1,6 +1,6 @@
 -- The counts of the image, as the walk over the tokens adds them up.
-use Rattle.std.specs.Prelude.{◌<◌}
-use Rattle.definition.specs.Prelude.{ℕ, ◌+◌, ◌^◌, Bool, ◌&&◌, Option, none, some, List, leb, ltb}
+use Rattle.std.specs.Prelude.{◌<◌, ◌+◌, ◌^◌, ◌&&◌}
+use Rattle.definition.specs.Prelude.{ℕ, Bool, Option, none, some, List, leb, ltb}
 use Rattle.definition.specs.Limits.{limits}
 use Rattle.definition.specs.Tokens.{Token}
 use Rattle.image.specs.token_tree.Tables.{counts_of}

@@ -1,6 +1,6 @@
 -- What the walks ask of a token, by the numbers of its entry.
-use Rattle.definition.specs.Prelude.{ℕ, suc, ◌+◌, ◌-◌, Bool, ◌&&◌, List, get_or, ltb, eqb}
-use Rattle.definition.specs.Basics.{if◌then◌else◌}
+use Rattle.std.specs.Prelude.{◌+◌, ◌-◌, ◌&&◌, if◌then◌else◌}
+use Rattle.definition.specs.Prelude.{ℕ, suc, Bool, List, get_or, ltb, eqb}
 use Rattle.definition.specs.Tokens.{kind_at, text_start}
 
 -- how many groups are open after a token, or, backwards, before it

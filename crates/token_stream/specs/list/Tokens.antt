@@ -1,9 +1,9 @@
 -- Laws of the tokens of a list: one by one, from the front and from the back, and by the numbers of an entry.
-use Rattle.std.specs.Prelude.{◌≡◌, refl, ◌≢◌, ◌≤◌, ◌<◌}
+use Rattle.std.specs.Prelude.{◌≡◌, refl, ◌≢◌, ◌≤◌, ◌<◌, ◌+◌, ◌-◌, ◌%◌, ◌&&◌, ◌∷◌}
 use Rattle.std.proofs.Common.{sym, ap, ◌∙◌, zero-add, add-zero, add-one, arith, le-ltb, ltb-true, ltb-false, eqb-true, eq-eqb, ne_eqb, drop-cons, take-suc, get_or-drop, length-take-le}
 use Rattle.std.proofs.lemmas.List.{reverse-append, drop-append-le}
 use Rattle.std.proofs.Math.Seq.{slice, slice-cons, slice_empty}
-use Rattle.definition.specs.Prelude.{ℕ, zero, suc, ◌+◌, ◌-◌, ◌%◌, Bool, true, false, ◌&&◌, List, [], ◌∷◌, reverse, length, get_or, take, drop, leb, ltb, eqb}
+use Rattle.definition.specs.Prelude.{ℕ, zero, suc, Bool, true, false, List, [], reverse, length, get_or, take, drop, leb, ltb, eqb}
 use Rattle.definition.specs.Basics.{all, tab}
 use Rattle.definition.specs.TokenStream.{Leaf, ident, punct, literal, leaf_text, is_punct}
 use Rattle.definition.specs.Tokens.{Token, single, opener, closer, kind_at, text_start, text_length, text_at, token_of, token_at, count, tokens, token_right, tokens_right, nested}

@@ -1,7 +1,7 @@
 -- What is written of components, of a concatenation, of all of them, and the whole image.
-use Rattle.std.specs.Prelude.{◌≡◌, ◌≤◌, ◌<◌}
+use Rattle.std.specs.Prelude.{◌≡◌, ◌≤◌, ◌<◌, ◌+◌, ◌*◌, ◌-◌, ◌^◌, ◌∷◌, ◌++◌}
 use Rattle.std.proofs.Math.Seq.{slice}
-use Rattle.definition.specs.Prelude.{ℕ, ◌+◌, ◌*◌, ◌-◌, ◌^◌, true, List, [], ◌∷◌, ◌++◌, map, length, drop, leb}
+use Rattle.definition.specs.Prelude.{ℕ, true, List, [], map, length, drop, leb}
 use Rattle.definition.specs.Basics.{all, joined}
 use Rattle.definition.specs.Limits.{limits}
 use Rattle.definition.specs.Tree.{Node, Tree, all_recs, text_of, depth, image_of}

@@ -1,8 +1,8 @@
 -- `numbers::checked_sub` meets its contract: a is the difference plus b, so three signs tell whether the difference is the true one.
 -- Assumes nothing.
+use Rattle.std.specs.Prelude.{if◌then◌else◌}
 use Rattle.std.proofs.Common.{◌≡◌, ◌-ℤ◌, sym, arith}
 use mathlib.Core.Option.{none, some}
-use Rattle.definition.specs.Basics.{if◌then◌else◌}
 use Rattle.definition.specs.Numbers.{narrow}
 use Rattle.numbers.specs.Value.{bits, value_of}
 use Rattle.numbers.proofs.Words.{word}

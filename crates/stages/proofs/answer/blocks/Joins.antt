@@ -1,7 +1,8 @@
 -- Blocks written one next to the other.
+use Rattle.std.specs.Prelude.{◌+◌, ◌/◌, ◌%◌, ◌++◌}
 use Rattle.std.proofs.Common.{◌≡◌, refl}
 use lib.Seq.{sets}
-use Rattle.definition.specs.Prelude.{ℕ, ◌+◌, ◌/◌, ◌%◌, List, ◌++◌, get_or}
+use Rattle.definition.specs.Prelude.{ℕ, List, get_or}
 use Rattle.definition.specs.Tree.{u32}
 use Rattle.stages.specs.answer.Blocks.{word_bytes, usb_block, range_block, head_block, literal_block, plain_block, open_block, fixed_block}
 use Rattle.laws.specs.Writing.{and_then, four_blocks}

@@ -1,6 +1,7 @@
 -- A row's bytes are the definition's block of its component.
+use Rattle.std.specs.Prelude.{◌+◌, ◌/◌, ◌%◌, ◌^◌, ◌++◌}
 use Rattle.std.proofs.Common.{◌≡◌, ◌<◌, sym, refl, ap, ◌∙◌, ap₂, append_assoc, arith}
-use Rattle.definition.specs.Prelude.{ℕ, ◌+◌, ◌/◌, ◌%◌, ◌^◌, Bool, true, false, Option, none, some, List, ◌++◌, length, get_or, ℤ}
+use Rattle.definition.specs.Prelude.{ℕ, Bool, true, false, Option, none, some, List, length, get_or, ℤ}
 use Rattle.definition.specs.Basics.{tab}
 use Rattle.definition.specs.Image.{Placed}
 use Rattle.definition.specs.Tree.{u32}

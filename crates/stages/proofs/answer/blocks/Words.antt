@@ -1,8 +1,9 @@
 -- The words of a bound are the definition's bytes of it.
+use Rattle.std.specs.Prelude.{◌+◌, ◌*◌, ◌/◌, ◌%◌, ◌^◌, ◌∷◌, ◌++◌, if◌then◌else◌}
 use Rattle.std.proofs.Common.{◌≡◌, ◌<◌, sym, refl, ap, ◌∙◌, ap₂, append_assoc, div-one, arith, shr-shr}
 use lib.Pow.{field, mod-mod-pow, high, low}
-use Rattle.definition.specs.Prelude.{ℕ, ◌+◌, ◌*◌, ◌/◌, ◌%◌, ◌^◌, List, [], ◌∷◌, ◌++◌, length, ℤ}
-use Rattle.definition.specs.Basics.{if◌then◌else◌, is_empty, tab}
+use Rattle.definition.specs.Prelude.{ℕ, List, [], length, ℤ}
+use Rattle.definition.specs.Basics.{is_empty, tab}
 use Rattle.definition.specs.Tree.{u32}
 use Rattle.definition.specs.Text as Text
 use Rattle.definition.specs.Ranges as Ranges

@@ -1,7 +1,8 @@
 -- The block of a concatenation from its words, and the head's six blocks.
+use Rattle.std.specs.Prelude.{◌+◌, ◌*◌, ◌%◌, ◌^◌, ◌∷◌, ◌++◌}
 use Rattle.std.proofs.Common.{◌≡◌, refl, ap, ◌∙◌}
 use lib.Seq.{sets}
-use Rattle.definition.specs.Prelude.{ℕ, ◌+◌, ◌*◌, ◌%◌, ◌^◌, List, ◌∷◌, ◌++◌, length, get_or, drop}
+use Rattle.definition.specs.Prelude.{ℕ, List, length, get_or, drop}
 use Rattle.definition.specs.Tree.{u32}
 use Rattle.definition.specs.Concatenation.{Concatenation, align_number, merge, merged}
 use Rattle.definition.specs.Answer.{flag, concatenation_bytes}

@@ -1,8 +1,9 @@
 -- The concatenation of a place, its two words, and the blocks of the first ones.
+use Rattle.std.specs.Prelude.{◌+◌, ◌*◌, ◌%◌, ◌^◌, ◌∷◌, ◌++◌}
 use Rattle.std.proofs.Common.{◌≡◌, ◌<◌, ◌≤◌, sym, refl, ap, ◌∙◌, append-nil, le_of_suc-le-suc, add-one, arith, length-append, length-take-le, take_all}
 use mathlib.Core.List.{map-append}
 use lib.Seq.{sets}
-use Rattle.definition.specs.Prelude.{ℕ, zero, suc, ◌+◌, ◌*◌, ◌%◌, ◌^◌, Bool, true, false, List, [], ◌∷◌, ◌++◌, map, length, get_or, take, drop}
+use Rattle.definition.specs.Prelude.{ℕ, zero, suc, Bool, true, false, List, [], map, length, get_or, take, drop}
 use Rattle.definition.specs.Basics.{joined, sum}
 use Rattle.definition.specs.Concatenation.{Concatenation, align_number, merge, merged}
 use Rattle.definition.specs.Answer.{flag, concatenation_bytes}

@@ -1,7 +1,8 @@
 -- Bits behind others: zeros for the new bytes, and then the bits.
+use Rattle.std.specs.Prelude.{◌+◌, ◌*◌, ◌-◌, ◌^◌, ◌&&◌, ◌∷◌, ◌++◌}
 use Rattle.std.proofs.Common.{◌≡◌, ◌<◌, ◌≤◌, replicate, sym, refl, ap, ◌∙◌, true≢false, append-nil, add-zero, zero-add, arith, length-append, length-drop, take-append-drop, drop_of_length-le, take_all, ltb-true, le-ltb, lt-ltb}
 use lib.Seq.{sets, length-sets}
-use Rattle.definition.specs.Prelude.{ℕ, zero, suc, ◌+◌, ◌*◌, ◌-◌, ◌^◌, Bool, true, false, ◌&&◌, not, List, [], ◌∷◌, ◌++◌, length, take, drop, ltb}
+use Rattle.definition.specs.Prelude.{ℕ, zero, suc, Bool, true, false, not, List, [], length, take, drop, ltb}
 use Rattle.definition.specs.Image.{padded, bytes_at, bytes_for}
 use Rattle.definition.specs.Tree.{packed}
 use Rattle.laws.specs.Tests.{and_iff}

@@ -1,7 +1,8 @@
 -- The run's bits, a component's block, and the end of a run.
+use Rattle.std.specs.Prelude.{◌+◌, ◌-◌, ◌%◌, ◌^◌, ◌∷◌, ◌++◌}
 use Rattle.std.proofs.Common.{◌≡◌, ◌<◌, ◌≤◌, sym, refl, ap, ◌∙◌, subst, true≢false, arith, length-append, length-drop, take_all}
 use lib.Seq.{sets, length-sets}
-use Rattle.definition.specs.Prelude.{ℕ, ◌+◌, ◌-◌, ◌%◌, ◌^◌, true, false, not, none, some, List, [], ◌∷◌, ◌++◌, length, take, drop}
+use Rattle.definition.specs.Prelude.{ℕ, true, false, not, none, some, List, [], length, take, drop}
 use Rattle.definition.specs.Basics.{all, tab}
 use Rattle.definition.specs.Image.{Placed, bytes_for}
 use Rattle.definition.specs.Tree.{packed}

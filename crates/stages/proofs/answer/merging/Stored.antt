@@ -1,6 +1,7 @@
 -- What the words of a kept component say.
+use Rattle.std.specs.Prelude.{◌+◌, ◌*◌, ◌/◌, ◌%◌, ◌^◌, ◌-◌}
 use Rattle.std.proofs.Common.{◌≡◌, ◌<◌, ◌≤◌, refl, arith}
-use Rattle.definition.specs.Prelude.{ℕ, ◌+◌, ◌*◌, ◌/◌, ◌%◌, ◌^◌, Bool, true, false, List, length, get_or, drop, ◌-◌}
+use Rattle.definition.specs.Prelude.{ℕ, Bool, true, false, List, length, get_or, drop}
 use Rattle.definition.specs.Image.{Placed}
 use Rattle.definition.specs.Component as Def
 use Rattle.definition.specs.Component.{Component}

@@ -1,6 +1,7 @@
 -- The walk over a concatenation: as it begins, component after component, and as it ends.
+use Rattle.std.specs.Prelude.{◌+◌, ◌-◌, ◌∷◌}
 use Rattle.std.proofs.Common.{◌≡◌, ◌<◌, ◌≤◌, sym, refl, ◌∙◌, subst, ap₂, add-zero, arith}
-use Rattle.definition.specs.Prelude.{ℕ, suc, ◌+◌, ◌-◌, none, List, [], ◌∷◌, length}
+use Rattle.definition.specs.Prelude.{ℕ, suc, none, List, [], length}
 use Rattle.definition.specs.Basics.{joined}
 use Rattle.definition.specs.Image.{Placed}
 use Rattle.definition.specs.Component.{Component}

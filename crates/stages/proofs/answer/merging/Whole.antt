@@ -1,8 +1,9 @@
 -- Whole bytes behind others: they are copied as they are.
+use Rattle.std.specs.Prelude.{◌+◌, ◌*◌, ◌-◌, ◌/◌, ◌%◌, ◌^◌, ◌∷◌, ◌++◌}
 use Rattle.std.proofs.Common.{◌≡◌, ◌<◌, ◌≤◌, set, sym, refl, ap, ◌∙◌, zero-add, add-one, arith, length-append, length-drop, length-take-le, get_or-drop, take-suc, get_or-append-add}
 use lib.ListN.{get_or-append}
 use lib.Seq.{sets}
-use Rattle.definition.specs.Prelude.{ℕ, ◌+◌, ◌*◌, ◌-◌, ◌/◌, ◌%◌, ◌^◌, List, [], ◌∷◌, ◌++◌, length, get_or, take, drop}
+use Rattle.definition.specs.Prelude.{ℕ, List, [], length, get_or, take, drop}
 use Rattle.definition.specs.Basics.{tab}
 use Rattle.definition.specs.Image.{bytes_for}
 use Rattle.definition.specs.Tree.{byte_of, packed}

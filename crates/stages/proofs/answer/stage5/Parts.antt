@@ -1,10 +1,11 @@
 -- The whole answer: its four parts one after the other, and its numbers as the code keeps them.
+use Rattle.std.specs.Prelude.{◌+◌, ◌*◌, ◌-◌, ◌^◌, ◌∷◌, ◌++◌, if◌then◌else◌}
 use Rattle.std.proofs.Common.{◌≡◌, ◌<◌, ◌≤◌, sym, refl, ap, ◌∙◌, add-zero, zero-add, arith}
 use mathlib.Core.List.{map-map}
 use lib.ListN.{length-map}
 use lib.Seq.{sets, length-sets}
-use Rattle.definition.specs.Prelude.{ℕ, ◌+◌, ◌*◌, ◌-◌, ◌^◌, Bool, true, false, not, Option, none, some, List, [], ◌∷◌, ◌++◌, map, length, drop, eqb}
-use Rattle.definition.specs.Basics.{if◌then◌else◌, sum, joined}
+use Rattle.definition.specs.Prelude.{ℕ, Bool, true, false, not, Option, none, some, List, [], map, length, drop, eqb}
+use Rattle.definition.specs.Basics.{sum, joined}
 use Rattle.definition.specs.Image.{Placed}
 use Rattle.definition.specs.Tree.{u32}
 use Rattle.definition.specs.Text as Text

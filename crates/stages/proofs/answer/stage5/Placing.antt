@@ -1,7 +1,8 @@
 -- The merged components of every concatenation, one concatenation after the other.
+use Rattle.std.specs.Prelude.{◌+◌, ◌*◌, ◌∷◌, ◌++◌}
 use Rattle.std.proofs.Common.{◌≡◌, ◌<◌, ◌≤◌, sym, refl, ap, ◌∙◌, subst, arith, length-append}
 use mathlib.Core.List.{map-append}
-use Rattle.definition.specs.Prelude.{ℕ, suc, ◌+◌, ◌*◌, List, [], ◌∷◌, ◌++◌, map, length}
+use Rattle.definition.specs.Prelude.{ℕ, suc, List, [], map, length}
 use Rattle.definition.specs.Basics.{joined}
 use Rattle.definition.specs.Image.{Placed, u32_at, component_count}
 use Rattle.definition.specs.Component.{Component}

@@ -1,7 +1,8 @@
 -- The eleven words of a component in code are those of the definition's.
+use Rattle.std.specs.Prelude.{◌+◌, ◌-◌, ◌*◌, ◌/◌, ◌%◌, ◌^◌, ◌∷◌, if◌then◌else◌}
 use Rattle.std.proofs.Common.{◌≡◌, ◌<◌, ◌≤◌, sym, refl, ap, ◌∙◌, add-mul, one-mul, arith, eq-eqb, ne_eqb}
-use Rattle.definition.specs.Prelude.{ℕ, suc, ◌+◌, ◌-◌, ◌*◌, ◌/◌, ◌%◌, ◌^◌, Bool, true, false, Option, none, some, List, [], ◌∷◌, length, drop, ltb, ℤ, pos, negsuc}
-use Rattle.definition.specs.Basics.{if◌then◌else◌, is_empty}
+use Rattle.definition.specs.Prelude.{ℕ, suc, Bool, true, false, Option, none, some, List, [], length, drop, ltb, ℤ, pos, negsuc}
+use Rattle.definition.specs.Basics.{is_empty}
 use Rattle.definition.specs.Ranges as Ranges
 use Rattle.definition.specs.Ranges.{static_width, static_range}
 use Rattle.definition.specs.Component as Def

@@ -1,7 +1,8 @@
 -- Words written one after the other, and how large flags are.
+use Rattle.std.specs.Prelude.{◌+◌}
 use Rattle.std.proofs.Common.{◌≡◌, ◌≤◌, set, sym, refl, ap, ◌∙◌, arith, length-set}
 use lib.Seq.{sets}
-use Rattle.definition.specs.Prelude.{ℕ, suc, ◌+◌, Bool, List, length}
+use Rattle.definition.specs.Prelude.{ℕ, suc, Bool, List, length}
 use Rattle.numbers.specs.declared.OptionI128.{OptionI128}
 use Rattle.numbers.specs.declared.OptionI128.TheVariants as I
 use Rattle.definition.specs.Component as Def

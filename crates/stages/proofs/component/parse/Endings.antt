@@ -1,6 +1,7 @@
 -- The last item of a run: a range in brackets, or none.
+use Rattle.std.specs.Prelude.{◌+◌, ◌-◌, ◌^◌, ◌∷◌, ◌++◌}
 use Rattle.std.proofs.Common.{◌≡◌, ◌<◌, ◌≤◌, sym, refl, ap, ◌∙◌, subst, arith, eq-eqb, ne_eqb}
-use Rattle.definition.specs.Prelude.{ℕ, ◌+◌, ◌-◌, ◌^◌, true, none, some, List, [], ◌∷◌, ◌++◌, length}
+use Rattle.definition.specs.Prelude.{ℕ, true, none, some, List, [], length}
 use Rattle.definition.specs.Image.{opens}
 use Rattle.definition.specs.Text.{Item, items, is_group}
 use Rattle.definition.specs.Ranges.{parse_range}

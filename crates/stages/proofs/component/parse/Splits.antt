@@ -1,6 +1,7 @@
 -- A component's items: without those behind a starting value's colon, and without its range.
+use Rattle.std.specs.Prelude.{◌+◌, ◌∷◌, ◌++◌}
 use Rattle.std.proofs.Common.{◌≡◌, ◌≤◌, sym, refl, ap, ◌∙◌, suc-add, arith, length-append}
-use Rattle.definition.specs.Prelude.{ℕ, zero, suc, ◌+◌, true, false, Option, none, some, List, [], ◌∷◌, ◌++◌, length, drop, eqb}
+use Rattle.definition.specs.Prelude.{ℕ, zero, suc, true, false, Option, none, some, List, [], length, drop, eqb}
 use Rattle.definition.specs.Text.{Item, items, is_token}
 use Rattle.definition.specs.Component.{Split, split_range, Prefix, beyond, split_colon, prefix_of, parse_component}
 use Rattle.laws.specs.Tests.{by_test}

@@ -1,7 +1,8 @@
 -- The text of items that stand in a table, and whether it begins a literal.
+use Rattle.std.specs.Prelude.{◌+◌, ◌&&◌, ◌||◌, ◌∷◌}
 use Rattle.std.proofs.Common.{◌≡◌, ◌<◌, ◌≤◌, sym, refl, ap, ◌∙◌, add-zero, arith, get_or-drop, eq-eqb, ne_eqb, le-leb}
 use borrow.Author.Tests.{lt-leb}
-use Rattle.definition.specs.Prelude.{ℕ, ◌+◌, Bool, true, false, ◌&&◌, ◌||◌, not, List, [], ◌∷◌, length, get_or, drop, eqb, leb}
+use Rattle.definition.specs.Prelude.{ℕ, Bool, true, false, not, List, [], length, get_or, drop, eqb, leb}
 use Rattle.definition.specs.Basics.{within}
 use Rattle.definition.specs.Image.{delimiter}
 use Rattle.definition.specs.Text.{Item, is_group}

@@ -1,6 +1,7 @@
 -- The type of a component, and stage 1 by what its range gives.
+use Rattle.std.specs.Prelude.{◌+◌, ◌-◌, ◌∷◌}
 use Rattle.std.proofs.Common.{◌≡◌, ◌≤◌, sym, refl, ap, ◌∙◌, subst, arith}
-use Rattle.definition.specs.Prelude.{ℕ, zero, suc, ◌+◌, ◌-◌, Bool, true, false, none, some, List, [], ◌∷◌, length, get_or}
+use Rattle.definition.specs.Prelude.{ℕ, zero, suc, Bool, true, false, none, some, List, [], length, get_or}
 use Rattle.definition.specs.Basics.{Result, ok, refused, refusal_of, ◌>>=◌, is_empty, tab}
 use Rattle.definition.specs.Image.{bits_at}
 use Rattle.definition.specs.Text.{Item}

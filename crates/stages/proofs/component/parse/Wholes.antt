@@ -1,6 +1,7 @@
 -- Stage 1 of a whole run, with and without a range in brackets.
+use Rattle.std.specs.Prelude.{◌+◌}
 use Rattle.std.proofs.Common.{◌≡◌, ◌<◌, ◌≤◌, sym, ap, ◌∙◌, subst, arith}
-use Rattle.definition.specs.Prelude.{ℕ, ◌+◌, none, some, List, [], length}
+use Rattle.definition.specs.Prelude.{ℕ, none, some, List, [], length}
 use Rattle.definition.specs.Text.{Item, items}
 use Rattle.definition.specs.Component.{Split, split_range, parse_component}
 use Rattle.stages.specs.token_tree.Table.{kind_in, start_in, skip_in}

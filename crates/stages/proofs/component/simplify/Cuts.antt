@@ -1,7 +1,8 @@
 -- The cut of a literal's bits by a range whose numbers are places among them: one law for each way through the code.
+use Rattle.std.specs.Prelude.{◌-◌, ◌^◌, ◌-ℤ◌, if◌then◌else◌}
 use Rattle.std.proofs.Common.{◌≡◌, ◌<◌, ◌≤◌, min, sym, refl, ap, ◌∙◌, zero-add, arith}
-use Rattle.definition.specs.Prelude.{ℕ, ◌-◌, ◌^◌, Option, none, some, List, [], length, take, drop, ℤ, pos, nat_abs, ◌-ℤ◌}
-use Rattle.definition.specs.Basics.{ok, if◌then◌else◌, same_bytes, tab}
+use Rattle.definition.specs.Prelude.{ℕ, Option, none, some, List, [], length, take, drop, ℤ, pos, nat_abs}
+use Rattle.definition.specs.Basics.{ok, same_bytes, tab}
 use Rattle.definition.specs.Image.{bits_at}
 use Rattle.definition.specs.Numbers.{narrow}
 use Rattle.definition.specs.Ranges as D

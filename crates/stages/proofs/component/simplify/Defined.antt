@@ -1,7 +1,8 @@
 -- Stage 2 of a component, on the definition alone: by type, a literal's range and then its cut, and what the tests of a literal leave.
+use Rattle.std.specs.Prelude.{◌-◌, ◌&&◌, ◌||◌, ◌∷◌, ◌-ℤ◌, if◌then◌else◌}
 use Rattle.std.proofs.Common.{◌≡◌, ◌<◌, refl, subst, le_refl, le_of_lt, ltb-true, le-leb}
-use Rattle.definition.specs.Prelude.{ℕ, ◌-◌, Bool, true, false, ◌&&◌, ◌||◌, Option, none, some, List, [], ◌∷◌, length, ltb, ℤ, pos, negsuc, ◌-ℤ◌, lt_z, le_z, non_neg}
-use Rattle.definition.specs.Basics.{ok, ◌>>=◌, if◌then◌else◌, is_empty, same_bytes}
+use Rattle.definition.specs.Prelude.{ℕ, Bool, true, false, Option, none, some, List, [], length, ltb, ℤ, pos, negsuc, lt_z, le_z, non_neg}
+use Rattle.definition.specs.Basics.{ok, ◌>>=◌, is_empty, same_bytes}
 use Rattle.definition.specs.Numbers.{half128, narrow}
 use Rattle.definition.specs.Refusals.{need, start_above_width, end_above_width, range_above_width, end_zero_lem, open_start}
 use Rattle.definition.specs.Ranges.{Usb, Usbr, static_val}

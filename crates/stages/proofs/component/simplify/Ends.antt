@@ -1,7 +1,8 @@
 -- Numbers of a range that a literal's tests leave are places among its bits, in order; so no end that stage 2 leaves is a number below 0.
+use Rattle.std.specs.Prelude.{◌-◌, ◌^◌, ◌&&◌, ◌||◌, ◌∷◌, ◌-ℤ◌, if◌then◌else◌}
 use Rattle.std.proofs.Common.{◌≡◌, ◌<◌, ◌≤◌, sym, refl, ◌∙◌, subst, lt_of_lt_of_le, arith, lit≤, ltb-false, ltb-true, lt-ltb, leb-true}
-use Rattle.definition.specs.Prelude.{ℕ, zero, suc, ◌-◌, ◌^◌, Bool, true, false, ◌&&◌, ◌||◌, Option, none, some, List, [], ◌∷◌, length, take, drop, ltb, ℤ, pos, negsuc, nat_abs, ◌-ℤ◌, lt_z, le_z, non_neg}
-use Rattle.definition.specs.Basics.{ok, ◌>>=◌, if◌then◌else◌, is_empty, same_bytes}
+use Rattle.definition.specs.Prelude.{ℕ, zero, suc, Bool, true, false, Option, none, some, List, [], length, take, drop, ltb, ℤ, pos, negsuc, nat_abs, lt_z, le_z, non_neg}
+use Rattle.definition.specs.Basics.{ok, ◌>>=◌, is_empty, same_bytes}
 use Rattle.definition.specs.Refusals.{need, open_start}
 use Rattle.definition.specs.Numbers.{half128, narrow}
 use Rattle.definition.specs.Ranges.{Usb, Usbr, val, static_val}

@@ -1,6 +1,7 @@
 -- Of a component as stage 1 leaves it, stage 2 in code leaves no end that is a number below 0.
+use Rattle.std.specs.Prelude.{◌-◌}
 use Rattle.std.proofs.Common.{◌≤◌, sym, arith}
-use Rattle.definition.specs.Prelude.{ℕ, ◌-◌, List, drop}
+use Rattle.definition.specs.Prelude.{ℕ, List, drop}
 use Rattle.definition.specs.Component.{simplify}
 use Rattle.laws.specs.Lists.{length_tab}
 use Rattle.stages.specs.answer.literal_bits.Put.{bit_of}

@@ -1,6 +1,7 @@
 -- Which component the record behind a starting value's colon stands in, and the starting value of the whole tree.
+use Rattle.std.specs.Prelude.{◌+◌, ◌-◌, ◌∷◌, ◌++◌}
 use Rattle.std.proofs.Common.{◌≡◌, ◌≤◌, ◌⊎◌, sym, refl, ap, ◌∙◌, subst, inl, inr, add-zero, zero-add, arith, length-append, ne_eqb}
-use Rattle.definition.specs.Prelude.{ℕ, zero, suc, ◌+◌, ◌-◌, true, false, not, Option, none, some, List, [], ◌∷◌, ◌++◌, length, take}
+use Rattle.definition.specs.Prelude.{ℕ, zero, suc, true, false, not, Option, none, some, List, [], length, take}
 use Rattle.definition.specs.Basics.{Result, ok, ◌>>=◌, with_places, is_empty, joined}
 use Rattle.definition.specs.Refusals.{need, empty_after_colon}
 use Rattle.definition.specs.Image.{Placed, parts, tree_of, component_count}

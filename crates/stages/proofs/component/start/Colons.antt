@@ -1,6 +1,7 @@
 -- The scan for a starting value's colon: what the loop keeps.
+use Rattle.std.specs.Prelude.{◌+◌, ◌-◌, ◌∷◌}
 use Rattle.std.proofs.Common.{◌≡◌, ◌<◌, ◌≤◌, sym, refl, ap, ◌∙◌, arith, eq-eqb, ne_eqb}
-use Rattle.definition.specs.Prelude.{ℕ, ◌+◌, ◌-◌, true, false, Option, none, some, List, [], ◌∷◌}
+use Rattle.definition.specs.Prelude.{ℕ, true, false, Option, none, some, List, []}
 use Rattle.definition.specs.Text.{Item, is_token}
 use Rattle.definition.specs.Component.{Prefix, beyond, split_colon}
 use Rattle.stages.specs.token_tree.Table.{skip_in, single_of, start_or}

@@ -1,6 +1,7 @@
 -- The text before a starting value's colon, and what stands behind it.
+use Rattle.std.specs.Prelude.{◌+◌, ◌*◌, ◌^◌, ◌&&◌, ◌∷◌}
 use Rattle.std.proofs.Common.{◌≡◌, ◌<◌, ◌≤◌, sym, refl, ap, ◌∙◌, subst, arith, ne_eqb}
-use Rattle.definition.specs.Prelude.{ℕ, suc, ◌+◌, ◌*◌, ◌^◌, Bool, true, false, ◌&&◌, not, Option, none, some, List, [], ◌∷◌, length, eqb}
+use Rattle.definition.specs.Prelude.{ℕ, suc, Bool, true, false, not, Option, none, some, List, [], length, eqb}
 use Rattle.definition.specs.Basics.{same_bytes}
 use Rattle.definition.specs.Text as Text
 use Rattle.definition.specs.Text.{Item, is_group}

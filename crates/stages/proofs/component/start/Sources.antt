@@ -1,6 +1,7 @@
 -- The starting value of a tree: of the last component of its concatenation 0.
+use Rattle.std.specs.Prelude.{◌+◌, ◌*◌, ◌-◌, ◌^◌, ◌∷◌, ◌++◌}
 use Rattle.std.proofs.Common.{◌≡◌, ◌<◌, ◌≤◌, sym, refl, ap, ◌∙◌, subst, append_assoc, add-zero, zero-add, add-one, arith, length-append}
-use Rattle.definition.specs.Prelude.{ℕ, zero, suc, ◌+◌, ◌*◌, ◌-◌, ◌^◌, List, [], ◌∷◌, ◌++◌, length}
+use Rattle.definition.specs.Prelude.{ℕ, zero, suc, List, [], length}
 use Rattle.definition.specs.Basics.{sum, tab, joined}
 use Rattle.definition.specs.Image.{u32_at, component_count}
 use Rattle.definition.specs.Tree.{Node, recs_of, all_recs, literals_of, text_of}

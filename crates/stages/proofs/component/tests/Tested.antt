@@ -1,8 +1,9 @@
 -- Tests of a component: one law for each way through the code.
+use Rattle.std.specs.Prelude.{◌-◌, ◌^◌, ◌&&◌, if◌then◌else◌}
 use Rattle.std.proofs.Common.{◌≡◌, ◌<◌, ◌⊎◌, sym, refl, ap, ◌∙◌, subst, ⊎_elim, arith, ne_eqb, eqb-true}
 use borrow.Author.Tests.{eqb-false}
-use Rattle.definition.specs.Prelude.{ℕ, ◌-◌, ◌^◌, Bool, true, false, ◌&&◌, not, Option, none, some, List, length, drop, ltb, eqb, ℤ, pos, nat_abs, non_neg}
-use Rattle.definition.specs.Basics.{if◌then◌else◌, is_empty}
+use Rattle.definition.specs.Prelude.{ℕ, Bool, true, false, not, Option, none, some, List, length, drop, ltb, eqb, ℤ, pos, nat_abs, non_neg}
+use Rattle.definition.specs.Basics.{is_empty}
 use Rattle.definition.specs.Ranges as D
 use Rattle.definition.specs.Ranges.{val, static_val, static_range}
 use Rattle.definition.specs.Component as Def

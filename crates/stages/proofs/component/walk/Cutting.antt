@@ -1,7 +1,8 @@
 -- The run that is read of a component: all its items, or those behind a starting value's colon.
+use Rattle.std.specs.Prelude.{◌+◌, ◌*◌, ◌-◌, ◌∷◌}
 use Rattle.std.proofs.Common.{◌≡◌, ◌<◌, ◌≤◌, ◌⊎◌, sym, refl, ap, ◌∙◌, subst, inl, inr, arith, length-append, length-drop, take-append-drop, length-take-le, le-leb}
 use borrow.Author.Tests.{lt-leb}
-use Rattle.definition.specs.Prelude.{ℕ, suc, ◌+◌, ◌*◌, ◌-◌, Bool, true, false, Option, none, some, List, ◌∷◌, length, take, drop, leb}
+use Rattle.definition.specs.Prelude.{ℕ, suc, Bool, true, false, Option, none, some, List, length, take, drop, leb}
 use Rattle.definition.specs.Image.{u32_at}
 use Rattle.definition.specs.Tree.{Node, recs_of, text_of}
 use Rattle.definition.specs.Text.{Item, items}

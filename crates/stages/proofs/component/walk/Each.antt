@@ -1,6 +1,7 @@
 -- A stage over a list of placed components and over a tree: what it says, one more in front.
+use Rattle.std.specs.Prelude.{◌&&◌, ◌∷◌}
 use Rattle.std.proofs.Common.{◌≡◌, sym, refl, ap, ◌∙◌}
-use Rattle.definition.specs.Prelude.{ℕ, suc, Bool, ◌&&◌, List, [], ◌∷◌, length, eqb}
+use Rattle.definition.specs.Prelude.{ℕ, suc, Bool, List, [], length, eqb}
 use Rattle.definition.specs.Basics.{Result, ok, refused, ◌>>=◌, with_places, is_empty}
 use Rattle.definition.specs.Image.{Placed}
 use Rattle.definition.specs.Component.{keep_base, each_in, each}

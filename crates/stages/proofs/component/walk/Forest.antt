@@ -1,6 +1,7 @@
 -- The loop over the concatenations: one more in front, none, one that stage 1 refuses; and the whole tree.
+use Rattle.std.specs.Prelude.{◌+◌, ◌*◌, ◌∷◌, ◌++◌}
 use Rattle.std.proofs.Common.{◌≡◌, ◌≤◌, sym, refl, ap, ◌∙◌, subst, add-zero, arith, length-append, take_at, drop_at}
-use Rattle.definition.specs.Prelude.{ℕ, suc, ◌+◌, ◌*◌, true, List, [], ◌∷◌, ◌++◌, map, length, take}
+use Rattle.definition.specs.Prelude.{ℕ, suc, true, List, [], map, length, take}
 use Rattle.definition.specs.Basics.{Result, ok, refused, ◌>>=◌, joined}
 use Rattle.definition.specs.Image.{Placed, Unparsed, parts, tree_of}
 use Rattle.definition.specs.Tree.{Node, recs_of, all_recs, text_of}

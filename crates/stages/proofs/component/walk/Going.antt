@@ -1,6 +1,7 @@
 -- The loop over the components of a concatenation: where it stands, and what is said of all once the rest is done.
+use Rattle.std.specs.Prelude.{◌+◌, ◌*◌, ◌&&◌, ◌∷◌, ◌++◌}
 use Rattle.std.proofs.Common.{◌≡◌, ◌<◌, ◌≤◌, sym, refl, ap, subst, add-one, arith}
-use Rattle.definition.specs.Prelude.{ℕ, suc, ◌+◌, ◌*◌, Bool, true, ◌&&◌, List, [], ◌∷◌, ◌++◌, length, eqb}
+use Rattle.definition.specs.Prelude.{ℕ, suc, Bool, true, List, [], length, eqb}
 use Rattle.definition.specs.Basics.{ok, is_empty}
 use Rattle.definition.specs.Tree.{Node, recs_of, text_of}
 use Rattle.errors.specs.Refused.{result_of}

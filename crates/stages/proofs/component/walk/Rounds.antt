@@ -1,6 +1,7 @@
 -- The components of a concatenation one after the other: one more in front, none, and one that stage 1 refuses.
+use Rattle.std.specs.Prelude.{◌+◌, ◌*◌, ◌&&◌, ◌∷◌}
 use Rattle.std.proofs.Common.{◌≡◌, ◌≤◌, sym, refl, ap, ◌∙◌, subst, add-zero, arith, length-append, take-take}
-use Rattle.definition.specs.Prelude.{ℕ, suc, ◌+◌, ◌*◌, true, ◌&&◌, List, [], ◌∷◌, length, take, eqb}
+use Rattle.definition.specs.Prelude.{ℕ, suc, true, List, [], length, take, eqb}
 use Rattle.definition.specs.Basics.{Result, ok, ◌>>=◌, with_places, is_empty, joined}
 use Rattle.definition.specs.Image.{Placed, Unparsed}
 use Rattle.definition.specs.Tree.{Node, recs_of, all_recs, literals_of, text_of, packed}

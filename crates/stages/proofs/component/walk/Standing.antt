@@ -1,6 +1,7 @@
 -- Where a walk stands: what its numbers are, and that the next components fit, too.
+use Rattle.std.specs.Prelude.{◌+◌, ◌*◌, ◌^◌, ◌∷◌, ◌++◌}
 use Rattle.std.proofs.Common.{◌≡◌, ◌<◌, ◌≤◌, sym, ap, ◌∙◌, subst, add-zero, arith, length-append, length-drop}
-use Rattle.definition.specs.Prelude.{ℕ, suc, ◌+◌, ◌*◌, ◌^◌, List, [], ◌∷◌, ◌++◌, length}
+use Rattle.definition.specs.Prelude.{ℕ, suc, List, [], length}
 use Rattle.definition.specs.Basics.{joined}
 use Rattle.definition.specs.Image.{u32_at, bytes_for}
 use Rattle.definition.specs.Tree.{Node, literals_of, packed}

@@ -1,7 +1,8 @@
 -- One component of the loop: what its answers say.
+use Rattle.std.specs.Prelude.{◌+◌, ◌*◌, ◌^◌, ◌∷◌, ◌++◌}
 use Rattle.std.proofs.Common.{◌≡◌, ◌<◌, ◌≤◌, sym, refl, ap, ◌∙◌, subst, append_assoc, arith, length-take-le, take_at}
 use lib.Seq.{sets, sets-eq, length-sets}
-use Rattle.definition.specs.Prelude.{ℕ, ◌+◌, ◌*◌, ◌^◌, Bool, List, ◌∷◌, ◌++◌, length, take, drop}
+use Rattle.definition.specs.Prelude.{ℕ, Bool, List, length, take, drop}
 use Rattle.definition.specs.Basics.{Result, ok, refused, ◌>>=◌, with_places}
 use Rattle.definition.specs.Image.{u32_at, bits_at}
 use Rattle.definition.specs.Tree.{Node, recs_of}

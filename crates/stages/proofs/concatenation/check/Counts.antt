@@ -1,10 +1,10 @@
 -- The number of components after merging, counted from the first to the last.
+use Rattle.std.specs.Prelude.{if◌then◌else◌, ◌+◌, ◌&&◌, ◌∷◌, ◌++◌}
 use Rattle.std.proofs.Common.{◌≡◌, sym, refl, ◌∙◌, arith}
 use Rattle.definition.specs.Component.{Component}
-use Rattle.definition.specs.Basics.{if◌then◌else◌}
 use Rattle.definition.specs.Image.{Placed}
 use Rattle.definition.specs.Concatenation.{is_static_literal, bits_of, whole_literal, merge, merge_onto}
-use Rattle.definition.specs.Prelude.{ℕ, suc, ◌+◌, Bool, true, false, ◌&&◌, List, [], ◌∷◌, ◌++◌, length}
+use Rattle.definition.specs.Prelude.{ℕ, suc, Bool, true, false, List, [], length}
 
 -- a component counts unless it and the one before it are static literals
 abbrev pub one_more_if : Bool → Bool → ℕ

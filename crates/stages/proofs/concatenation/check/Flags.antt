@@ -1,9 +1,10 @@
 -- What the flags of a kept component say of it.
+use Rattle.std.specs.Prelude.{◌+◌, ◌/◌, ◌%◌}
 use Rattle.std.proofs.Common.{◌≡◌, sym, refl, arith}
 use Rattle.definition.specs.Concatenation.{has_full_range, is_static_literal}
 use Rattle.definition.specs.Ranges.{static_range, static_width}
 use Rattle.definition.specs.Answer.{flag}
-use Rattle.definition.specs.Prelude.{ℕ, ◌+◌, ◌/◌, ◌%◌, Bool, true, false, not, Option, none, some, ℤ, eqb}
+use Rattle.definition.specs.Prelude.{ℕ, Bool, true, false, not, Option, none, some, ℤ, eqb}
 use Rattle.definition.specs.Component.{Component, ComponentType, literal, variable, filler, has_end}
 use Rattle.stages.specs.component.Kept.{flags_of}
 use Rattle.stages.specs.concatenation.running_check.Running.{kind_of}

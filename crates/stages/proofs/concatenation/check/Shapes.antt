@@ -1,11 +1,12 @@
 -- A kept component has the shape that its words say, and a step over the shape is the step over the component.
+use Rattle.std.specs.Prelude.{◌+◌, ◌*◌}
 use Rattle.std.proofs.Common.{◌≡◌, sym, refl, ap, ◌∙◌, arith}
 use Rattle.definition.specs.Ranges.{static_width}
 use Rattle.definition.specs.Concatenation.{Running, add_width, check_type, has_full_range}
 use Rattle.definition.specs.Basics.{Result, ok, refused, ◌>>=◌, with_places}
 use Rattle.definition.specs.Component.{Component, ComponentType, literal, variable, filler, has_end}
 use Rattle.definition.specs.Image.{Placed}
-use Rattle.definition.specs.Prelude.{ℕ, ◌+◌, ◌*◌, Bool, true, false, not, List, get_or, eqb}
+use Rattle.definition.specs.Prelude.{ℕ, Bool, true, false, not, List, get_or, eqb}
 use Rattle.numbers.specs.Value.{option_of}
 use Rattle.stages.specs.component.Kept.{width_in}
 use Rattle.stages.specs.declared.concatenation.running_check.running.Shape.{Shape}

@@ -1,10 +1,11 @@
 -- The loops over the kept components of a concatenation: one turn, and the end.
+use Rattle.std.specs.Prelude.{if◌then◌else◌, ◌+◌, ◌-◌, ◌*◌, ◌/◌, ◌%◌, ◌&&◌, ◌∷◌}
 use Rattle.std.proofs.Common.{◌≡◌, ◌<◌, ◌≤◌, ◌⊎◌, sym, ap, ◌∙◌, ⊎_elim, true≢false, add-zero, zero-add, add-one, arith, length-drop, eq-eqb, ne_eqb}
 use Rattle.definition.specs.Component.{Component}
-use Rattle.definition.specs.Basics.{Result, ok, refused, ◌>>=◌, with_places, is_empty, if◌then◌else◌}
+use Rattle.definition.specs.Basics.{Result, ok, refused, ◌>>=◌, with_places, is_empty}
 use Rattle.definition.specs.Overall.{place_from}
 use Rattle.definition.specs.Image.{Placed}
-use Rattle.definition.specs.Prelude.{ℕ, suc, ◌+◌, ◌-◌, ◌*◌, ◌/◌, ◌%◌, Bool, true, false, not, ◌&&◌, none, some, List, [], ◌∷◌, length, get_or, drop, eqb}
+use Rattle.definition.specs.Prelude.{ℕ, suc, Bool, true, false, not, none, some, List, [], length, get_or, drop, eqb}
 use Rattle.definition.specs.Concatenation.{Running, Concatenation, unchecked, add_width, check_type, check_from, check, is_static_literal, merge}
 use Rattle.laws.specs.Results.{bind_assoc}
 use Rattle.errors.specs.declared.Checked.{Checked}

@@ -1,10 +1,11 @@
 -- Stage 3 after i concatenations: those that are done, with their heads, and what is left to come.
+use Rattle.std.specs.Prelude.{◌+◌, ◌*◌, ◌∷◌, ◌++◌}
 use Rattle.std.proofs.Common.{◌≡◌, ◌≤◌, sym, refl, ap, ◌∙◌, subst, append_assoc, append-nil, add-one, arith, length-append}
 use lib.Seq.{sets, sets-eq, take-append_seam}
 use Rattle.definition.specs.Basics.{Result, ok, refused, ◌>>=◌, joined}
 use Rattle.definition.specs.Component.{Component}
 use Rattle.definition.specs.Image.{Placed}
-use Rattle.definition.specs.Prelude.{ℕ, suc, ◌+◌, ◌*◌, true, false, List, [], ◌∷◌, ◌++◌, map, length, take, drop}
+use Rattle.definition.specs.Prelude.{ℕ, suc, true, false, List, [], map, length, take, drop}
 use Rattle.definition.specs.Concatenation.{Concatenation, check, stage3, merge}
 use Rattle.prepared.specs.Bytes.{Holds}
 use Rattle.errors.specs.declared.Checked.{Checked}

@@ -1,10 +1,11 @@
 -- The two words of a concatenation: written, and read back.
+use Rattle.std.specs.Prelude.{◌+◌, ◌*◌, ◌/◌, ◌%◌, ◌^◌, ◌∷◌}
 use Rattle.std.proofs.Common.{◌≡◌, ◌≤◌, set, sym, refl, ap, add-one, arith, ne_eqb, le-leb}
 use borrow.Author.Tests.{lt-leb}
 use lib.Seq.{sets}
 use Rattle.definition.specs.Answer.{flag}
 use Rattle.definition.specs.Concatenation.{Concatenation, FillerAlign, align_none, align_single, align_lsb, align_msb, align_mid, align_multiple, align_number, merge}
-use Rattle.definition.specs.Prelude.{ℕ, ◌+◌, ◌*◌, ◌/◌, ◌%◌, ◌^◌, Bool, true, false, Option, none, some, List, [], ◌∷◌, length, get_or, drop, leb}
+use Rattle.definition.specs.Prelude.{ℕ, Bool, true, false, Option, none, some, List, [], length, get_or, drop, leb}
 use Rattle.numbers.specs.Value.{option_usize}
 use Rattle.stages.specs.concatenation.Heads.{align_from, width_from, summary_by, width_or0, HeadsAre, AllChecked}
 use Rattle.stages.specs.concatenation.Overall.{HasSummary}

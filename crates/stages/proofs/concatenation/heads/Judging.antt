@@ -1,4 +1,5 @@
 -- What stage 3 leaves where it refuses nothing.
+use Rattle.std.specs.Prelude.{◌+◌, ◌^◌, ◌&&◌, ◌∷◌}
 use Rattle.std.proofs.Common.{◌≡◌, ◌≤◌, sym, refl, ap, ◌∙◌, subst, arith, length-append}
 use lib.ListN.{length-map}
 use Rattle.definition.specs.Ranges.{static_width}
@@ -7,7 +8,7 @@ use Rattle.definition.specs.Component.{Component, ComponentType, literal, variab
 use Rattle.definition.specs.Image.{Placed}
 use Rattle.definition.specs.Concatenation.{Concatenation, Running, has_full_range, unchecked, add_width, check_type, check_from, check, stage3, merge, is_align, align_none, align_of, is_static_literal}
 use Rattle.definition.specs.Basics.{ok, ◌>>=◌, with_places, is_empty, joined}
-use Rattle.definition.specs.Prelude.{ℕ, suc, ◌+◌, ◌^◌, Bool, true, false, not, ◌&&◌, Option, none, some, ltb, eqb, ℤ, nat_abs, List, [], ◌∷◌, map, length}
+use Rattle.definition.specs.Prelude.{ℕ, suc, Bool, true, false, not, Option, none, some, ltb, eqb, ℤ, nat_abs, List, [], map, length}
 use Rattle.laws.specs.Results.{bind_ok, need_ok, need_then, placed_ok}
 use Rattle.stages.specs.token_tree.Rows.{Sizes}
 use Rattle.stages.specs.component.Kept.{KeptFrom}

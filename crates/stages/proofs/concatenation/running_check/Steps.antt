@@ -1,7 +1,8 @@
 -- One step of the running check, way by way.
+use Rattle.std.specs.Prelude.{◌+◌, ◌&&◌, if◌then◌else◌}
 use Rattle.std.proofs.Common.{◌≡◌, eq-eqb, ne_eqb}
-use Rattle.definition.specs.Prelude.{ℕ, ◌+◌, none, some, Bool, true, false, not, ◌&&◌, eqb, ℤ, nat_abs}
-use Rattle.definition.specs.Basics.{ok, Refusal, refused, with_places, if◌then◌else◌}
+use Rattle.definition.specs.Prelude.{ℕ, none, some, Bool, true, false, not, eqb, ℤ, nat_abs}
+use Rattle.definition.specs.Basics.{ok, Refusal, refused, with_places}
 use Rattle.definition.specs.Refusals.{refuse, lone_filler_sink, second_filler, sum_overflow}
 use Rattle.definition.specs.Concatenation.{Running, is_align, align_none, align_of as placed_align}
 use Rattle.numbers.specs.Value.{option_of}

@@ -1,11 +1,12 @@
 -- The checks of stage 4 after its loop, and its end.
+use Rattle.std.specs.Prelude.{◌&&◌}
 use mathlib.Core.Bool.{or-true}
 use Rattle.std.proofs.Common.{◌≡◌, eq-eqb, ne_eqb}
 use Rattle.definition.specs.Refusals.{number_of, no_common_width}
 use Rattle.definition.specs.Basics.{ok, Refusal, refused, refusal_of}
 use Rattle.definition.specs.Overall.{Overall, overall_from, overall_start, stage4}
 use Rattle.definition.specs.Concatenation.{Concatenation}
-use Rattle.definition.specs.Prelude.{ℕ, Option, none, some, Bool, true, not, ◌&&◌, List, leb, eqb}
+use Rattle.definition.specs.Prelude.{ℕ, Option, none, some, Bool, true, not, List, leb, eqb}
 use Rattle.laws.specs.Tests.{and_iff, eqb_iff}
 use Rattle.stages.specs.concatenation.Overall.{common_of, checks_of}
 

@@ -1,11 +1,12 @@
 -- The loops of stage 4: the concatenation of a turn with its components, and one turn of each definition.
+use Rattle.std.specs.Prelude.{◌+◌, ◌*◌, ◌∷◌, if◌then◌else◌}
 use Rattle.std.proofs.Common.{◌≡◌, ◌<◌, ◌≤◌, sym, refl, ap, ◌∙◌, subst, zero-add, add-one, arith}
 use lib.ListN.{length-map}
 use Rattle.definition.specs.Image.{Placed, component_count}
 use Rattle.definition.specs.Component.{Component}
-use Rattle.definition.specs.Prelude.{ℕ, zero, suc, ◌+◌, ◌*◌, Bool, true, false, Option, none, some, List, [], ◌∷◌, map, length, drop}
+use Rattle.definition.specs.Prelude.{ℕ, zero, suc, Bool, true, false, Option, none, some, List, [], map, length, drop}
 use Rattle.definition.specs.Refusals.{refuse, middle_filler, opposite_fillers}
-use Rattle.definition.specs.Basics.{Result, ok, Refusal, refused, ◌>>=◌, with_places, if◌then◌else◌, joined}
+use Rattle.definition.specs.Basics.{Result, ok, Refusal, refused, ◌>>=◌, with_places, joined}
 use Rattle.definition.specs.Overall.{Overall, place_from, join_width, check_source, overall_from, middle_from, opposite_from}
 use Rattle.definition.specs.Concatenation.{Concatenation, is_align, align_mid}
 use Rattle.stages.specs.declared.concatenation.overall.Summary.{Summary}

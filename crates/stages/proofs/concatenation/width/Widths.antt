@@ -1,6 +1,7 @@
 -- Widths: numbers that fit 64 bits, and a number of 128 bits without its sign.
+use Rattle.std.specs.Prelude.{◌+◌, ◌*◌, ◌-◌, ◌^◌}
 use Rattle.std.proofs.Common.{◌≡◌, ◌<◌, ◌≤◌, sym, ap, ◌∙◌, arith, ltb-false, le-ltb, lt-ltb}
-use Rattle.definition.specs.Prelude.{ℕ, ◌+◌, ◌*◌, ◌-◌, ◌^◌, none, some, true, false, ltb, nat_abs}
+use Rattle.definition.specs.Prelude.{ℕ, none, some, true, false, ltb, nat_abs}
 use Rattle.laws.specs.Tests.{by_test}
 use Rattle.numbers.specs.Value.{value_of, option_usize}
 use Rattle.numbers.specs.declared.I128.{I128}

@@ -1,7 +1,8 @@
 -- A run of items read as a bound: kept as written where it has no sign, else cut at the sign's record.
+use Rattle.std.specs.Prelude.{◌+◌, ◌-◌, ◌∷◌, ◌++◌, if◌then◌else◌}
 use Rattle.std.proofs.Common.{◌≡◌, ◌<◌, ◌≤◌, ◌⊎◌, sym, refl, ap, ◌∙◌, subst, inl, inr, arith}
-use Rattle.definition.specs.Prelude.{ℕ, ◌+◌, ◌-◌, Bool, true, false, not, Option, none, some, List, [], ◌∷◌, ◌++◌, length, eqb, get_or, pos}
-use Rattle.definition.specs.Basics.{ok, if◌then◌else◌, same_bytes}
+use Rattle.definition.specs.Prelude.{ℕ, Bool, true, false, not, Option, none, some, List, [], length, eqb, get_or, pos}
+use Rattle.definition.specs.Basics.{ok, same_bytes}
 use Rattle.definition.specs.Text as Text
 use Rattle.definition.specs.Text.{Item, is_group, is_token}
 use Rattle.definition.specs.Ranges as Ranges

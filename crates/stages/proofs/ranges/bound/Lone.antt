@@ -1,7 +1,8 @@
 -- A bound is one item: a token, or a group in parentheses.
+use Rattle.std.specs.Prelude.{◌+◌, ◌-◌, ◌∷◌, if◌then◌else◌}
 use Rattle.std.proofs.Common.{◌≡◌, ◌<◌, ◌≤◌, ◌⊎◌, sym, refl, ap, ◌∙◌, subst, inl, inr, arith, eq-eqb, ne_eqb}
-use Rattle.definition.specs.Prelude.{ℕ, ◌+◌, ◌-◌, Bool, true, false, none, some, List, [], ◌∷◌, length, eqb, pos}
-use Rattle.definition.specs.Basics.{ok, refused, refusal_of, if◌then◌else◌}
+use Rattle.definition.specs.Prelude.{ℕ, Bool, true, false, none, some, List, [], length, eqb, pos}
+use Rattle.definition.specs.Basics.{ok, refused, refusal_of}
 use Rattle.definition.specs.Numbers.{half128}
 use Rattle.definition.specs.Text as Text
 use Rattle.definition.specs.Text.{Item, is_group, is_token, items}

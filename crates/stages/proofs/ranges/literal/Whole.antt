@@ -1,9 +1,10 @@
 -- The range of a literal: its start, then its end or none; and of a filler.
+use Rattle.std.specs.Prelude.{◌-◌, ◌^◌, ◌∷◌, ◌-ℤ◌, if◌then◌else◌}
 use mathlib.Core.Bool.{or-true}
 use Rattle.std.proofs.Common.{◌≡◌, ◌<◌, ◌≤◌, Bool, true, false, not, ◌||◌, sym, refl, ap, ◌∙◌, subst, le_of_lt, arith, ltb-false, ltb-true, le-leb}
 use borrow.Author.Tests.{lt-leb}
-use Rattle.definition.specs.Prelude.{ℕ, ◌-◌, ◌^◌, Option, none, some, List, [], ◌∷◌, ltb, leb, ℤ, pos, negsuc, ◌-ℤ◌, lt_z, le_z, non_neg}
-use Rattle.definition.specs.Basics.{Result, ok, ◌>>=◌, if◌then◌else◌, is_empty, same_bytes}
+use Rattle.definition.specs.Prelude.{ℕ, Option, none, some, List, [], ltb, leb, ℤ, pos, negsuc, lt_z, le_z, non_neg}
+use Rattle.definition.specs.Basics.{Result, ok, ◌>>=◌, is_empty, same_bytes}
 use Rattle.definition.specs.Numbers.{half128, narrow}
 use Rattle.definition.specs.Refusals.{need, start_above_width, end_above_width, range_above_width, end_zero_lem, open_start}
 use Rattle.definition.specs.Ranges as D

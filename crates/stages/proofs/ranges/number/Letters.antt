@@ -1,10 +1,11 @@
 -- A text that begins above `9` is no number: no sign, no `0` before a radix, and no decimal digit. A text within the image is a part of it.
+use Rattle.std.specs.Prelude.{◌+◌, ◌*◌, ◌-◌, ◌∷◌, if◌then◌else◌}
 use mathlib.Core.Bool.{and-false}
 use Rattle.std.proofs.Common.{◌≡◌, ◌<◌, ◌≤◌, refl, ap, ◌∙◌, arith, length-drop, le-ltb, ne_eqb}
 use borrow.Author.Tests.{lt-leb}
-use Rattle.definition.specs.Prelude.{ℕ, zero, suc, ◌+◌, ◌*◌, ◌-◌, Bool, true, false, Option, none, some, List, [], ◌∷◌}
+use Rattle.definition.specs.Prelude.{ℕ, zero, suc, Bool, true, false, Option, none, some, List, []}
 use Rattle.definition.specs.Prelude.{length, get_or, take, drop, leb, ltb, eqb}
-use Rattle.definition.specs.Basics.{if◌then◌else◌, within}
+use Rattle.definition.specs.Basics.{within}
 use Rattle.definition.specs.Numbers.{digit_worth, digit_in, digits_from, inner, unsigned_parse, try_parse}
 use Rattle.definition.specs.Image.{padded, bytes_at}
 use Rattle.stages.proofs.token_tree.Same.{first_on}

@@ -1,7 +1,8 @@
 -- The bounds of a range: what `including`, `ended`, `parse_start` and `parse_end` give.
+use Rattle.std.specs.Prelude.{◌+◌, ◌∷◌, if◌then◌else◌}
 use Rattle.std.proofs.Common.{◌≡◌, ◌<◌, ◌≤◌, sym, refl, ap, subst, arith}
-use Rattle.definition.specs.Prelude.{ℕ, ◌+◌, Bool, true, false, Option, some, List, [], ◌∷◌, length}
-use Rattle.definition.specs.Basics.{Result, ok, refused, refusal_of, ◌>>=◌, if◌then◌else◌}
+use Rattle.definition.specs.Prelude.{ℕ, Bool, true, false, Option, some, List, [], length}
+use Rattle.definition.specs.Basics.{Result, ok, refused, refusal_of, ◌>>=◌}
 use Rattle.definition.specs.Text.{Item}
 use Rattle.definition.specs.Ranges as Ranges
 use Rattle.definition.specs.Ranges.{parse_usb, parse_start}

@@ -1,6 +1,7 @@
 -- Both sides of a range's dots stand in the table, and give the range.
+use Rattle.std.specs.Prelude.{◌∷◌}
 use Rattle.std.proofs.Common.{◌≡◌, ◌<◌, ◌≤◌, sym, refl, ap, ◌∙◌, subst, arith, length-drop, take-append-drop, length-take-le}
-use Rattle.definition.specs.Prelude.{ℕ, Bool, true, false, List, [], ◌∷◌, take, drop, length}
+use Rattle.definition.specs.Prelude.{ℕ, Bool, true, false, List, [], take, drop, length}
 use Rattle.definition.specs.Basics.{refused, refusal_of, ◌>>=◌}
 use Rattle.definition.specs.Text.{Item}
 use Rattle.definition.specs.Ranges.{parse_start, parse_range}

@@ -1,6 +1,7 @@
 -- What a scan leaves: places in the run, and the range that they give.
+use Rattle.std.specs.Prelude.{◌+◌, ◌-◌, ◌∷◌}
 use Rattle.std.proofs.Common.{◌≡◌, ◌<◌, ◌≤◌, sym, refl, ap, ◌∙◌, subst, add-zero, zero-add, arith, eqb-true}
-use Rattle.definition.specs.Prelude.{ℕ, suc, ◌+◌, ◌-◌, Bool, true, false, Option, none, some, List, [], ◌∷◌, length, eqb}
+use Rattle.definition.specs.Prelude.{ℕ, suc, Bool, true, false, Option, none, some, List, [], length, eqb}
 use Rattle.definition.specs.Basics.{Result, ok, refused, refusal_of, ◌>>=◌}
 use Rattle.definition.specs.Text.{Item, is_token}
 use Rattle.definition.specs.Ranges.{Usbr, Scan, find, scan_step, scan_from, scan_dots, parse_range}

@@ -1,8 +1,9 @@
 -- The scan for dots: one step, its end, and what the loop keeps.
+use Rattle.std.specs.Prelude.{◌+◌, ◌-◌, ◌∷◌, ◌++◌, if◌then◌else◌}
 use Rattle.std.proofs.Common.{◌≡◌, ◌<◌, ◌≤◌, sym, refl, ap, ◌∙◌, append_assoc, append-nil, add-one, arith, length-append, ne_eqb, eqb-true}
 use borrow.Author.Tests.{eqb-false}
-use Rattle.definition.specs.Prelude.{ℕ, suc, ◌+◌, ◌-◌, Bool, true, false, Option, none, some, List, [], ◌∷◌, ◌++◌, length, eqb}
-use Rattle.definition.specs.Basics.{Result, ok, refused, refusal_of, ◌>>=◌, if◌then◌else◌}
+use Rattle.definition.specs.Prelude.{ℕ, suc, Bool, true, false, Option, none, some, List, [], length, eqb}
+use Rattle.definition.specs.Basics.{Result, ok, refused, refusal_of, ◌>>=◌}
 use Rattle.definition.specs.Text.{Item, is_token}
 use Rattle.definition.specs.Ranges.{Scan, find, scan_step, scan_from, scan_dots}
 use Rattle.laws.specs.Tests.{by_test}

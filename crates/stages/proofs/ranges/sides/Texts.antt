@@ -1,6 +1,7 @@
 -- Texts of the text table: what number one is, and that it lies within the image.
+use Rattle.std.specs.Prelude.{◌+◌, ◌-◌}
 use Rattle.std.proofs.Common.{◌≡◌, ◌<◌, sym, ap, ◌∙◌, arith, ne_eqb}
-use Rattle.definition.specs.Prelude.{ℕ, ◌+◌, ◌-◌, some, List, drop, pos}
+use Rattle.definition.specs.Prelude.{ℕ, some, List, drop, pos}
 use Rattle.definition.specs.Numbers.{try_parse}
 use Rattle.definition.specs.Image.{bytes_at}
 use Rattle.definition.specs.Ranges.{number_in}

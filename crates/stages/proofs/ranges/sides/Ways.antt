@@ -1,7 +1,8 @@
 -- The two sides of a bound's sign: one law for each way through the code.
+use Rattle.std.specs.Prelude.{◌+◌, ◌^◌, if◌then◌else◌}
 use Rattle.std.proofs.Common.{◌≡◌, ◌<◌, ◌≤◌, sym, refl, ap, ◌∙◌, subst, arith}
-use Rattle.definition.specs.Prelude.{ℕ, ◌+◌, ◌^◌, Bool, true, false, Option, none, some, List, eqb, get_or, ℤ, pos}
-use Rattle.definition.specs.Basics.{Result, ok, if◌then◌else◌}
+use Rattle.definition.specs.Prelude.{ℕ, Bool, true, false, Option, none, some, List, eqb, get_or, ℤ, pos}
+use Rattle.definition.specs.Basics.{Result, ok}
 use Rattle.definition.specs.Numbers.{narrow}
 use Rattle.definition.specs.Refusals.{bound_overflow}
 use Rattle.definition.specs.Text as Text

@@ -1,7 +1,7 @@
 -- A cut has the items before its sign, the sign, which is a token of one character, and the items behind it.
+use Rattle.std.specs.Prelude.{◌&&◌, ◌∷◌, ◌++◌, if◌then◌else◌}
 use Rattle.std.proofs.Common.{◌≡◌, ◌⊎◌, refl, ap, inl, inr}
-use Rattle.definition.specs.Prelude.{Bool, true, false, ◌&&◌, Option, none, some, List, [], ◌∷◌, ◌++◌}
-use Rattle.definition.specs.Basics.{if◌then◌else◌}
+use Rattle.definition.specs.Prelude.{Bool, true, false, Option, none, some, List, []}
 use Rattle.definition.specs.Text.{Item, is_token}
 use Rattle.definition.specs.Ranges.{Cut, behind, begins_with, cut_last, cut_pair, cut_bound, or_else}
 use Rattle.laws.specs.Tests.{and_iff}

@@ -1,8 +1,8 @@
 -- The cuts of a list of items, found from the left: what was found in the items passed, and what the others still give.
+use Rattle.std.specs.Prelude.{◌∷◌, ◌++◌, if◌then◌else◌}
 use mathlib.Core.Bool.{and-false}
 use Rattle.std.proofs.Common.{◌≡◌, sym, refl, ap, ◌∙◌, append_assoc, append-nil}
-use Rattle.definition.specs.Prelude.{Bool, true, false, Option, none, some, List, [], ◌∷◌, ◌++◌}
-use Rattle.definition.specs.Basics.{if◌then◌else◌}
+use Rattle.definition.specs.Prelude.{Bool, true, false, Option, none, some, List, []}
 use Rattle.definition.specs.Characters.{char}
 use Rattle.definition.specs.Text.{Item, is_token}
 use Rattle.definition.specs.Ranges.{Cut, behind, cut_last, cut_pair, or_else}

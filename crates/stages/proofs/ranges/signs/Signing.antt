@@ -1,8 +1,9 @@
 -- The search for the signs: one step, its end, and what the loop keeps.
+use Rattle.std.specs.Prelude.{◌+◌, ◌-◌, ◌∷◌, ◌++◌, if◌then◌else◌}
 use Rattle.std.proofs.Common.{◌≡◌, ◌<◌, ◌≤◌, ◌⊎◌, sym, refl, ap, ◌∙◌, subst, inl, inr, append_assoc, add-one, arith, length-append, eq-eqb, ne_eqb, eqb-true}
 use borrow.Author.Tests.{not-true}
-use Rattle.definition.specs.Prelude.{ℕ, suc, ◌+◌, ◌-◌, Bool, true, false, not, Option, none, some, List, [], ◌∷◌, ◌++◌, length, eqb}
-use Rattle.definition.specs.Basics.{if◌then◌else◌, same_bytes}
+use Rattle.definition.specs.Prelude.{ℕ, suc, Bool, true, false, not, Option, none, some, List, [], length, eqb}
+use Rattle.definition.specs.Basics.{same_bytes}
 use Rattle.definition.specs.Text.{Item, is_token, is_group}
 use Rattle.definition.specs.Ranges.{Cut, cut_last, cut_pair, cut_bound, or_else}
 use Rattle.laws.specs.Tests.{by_test, and_iff}

@@ -1,8 +1,9 @@
 -- The tests of a range in code, 21 to 23: each by its number, and all in order.
+use Rattle.std.specs.Prelude.{◌^◌, if◌then◌else◌}
 use Rattle.std.proofs.Common.{◌≡◌, ◌<◌, ◌≤◌, Bool, true, false, not, ◌&&◌, sym, refl, ap, ◌∙◌, subst, arith, lt-ltb, eq-eqb, ne_eqb, eqb-true, le-leb}
 use borrow.Author.Tests.{lt-leb}
-use Rattle.definition.specs.Prelude.{ℕ, zero, suc, ◌^◌, Option, none, some, List, eqb, ℤ, pos, negsuc, nat_abs, lt_z, non_neg}
-use Rattle.definition.specs.Basics.{Result, ok, refused, refusal_of, ◌>>=◌, if◌then◌else◌}
+use Rattle.definition.specs.Prelude.{ℕ, zero, suc, Option, none, some, List, eqb, ℤ, pos, negsuc, nat_abs, lt_z, non_neg}
+use Rattle.definition.specs.Basics.{Result, ok, refused, refusal_of, ◌>>=◌}
 use Rattle.definition.specs.Refusals.{need, negative_bound, reversed, zero_width}
 use Rattle.definition.specs.Ranges as D
 use Rattle.definition.specs.Ranges.{static_val, static_width}

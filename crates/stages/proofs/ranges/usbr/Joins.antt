@@ -1,7 +1,8 @@
 -- Stage 2 of a range in code: the width, both bounds one after the other, then the tests.
+use Rattle.std.specs.Prelude.{◌-ℤ◌, if◌then◌else◌}
 use Rattle.std.proofs.Common.{◌≡◌, Bool, true, false, sym, refl, ap, ◌∙◌, subst, arith}
-use Rattle.definition.specs.Prelude.{ℕ, Option, none, some, List, ℤ, ◌-ℤ◌}
-use Rattle.definition.specs.Basics.{Result, ok, ◌>>=◌, if◌then◌else◌, same_bytes}
+use Rattle.definition.specs.Prelude.{ℕ, Option, none, some, List, ℤ}
+use Rattle.definition.specs.Basics.{Result, ok, ◌>>=◌, same_bytes}
 use Rattle.definition.specs.Numbers.{narrow}
 use Rattle.definition.specs.Ranges as D
 use Rattle.definition.specs.Ranges.{static_width}

@@ -1,10 +1,10 @@
 -- Rows of bits written one after another into a region of zeros: the region holds the packed bits of all of them, the rest 0.
-use Rattle.std.specs.Prelude.{◌≡◌, ℕ, zero, suc, ◌+◌, ◌-◌, ◌*◌, ◌/◌, ◌%◌, ◌^◌, ◌<◌, ◌≤◌, ◌⊎◌, replicate, refl}
+use Rattle.std.specs.Prelude.{◌≡◌, ℕ, zero, suc, ◌+◌, ◌-◌, ◌*◌, ◌/◌, ◌%◌, ◌^◌, ◌<◌, ◌≤◌, ◌⊎◌, replicate, refl, ◌∷◌, ◌++◌}
 use Rattle.std.proofs.Common.{sym, ap, ◌∙◌, ⊎_elim, zero-add, zero-mul, arith, length-append, get_or-append-add, get_or-drop, lt-ltb, ltb-true, ltb-false}
 use Rattle.std.proofs.Math.ListN.{get_or-eq_default, get_or-append}
 use Rattle.std.proofs.lemmas.List.Edits.{sets}
 use Rattle.std.proofs.Math.Seq.{length-sets}
-use Rattle.definition.specs.Prelude.{List, [], ◌∷◌, ◌++◌, length, get_or, drop, ltb}
+use Rattle.definition.specs.Prelude.{List, [], length, get_or, drop, ltb}
 use Rattle.definition.specs.Basics.{all, tab}
 use Rattle.definition.specs.Image.{padded, bytes_at, bytes_for, bits_at}
 use Rattle.definition.specs.Tree.{byte_of, packed}

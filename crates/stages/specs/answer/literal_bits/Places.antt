@@ -1,10 +1,10 @@
 -- Bits written into a list of bytes: the list bit by bit, nothing written, one write after another, and a write inside one byte.
-use Rattle.std.specs.Prelude.{◌≡◌, ℕ, zero, suc, ◌+◌, ◌-◌, ◌*◌, ◌/◌, ◌%◌, ◌^◌, ◌<◌, ◌≤◌, ◌≢◌, slice_set, refl}
+use Rattle.std.specs.Prelude.{◌≡◌, ℕ, zero, suc, ◌+◌, ◌-◌, ◌*◌, ◌/◌, ◌%◌, ◌^◌, ◌<◌, ◌≤◌, ◌≢◌, slice_set, refl, ◌&&◌}
 use Rattle.std.proofs.Common.{sym, ◌∙◌, zero-add, arith, length-set, ext_get_or, get_or-set_same, get_or-set_other, shr-shr, le-leb, lt-ltb, le-ltb, ltb-true, ltb-false, leb-true, leb-false}
 use Rattle.std.proofs.Math.Path.{ap}
 use Rattle.std.proofs.Math.ListN.{get_or-eq_default}
 use Rattle.std.proofs.lemmas.Bool.{lt-leb}
-use Rattle.definition.specs.Prelude.{Bool, true, false, ◌&&◌, List, length, get_or, leb, ltb, eqb}
+use Rattle.definition.specs.Prelude.{Bool, true, false, List, length, get_or, leb, ltb, eqb}
 use Rattle.laws.specs.Tests.{by_test, eqb_iff, eqb_apart}
 use Rattle.laws.specs.Lists.{length_tab, get_or_tab}
 use Rattle.prepared.specs.Bits.{worth, worth_bound, bit_of_byte, byte_of_bits}

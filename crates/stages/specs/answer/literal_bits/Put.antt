@@ -1,6 +1,7 @@
 -- Bits written into a list of bytes. Bit i is bit i % 8 of byte i / 8; a byte that is missing counts as 0.
-use Rattle.definition.specs.Prelude.{ℕ, ◌+◌, ◌*◌, ◌-◌, ◌/◌, ◌%◌, ◌^◌, ◌&&◌, List, length, get_or, leb, ltb}
-use Rattle.definition.specs.Basics.{if◌then◌else◌, sum, tab}
+use Rattle.std.specs.Prelude.{◌+◌, ◌*◌, ◌-◌, ◌/◌, ◌%◌, ◌^◌, ◌&&◌, if◌then◌else◌}
+use Rattle.definition.specs.Prelude.{ℕ, List, length, get_or, leb, ltb}
+use Rattle.definition.specs.Basics.{sum, tab}
 
 abbrev pub bit_of : List ℕ → ℕ → ℕ
 bit_of s i = get_or s (i / 8) 0 / 2 ^ (i % 8) % 2

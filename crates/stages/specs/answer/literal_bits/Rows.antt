@@ -1,11 +1,11 @@
 -- Rows of bits, each from its place in its list, written one after another from the first bit of a region of zeros.
-use Rattle.std.specs.Prelude.{◌≡◌, ℕ, ◌+◌, ◌*◌, ◌≤◌, replicate}
+use Rattle.std.specs.Prelude.{◌≡◌, ℕ, ◌+◌, ◌*◌, ◌≤◌, replicate, ◌∷◌, ◌++◌}
 use Rattle.std.proofs.Math.Path.{refl, ap}
 use Rattle.std.proofs.Common.{sym, ◌∙◌, append_assoc, append-nil, add-zero}
 use native.Mathlib.Omega.{arith}
 use Rattle.std.proofs.Math.ListN.{length-append}
 use Rattle.std.proofs.Math.Seq.{sets}
-use Rattle.definition.specs.Prelude.{List, [], ◌∷◌, ◌++◌, map, length}
+use Rattle.definition.specs.Prelude.{List, [], map, length}
 use Rattle.definition.specs.Basics.{all, joined}
 use Rattle.definition.specs.Image.{padded}
 use Rattle.definition.specs.Tree.{packed}

@@ -1,10 +1,10 @@
 -- A run of bytes written into a list: one more, a run past the end, and the list after it, byte by byte.
-use Rattle.std.specs.Prelude.{◌≡◌, ℕ, zero, suc, ◌+◌, ◌-◌, ◌<◌, ◌≤◌, min, ◌⊎◌, replicate, slice_set, refl}
+use Rattle.std.specs.Prelude.{◌≡◌, ℕ, zero, suc, ◌+◌, ◌-◌, ◌<◌, ◌≤◌, min, ◌⊎◌, replicate, slice_set, refl, ◌∷◌}
 use Rattle.std.proofs.Common.{sym, ap, ◌∙◌, ⊎_elim, add-zero, add-suc, suc-add, arith, length-set, get_or-set_same, get_or-set_other, get_or-drop, ext_get_or, leb-true, leb-false, ltb-true, ltb-false}
 use Rattle.std.proofs.lemmas.List.{length-replicate, replicate-append-replicate}
 use Rattle.std.proofs.lemmas.List.Edits.{sets}
 use Rattle.std.proofs.Math.Seq.{length-sets}
-use Rattle.definition.specs.Prelude.{List, [], ◌∷◌, length, get_or, drop, leb, ltb}
+use Rattle.definition.specs.Prelude.{List, [], length, get_or, drop, leb, ltb}
 use Rattle.definition.specs.Image.{padded, bytes_at}
 use Rattle.laws.specs.Padded.{length_padded, get_or_padded}
 use Rattle.laws.specs.Sets.{sets_append, sets_past}

@@ -1,8 +1,8 @@
 -- The premises of the theorems on rows are met: three rows, from bits 2, 5 and 0 of three lists, into two bytes between two others.
-use Rattle.std.specs.Prelude.{◌≡◌, ℕ, zero, suc, ◌≤◌, replicate, refl}
+use Rattle.std.specs.Prelude.{◌≡◌, ℕ, zero, suc, ◌≤◌, replicate, refl, ◌∷◌}
 use Rattle.std.proofs.Common.{arith}
 use Rattle.std.proofs.lemmas.List.Edits.{sets}
-use Rattle.definition.specs.Prelude.{List, [], ◌∷◌, length}
+use Rattle.definition.specs.Prelude.{List, [], length}
 use Rattle.definition.specs.Basics.{joined, sum, tab}
 use Rattle.definition.specs.Image.{padded}
 use Rattle.definition.specs.Tree.{packed}

@@ -1,9 +1,9 @@
 -- One merged component written before the others.
-use Rattle.std.specs.Prelude.{◌≡◌, ◌≤◌, refl}
+use Rattle.std.specs.Prelude.{◌≡◌, ◌≤◌, refl, ◌+◌, ◌*◌, ◌∷◌, ◌++◌}
 use Rattle.std.proofs.Math.Path.{sym, ap}
 use Rattle.std.proofs.Common.{◌∙◌, add_assoc, arith, length-append}
 use Rattle.std.proofs.Math.Seq.{sets, length-sets}
-use Rattle.definition.specs.Prelude.{ℕ, suc, ◌+◌, ◌*◌, List, [], ◌∷◌, ◌++◌, length}
+use Rattle.definition.specs.Prelude.{ℕ, suc, List, [], length}
 use Rattle.definition.specs.Basics.{joined}
 use Rattle.definition.specs.Limits.{sizes}
 use Rattle.definition.specs.Image.{Placed}

@@ -1,7 +1,7 @@
 -- What the code holds between two components: where the next block stands, and an open run whose bits stand in the literal block.
-use Rattle.std.specs.Prelude.{◌≡◌, ◌<◌, ◌≤◌}
+use Rattle.std.specs.Prelude.{◌≡◌, ◌<◌, ◌≤◌, ◌+◌, ◌-◌, ◌^◌, ◌∷◌}
 use Rattle.std.proofs.lemmas.List.Edits.{sets}
-use Rattle.definition.specs.Prelude.{ℕ, ◌+◌, ◌-◌, ◌^◌, Bool, true, false, none, some, List, [], ◌∷◌, length, drop}
+use Rattle.definition.specs.Prelude.{ℕ, Bool, true, false, none, some, List, [], length, drop}
 use Rattle.definition.specs.Image.{Placed, bytes_for}
 use Rattle.definition.specs.Tree.{packed}
 use Rattle.definition.specs.Component.{Component}

@@ -1,6 +1,5 @@
 -- What an alignment in code means.
-use Rattle.definition.specs.Prelude.{◌||◌}
-use Rattle.definition.specs.Basics.{if◌then◌else◌}
+use Rattle.std.specs.Prelude.{◌||◌, if◌then◌else◌}
 use Rattle.definition.specs.Concatenation.{FillerAlign, align_none, align_single, align_lsb, align_msb, align_mid, align_multiple, is_align}
 use Rattle.stages.specs.declared.concatenation.alignment.align.FillerAlign.{FillerAlign as Align}
 use Rattle.stages.specs.declared.concatenation.alignment.align.FillerAlign.TheVariants as A

@@ -1,7 +1,7 @@
 -- What stage 3 asks of a component, the running check in code, and one step of it.
-use Rattle.definition.specs.Prelude.{ℕ, ◌+◌, ◌^◌, Bool, true, false, not, ◌&&◌, ◌||◌, Option, none, some, ltb, eqb, ℤ, nat_abs}
-use Rattle.std.specs.Prelude.{◌≡◌}
-use Rattle.definition.specs.Basics.{Result, ok, refused, ◌>>=◌, with_places, if◌then◌else◌}
+use Rattle.definition.specs.Prelude.{ℕ, Bool, true, false, not, Option, none, some, ltb, eqb, ℤ, nat_abs}
+use Rattle.std.specs.Prelude.{◌≡◌, ◌+◌, ◌^◌, ◌&&◌, ◌||◌, if◌then◌else◌}
+use Rattle.definition.specs.Basics.{Result, ok, refused, ◌>>=◌, with_places}
 use Rattle.definition.specs.Refusals.{need, literal_in_sink, lone_filler_sink, second_filler, zero_total_width, sum_overflow}
 use Rattle.definition.specs.Ranges.{static_width}
 use Rattle.definition.specs.Component.{Component, ComponentType, literal, variable, filler, has_end}

@@ -1,4 +1,5 @@
 -- The skip of an opener, token by token.
+use Rattle.std.specs.Prelude.{◌+◌, ◌-◌, ◌∷◌, if◌then◌else◌}
 use mathlib.Core.Path.{◌≡◌, refl, sym, ◌∙◌}
 use mathlib.Core.Logic.{◌≢◌}
 use Prim.Native.Nat.{◌≤◌, ◌<◌}
@@ -7,8 +8,7 @@ use native.Mathlib.Omega.{arith}
 use lib.Seq.{slice, slice_empty}
 use native.Mathlib.Numerals.{add-one}
 use borrow.Author.Tests.{ltb-true, ltb-false, lt-ltb, le-ltb}
-use Rattle.definition.specs.Prelude.{ℕ, zero, suc, ◌+◌, ◌-◌, Bool, true, false, List, ◌∷◌, ltb, eqb}
-use Rattle.definition.specs.Basics.{if◌then◌else◌}
+use Rattle.definition.specs.Prelude.{ℕ, zero, suc, Bool, true, false, List, ltb, eqb}
 use Rattle.definition.specs.Tokens.{Token, single, opener, closer, kind_at, token_at, tokens, count}
 use Rattle.laws.specs.Tests.{by_test, eqb_iff, eqb_false, eqb_apart}
 use Rattle.token_facts.specs.Flat.{after, inner}

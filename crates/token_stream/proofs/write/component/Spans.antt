@@ -1,10 +1,11 @@
 -- The tokens s to e of a list: the loop that writes them.
+use Rattle.std.specs.Prelude.{◌+◌, ◌∷◌}
 use mathlib.Core.Path.{◌≡◌}
 use Prim.Native.Nat.{◌<◌}
 use native.Mathlib.Omega.{arith}
 use lib.Seq.{slice, slice_empty}
 use borrow.Author.Tests.{ltb-true, ltb-false}
-use Rattle.definition.specs.Prelude.{ℕ, ◌+◌, true, List, ◌∷◌, ltb, eqb}
+use Rattle.definition.specs.Prelude.{ℕ, true, List, ltb, eqb}
 use Rattle.definition.specs.Tokens.{kind_at, token_at, tokens, count, tokens_right}
 use Rattle.laws.specs.Tests.{by_test, eqb_iff, eqb_apart}
 use Rattle.token_stream.specs.list.Tokens.{tokens_slice, leaf_token, opener_token, closer_token, kind_most}

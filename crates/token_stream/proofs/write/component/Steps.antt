@@ -1,4 +1,5 @@
 -- One token: what is written of it, by its kind.
+use Rattle.std.specs.Prelude.{◌+◌, ◌*◌, ◌-◌, ◌/◌, ◌^◌, ◌∷◌}
 use mathlib.Core.Path.{◌≡◌, refl, sym, ap, ◌∙◌}
 use mathlib.Core.Logic.{◌≢◌}
 use Prim.Native.Nat.{◌≤◌, ◌<◌}
@@ -7,7 +8,7 @@ use native.Mathlib.Omega.{arith}
 use lib.ListN.{length-append}
 use lib.Seq.{sets, slice}
 use borrow.Author.Tests.{le-ltb}
-use Rattle.definition.specs.Prelude.{ℕ, ◌+◌, ◌*◌, ◌-◌, ◌/◌, ◌^◌, true, false, List, [], ◌∷◌, length, drop}
+use Rattle.definition.specs.Prelude.{ℕ, true, false, List, [], length, drop}
 use Rattle.definition.specs.Characters.{char}
 use Rattle.definition.specs.Image.{kinds, delimiter, bytes_at}
 use Rattle.definition.specs.TokenStream.{Leaf, leaf_text}

@@ -1,10 +1,11 @@
 -- A component: its tokens as a span, and its three rows.
+use Rattle.std.specs.Prelude.{◌+◌, ◌*◌, ◌-◌, ◌/◌, ◌∷◌}
 use mathlib.Core.Path.{◌≡◌, refl, sym, ap, ◌∙◌}
 use mathlib.Core.List.{append-nil}
 use Prim.Native.Nat.{◌≤◌}
 use native.Mathlib.Omega.{arith}
 use lib.Seq.{sets, slice}
-use Rattle.definition.specs.Prelude.{ℕ, ◌+◌, ◌*◌, ◌-◌, ◌/◌, true, List, [], ◌∷◌, length, leb}
+use Rattle.definition.specs.Prelude.{ℕ, true, List, [], length, leb}
 use Rattle.definition.specs.Basics.{all, tab, joined}
 use Rattle.definition.specs.Tree.{Node, flat, depth, all_recs, text_of, packed, record_bytes}
 use Rattle.definition.specs.TokenStream.{Stream, forest_of}

@@ -1,5 +1,5 @@
+use Rattle.std.specs.Prelude.{◌^◌}
 use Rattle.std.proofs.Common.{◌≡◌, ◌<◌, sym, ap, ◌∙◌, subst, arith}
-use Rattle.definition.specs.Prelude.{◌^◌}
 use Rattle.definition.specs.Basics.{ok}
 use Rattle.definition.specs.Image.{bits_at}
 use Rattle.definition.specs.Component.{cut_literal}

@@ -1,5 +1,6 @@
+use Rattle.std.specs.Prelude.{◌&&◌}
 use Rattle.std.proofs.Common.{◌+◌, sym, refl, ◌∙◌, subst, arith}
-use Rattle.definition.specs.Prelude.{◌&&◌, eqb}
+use Rattle.definition.specs.Prelude.{eqb}
 use Rattle.definition.specs.Basics.{is_empty}
 use Rattle.stages.proofs.Cases.{passed}
 use Rattle.stages.proofs.component.walk.Going.{Stands, next_standing, fits_here, stands_next, going_start, going_end, going_refused, going_next}

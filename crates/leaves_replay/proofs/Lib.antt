@@ -1,2 +1,0 @@
--- A law that the proofs cite.
-pub mod Agreeing
