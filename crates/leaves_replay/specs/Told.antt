@@ -1,10 +1,6 @@
 -- The answer in an entry of data/numbers: 1 and 16 bytes of an i128, the lowest first, or 0 and zeros. What agrees with it is equal to it.
-<<<<<<< HEAD
 use Rattle.std.specs.Prelude.{◌+◌, ◌*◌, ◌^◌, ◌&&◌, if◌then◌else◌}
-use Rattle.definition.specs.Prelude.{ℕ, Bool, true, List, Option, none, some, ℤ, get_or, eqb}
-=======
 use Rattle.definition.specs.Prelude.{ℕ, Bool, List, Option, none, some, ℤ, get_or, eqb}
->>>>>>> 37be699191c7aeec360ad878580ce7ad84192bf5
 use Rattle.definition.specs.Image.{u32_at}
 use Rattle.numbers.specs.Value.{value_of}
 use Rattle.numbers.specs.declared.OptionI128.{OptionI128}

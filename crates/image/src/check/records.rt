@@ -87,7 +87,8 @@ fn check_in(
             if !crate::record_rules::opener_right(t, e, byte_of(image, text, e), closer) {
                 return 6;
             }
-            if limits::DEPTH <= depth {
+            let deep = limits::DEPTH <= depth;
+            if deep {
                 return 7;
             }
             let inside = check_in(image, records, text, all, t, k + 1, e.skip - 2, depth + 1);

@@ -144,8 +144,8 @@ returns-then-not-opener_right t c =
     (opener_refused a.t (entry_in image a.records a.text a.all a.t) a.depth v.k v.left c.loop-left-test.true e (c.numbers_at-e.ensures a.text)
     fits closer (c.numbers_at-closer.ensures a.text) (read ∙ c.if-not-opener_right.true))
 
-pub returns-then-depth-ge-DEPTH : goal.returns-then-depth-ge-DEPTH
-returns-then-depth-ge-DEPTH t c =
+pub returns-then-deep : goal.returns-then-deep
+returns-then-deep t c =
     let a = c.args in
     let v = c.loop-left in
     let image = a.image.now in
@@ -156,7 +156,7 @@ returns-then-depth-ge-DEPTH t c =
     v.invariant.2 _
     (deep_refused a.t (entry_in image a.records a.text a.all a.t) a.depth v.k v.left c.loop-left-test.true e (c.numbers_at-e.ensures a.text)
     fits closer (c.numbers_at-closer.ensures a.text) (read ∙ c.if-not-opener_right.false)
-    (omega (arith, c.if-depth-ge-DEPTH.true)))
+    (omega (arith, c.if-deep.true)))
 
 pub check_in-inside-requires : goal.check_in-inside-requires
 check_in-inside-requires t c =
@@ -164,7 +164,7 @@ check_in-inside-requires t c =
     let v = c.loop-left in
     let fits : Opener (entry_from a.image.now a.text c.numbers_at-e.result) v.left
     = skip_told (entry_from a.image.now a.text c.numbers_at-e.result) v.left (sym c.skip_right.ensures ∙ c.if-not-skip_right.false) in
-    (omega (arith, fits, c.decreases, v.invariant.1), (c.requires.0, omega (arith, fits, c.requires.1, v.invariant.0), omega (arith, c.if-depth-ge-DEPTH.false)))
+    (omega (arith, fits, c.decreases, v.invariant.1), (c.requires.0, omega (arith, fits, c.requires.1, v.invariant.0), omega (arith, c.if-deep.false)))
 
 pub returns-then-inside-ne0 : goal.returns-then-inside-ne0
 returns-then-inside-ne0 t c =
@@ -178,7 +178,7 @@ returns-then-inside-ne0 t c =
     v.invariant.2 _
     (inside_refused a.t (entry_in image a.records a.text a.all a.t) a.depth v.k v.left c.loop-left-test.true e (c.numbers_at-e.ensures a.text)
     fits closer (c.numbers_at-closer.ensures a.text) (read ∙ c.if-not-opener_right.false)
-    (omega (arith, c.if-depth-ge-DEPTH.false)) c.check_in-inside.result c.check_in-inside.ensures c.if-inside-ne0.true)
+    (omega (arith, c.if-deep.false)) c.check_in-inside.result c.check_in-inside.ensures c.if-inside-ne0.true)
 
 pub returns-then-not-close_right : goal.returns-then-not-close_right
 returns-then-not-close_right t c =
@@ -193,7 +193,7 @@ returns-then-not-close_right t c =
     v.invariant.2 _
     (close_refused a.t (entry_in image a.records a.text a.all a.t) a.depth v.k v.left c.loop-left-test.true e (c.numbers_at-e.ensures a.text)
     fits closer (c.numbers_at-closer.ensures a.text) (read ∙ c.if-not-opener_right.false)
-    (omega (arith, c.if-depth-ge-DEPTH.false)) c.check_in-inside.result c.check_in-inside.ensures c.if-inside-ne0.false (shut ∙ c.if-not-close_right.true))
+    (omega (arith, c.if-deep.false)) c.check_in-inside.result c.check_in-inside.ensures c.if-inside-ne0.false (shut ∙ c.if-not-close_right.true))
 
 pub loop-left-preserved : goal.loop-left-preserved
 loop-left-preserved t c =
@@ -210,7 +210,7 @@ loop-left-preserved t c =
       λ x says. v.invariant.2 x
           (group_goes a.t (entry_in image a.records a.text a.all a.t) a.depth v.k v.left c.loop-left-test.true e (c.numbers_at-e.ensures a.text)
           fits closer (c.numbers_at-closer.ensures a.text) (read ∙ c.if-not-opener_right.false)
-          (omega (arith, c.if-depth-ge-DEPTH.false)) c.check_in-inside.result c.check_in-inside.ensures c.if-inside-ne0.false (shut ∙ c.if-not-close_right.false) x says),
+          (omega (arith, c.if-deep.false)) c.check_in-inside.result c.check_in-inside.ensures c.if-inside-ne0.false (shut ∙ c.if-not-close_right.false) x says),
     )
 
 pub returns : goal.returns
