@@ -1,5 +1,5 @@
-/* The layout reader: five functions of the static library target/staticlib/liblayout_c.a, which `rt staticlib layout_c` proves and
- * writes (for x86-64 Linux). They take any bytes, allocate nothing, keep nothing between calls, and write nothing but what is lent to
+/* The layout reader: five functions of the static library crates/layout_c/out/liblayout_c.a, which `rt lib` in crates/layout_c proves
+ * and writes (for x86-64 Linux). They take any bytes, allocate nothing, keep nothing between calls, and write nothing but what is lent to
  * be written; so threads may call them at the same time. The archive calls nothing but memset (`nm -u`). For C99, C11 and C++11
  * or later. docs/FORMAT.md has the bytes of an image and of an answer.
  *
