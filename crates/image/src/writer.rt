@@ -1,6 +1,6 @@
 // Writing an image into a lent area: its header, and rows of its tables at their places. Nothing is asked of a caller: what falls outside
 // the area is left out. Once each table holds the rows of a tree, the area holds the tree's image (specs/writer/Written.antt,
-// `image-written`).
+// `image_written`).
 ghost use Rattle.std.specs.Prelude.{◌≡◌, [], ◌∷◌, ◌++◌, ◌+◌, ◌≤◌, leb, length};
 ghost use Rattle.std.proofs.lemmas.List.Edits.{sets};
 ghost use Rattle.definition.specs.Image.{bytes_at, tables_for};

@@ -1,2 +1,2 @@
--- A law that the proofs cite.
+-- What the program's test says of a number.
 pub mod Agreeing

@@ -1,4 +1,4 @@
--- What the program prints: a buffer of `longestListing` bytes has room for every output, so that `answer` never says `Cut` of it, and the
+-- What the program prints: a buffer of `longest_listing` bytes has room for every output, so that `answer` never says `Cut` of it, and the
 -- bytes written are the output, whole.
 use Rattle.std.specs.Prelude.{◌≡◌, refl, ◌≤◌, replicate}
 use Rattle.std.proofs.Common.{ap, ◌∙◌, le_trans, le_refl}

@@ -1,4 +1,4 @@
--- Document 01's worked example meets the premises of `answer-fits` and `read-fixed`: its two literals merge, so it has fewer components
+-- Document 01's worked example meets the premises of `answer_fits` and `read_fixed`: its two literals merge, so it has fewer components
 -- and literal bytes after merging than before.
 use Rattle.std.specs.Prelude.{◌≡◌, refl, ◌∷◌}
 use Rattle.definition.specs.Prelude.{List, [], length}

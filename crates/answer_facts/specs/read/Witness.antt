@@ -1,4 +1,4 @@
--- A tree that meets the premises of `reads-answer`: a starting value, a variable with a range, and literals that merge.
+-- A tree that meets the premises of `reads_answer`: a starting value, a variable with a range, and literals that merge.
 use Rattle.std.specs.Prelude.{◌≡◌, refl, ◌∷◌}
 use Rattle.definition.specs.Prelude.{true, []}
 use Rattle.definition.specs.Basics.{ok, same_bytes, sum, all, joined, tab}

@@ -113,7 +113,7 @@ bare_with_x r p z = go (narrow z)
     go none = refl
     go (some x) = refl
 
--- joinSides, by the parts and numbers that it goes by: the text itself, left, right, and right with its sign
+-- join_sides, by the parts and numbers that it goes by: the text itself, left, right, and right with its sign
 abbrev side_as : Part → Option ℤ → Usb
 side_as p o = elim o [ some v ↦ val v | none ↦ text p (pos 0) ]
 
@@ -226,7 +226,7 @@ bare_drop zero is = refl
 bare_drop (suc n) [] = refl
 bare_drop (suc n) (i ∷ is) = bare_drop n is
 
--- parseRange after the scan, and where dots were found
+-- parse_range after the scan, and where dots were found
 abbrev range_on : Bool → List Item → List Item → Result (Option Usbr)
 range_on inclusive before after = parse_start before >>= λ s. parse_end inclusive after >>= λ e. ok (some (record { start = s; «end» = e }))
 

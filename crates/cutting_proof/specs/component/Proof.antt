@@ -86,19 +86,19 @@ module _ (n : Node) (o : Opened n.forest) where
   parts_join false = refl
   parts_join true = colon_joins before agrees
 
-  middle-opened : (s : Bool) → Opened (middle_part s n.forest)
-  middle-opened s = opened_after (prefix_part s n.forest) (middle_part s n.forest) (subst Opened (sym (parts_join s)) (unranged_opened n.forest o))
+  middle_opened : (s : Bool) → Opened (middle_part s n.forest)
+  middle_opened s = opened_after (prefix_part s n.forest) (middle_part s n.forest) (subst Opened (sym (parts_join s)) (unranged_opened n.forest o))
 
-  middle-items : (s : Bool) → (at : ℕ) × (middle s (unparsed n) ≡ items_of at (chunks_of (middle_part s n.forest)))
+  middle_items : (s : Bool) → (at : ℕ) × (middle s (unparsed n) ≡ items_of at (chunks_of (middle_part s n.forest)))
   unfolding before
-  middle-items false = (0, mid_items n.forest o)
-  middle-items true =
+  middle_items false = (0, mid_items n.forest o)
+  middle_items true =
       let (at, e) = colon_items 0 before agrees in (at, ap (middle_as true) (mid_items n.forest o) ∙ e)
 
   -- the highest piece has the literal's items before its range
-  highest-split : (s : Bool) (f : Forest) →
+  highest_split : (s : Bool) (f : Forest) →
       (inner : ℕ) × (split_of (unparsed (piece s n (prefix_part s n.forest) f)) ≡ record { mid = (split_of (unparsed n)).mid; range = some (items inner (flat f)) })
-  highest-split s f =
+  highest_split s f =
       let prefix = prefix_part s n.forest in
       let (inner, q) = bracket_items (unranged n.forest) f (unranged_opened n.forest o) in
       let joined : prefix ⊕ middle_part s n.forest ⊕ bracket f ≡ unranged n.forest ⊕ bracket f =
@@ -108,10 +108,10 @@ module _ (n : Node) (o : Opened n.forest) where
       )
 
   -- a lower piece has the items of the literal's middle
-  lower-split : (s : Bool) (f : Forest) →
+  lower_split : (s : Bool) (f : Forest) →
       (inner : ℕ) × (split_of (unparsed (piece s n end f)) ≡ record { mid = items_of 0 (chunks_of (middle_part s n.forest)); range = some (items inner (flat f)) })
   unfolding ◌⊕◌
-  lower-split s f = bracket_items (middle_part s n.forest) f (middle-opened s)
+  lower_split s f = bracket_items (middle_part s n.forest) f (middle_opened s)
 
 -- ── The pieces ──
 
@@ -134,7 +134,7 @@ read_as s m mid inner f c d e l w r h k =
     let (x, p, q) = bracket_read (middle_as s mid) m.bits inner f c d l w r h k in (x, stage1_split s (unparsed m) e ∙ p, q)
 
 pub piece_reads : PieceReads
-piece_reads s n a b sound h f c d r lt le = (lower (lower-split n o s f) (middle-items n o s), highest (highest-split n o s f))
+piece_reads s n a b sound h f c d r lt le = (lower (lower_split n o s f) (middle_items n o s), highest (highest_split n o s f))
   where
     o : Opened n.forest
     o = sound_opened n.forest sound
@@ -142,13 +142,13 @@ piece_reads s n a b sound h f c d r lt le = (lower (lower-split n o s f) (middle
     l : LiteralRead (middle s (unparsed n)) n.bits (fixed_read s n a b h).component
     l = (fixed_read s n a b h).as_literal
 
-    middle-chunks : List (List Rec)
-    middle-chunks = chunks_of (middle_part s n.forest)
+    middle_chunks : List (List Rec)
+    middle_chunks = chunks_of (middle_part s n.forest)
 
-    lower : (inner : ℕ) × (split_of (unparsed (piece s n end f)) ≡ record { mid = items_of 0 middle-chunks; range = some (items inner (flat f)) }) →
-        (at : ℕ) × (middle s (unparsed n) ≡ items_of at middle-chunks) → ReadAs false (piece s n end f) n.bits c d
+    lower : (inner : ℕ) × (split_of (unparsed (piece s n end f)) ≡ record { mid = items_of 0 middle_chunks; range = some (items inner (flat f)) }) →
+        (at : ℕ) × (middle s (unparsed n) ≡ items_of at middle_chunks) → ReadAs false (piece s n end f) n.bits c d
     lower (inner, e) (at, m) =
-        read_as false (piece s n end f) (items_of 0 middle-chunks) inner f c d e (begins_anywhere 0 at middle-chunks ∙ ap is_literal (sym m) ∙ l.begins) l.wide r lt le
+        read_as false (piece s n end f) (items_of 0 middle_chunks) inner f c d e (begins_anywhere 0 at middle_chunks ∙ ap is_literal (sym m) ∙ l.begins) l.wide r lt le
 
     highest : (inner : ℕ) × (split_of (unparsed (piece s n (prefix_part s n.forest) f)) ≡ record { mid = (split_of (unparsed n)).mid; range = some (items inner (flat f)) }) →
         ReadAs s (piece s n (prefix_part s n.forest) f) n.bits c d
@@ -172,4 +172,4 @@ value_of k u v e = ap value e
 pub prefix_kept : PrefixKept
 prefix_kept n sound f k =
     value_of k (unparsed (piece true n (prefix_part true n.forest) f)) (unparsed n)
-    (ap (λ parts. parts.mid) (highest-split n (sound_opened n.forest sound) true f).1)
+    (ap (λ parts. parts.mid) (highest_split n (sound_opened n.forest sound) true f).1)

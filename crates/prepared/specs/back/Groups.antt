@@ -58,7 +58,7 @@ pub word_kept : (t fuel : ℕ) (e : Entry) (rest : List Entry) (above : ℕ) →
 unfolding check_in
 word_kept t fuel e rest above o h = need_then (word_right t e) bad_record _ (rw (o, check_in) at h)
 
--- where an entry's text lies: what `textRight` says
+-- where an entry's text lies: what `text_right` says
 abbrev InText : List ℕ → Entry → Type 0
 InText text e = (e.start < length text) × (e.start < e.stop)
 

@@ -1,4 +1,4 @@
--- No image that passes the check is longer than `maxImage`, 51,304 bytes: "input above 51,306 bytes is judged on its first 51,306, which no
+-- No image that passes the check is longer than `max_image`, 51,304 bytes: "input above 51,306 bytes is judged on its first 51,306, which no
 -- image can fill."
 use Rattle.std.specs.Prelude.{◌≡◌, refl, ◌≤◌, ◌+◌, ◌*◌, ◌-◌, ◌∷◌}
 use Rattle.std.proofs.Common.{arith, length-take-le}

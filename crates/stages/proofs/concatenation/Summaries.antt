@@ -31,7 +31,7 @@ pub joins :
     → record { align = join_align o.align (align_of s.align); width = w; known = at; deterministic = d; nonzero = n } ≡ joined c at w o
 joins c s h at w o d n e f = rw (e, f, h.align_is, h.deterministic_is, h.nonzero_is)
 
--- checkSource by the place of the first filler
+-- check_source by the place of the first filler
 abbrev source_as : Bool → ℕ → Option ℕ → Result Unit
 source_as bare i p = elim p [ none ↦ ok tt | some k ↦ with_places 0 k (need (not (bare && eqb i 0)) filler_without_start) ]
 

@@ -18,7 +18,7 @@ abbrev pub items_read : Bool → Unparsed → List Item
 items_read false u = items 0 u.recs
 items_read true u = elim (prefix_of u) [ none ↦ items 0 u.recs | some p ↦ drop (length p.before + 1) (items 0 u.recs) ]
 
--- so stage 1 of a component is parseItems of those (to be proved: part 5)
+-- so stage 1 of a component is parse_items of those (to be proved: part 5)
 abbrev pub StageItems : Type 0
 StageItems = (scanned : Bool) (u : Unparsed) → stage1_component scanned u ≡ parse_items (items_read scanned u) u.bits
 

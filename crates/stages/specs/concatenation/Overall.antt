@@ -51,7 +51,7 @@ abbrev pub StartsAs : List Concatenation → ℕ → Summary → Type 0
 StartsAs [] n s = n ≡ 0
 StartsAs (c ∷ l) n s = HasSummary c s × (n ≢ 0)
 
--- joinWidth where it refuses nothing, with this known width, of concatenation `at`
+-- join_width where it refuses nothing, with this known width, of concatenation `at`
 abbrev pub joined : Concatenation → ℕ → Option ℕ → Overall → Overall
 joined c at w o =
     record { align = join_align o.align c.align; width = w; known = at; deterministic = o.deterministic || c.deterministic; nonzero = o.nonzero || c.nonzero }
@@ -59,18 +59,18 @@ joined c at w o =
 abbrev pub and_then : {A : Type 0} → Result Unit → Result A → Result A
 and_then a r = a >>= λ _. r
 
--- one turn of overallFrom
+-- one turn of overall_from
 abbrev pub turn : Bool → ℕ → Concatenation → Overall → Result Overall
 turn bare i c o = join_width i c o >>= λ o'. check_source bare i c >>= λ _. ok o'
 
--- what middleFrom says of one concatenation
+-- what middle_from says of one concatenation
 abbrev pub middle_at : ℕ → Concatenation → Result Unit
 middle_at i c = if is_align c.align align_mid then elim (unbounded_in c) [ none ↦ ok tt | some k ↦ with_places i k (refuse middle_filler) ] else ok tt
 
 abbrev pub is_opposite : Concatenation → Concatenation → Bool
 is_opposite c d = is_sided c.align && is_sided d.align && not (is_align c.align d.align)
 
--- what oppositeFrom says of concatenation i and the place of the first after it that is opposite to it
+-- what opposite_from says of concatenation i and the place of the first after it that is opposite to it
 abbrev pub opposite_as : ℕ → Option ℕ → Result Unit
 opposite_as i p = elim p [ none ↦ ok tt | some j ↦ with_places i j (refuse opposite_fillers) ]
 

@@ -45,7 +45,7 @@ end_simple s e = simplify_end e >>= λ e'. ok (some (record { start = s; «end»
 abbrev pub both_simple : Usbr → Result (Option Usbr)
 both_simple v = simplify_usb v.start >>= λ s. end_simple s v.«end»
 
--- ---- 21 to 23, the end of simplifyRange
+-- ---- 21 to 23, the end of simplify_range
 
 abbrev pub checked_range : Usbr → Result Usbr
 checked_range v = do
@@ -60,7 +60,7 @@ pub record Positive (v : Usbr) : Type 0 where
   pub «end» : if_static_end non_neg v ≡ true
   pub width : if_known non_neg v ≡ true
 
--- ---- 24 to 27, simplifyLiteral without the cut
+-- ---- 24 to 27, simplify_literal without the cut
 
 -- of a range that has an end
 abbrev pub end_checked : ℕ → Usbr → Result Usbr

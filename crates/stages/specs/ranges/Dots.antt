@@ -69,7 +69,7 @@ dots_in image t r is = dots_result image t r (length is) (scan_dots is)
 
 -- ---- the range of a run whose dots were found from item lo up to item hi
 
--- behind a start: parseRange from there on
+-- behind a start: parse_range from there on
 abbrev pub ended_range : Bool → Usb → List Item → Result (Option Usbr)
 ended_range inclusive s is = parse_end inclusive is >>= λ e. ok (some (record { start = s; «end» = e }))
 

@@ -12,7 +12,7 @@ align_of A.Msb = align_msb
 align_of A.Mid = align_mid
 align_of A.Multiple = align_multiple
 
--- joinAlign of two that are not none
+-- join_align of two that are not none
 abbrev pub join_sided : FillerAlign → FillerAlign → FillerAlign
 join_sided overall this =
     if is_align overall align_single then this

@@ -33,7 +33,7 @@ pub record HasShape (c : Component) (s : Shape) : Type 0 where
   pub end_is : s.has_end ≡ has_end c.range
   pub full_is : s.full ≡ has_full_range c
 
--- component k of concatenation i, as checkFrom goes over it
+-- component k of concatenation i, as check_from goes over it
 abbrev pub step_of : ℕ → ℕ → Bool → Bool → Component → Running → Result Running
 step_of i k first last c r = with_places i 0 (add_width c r) >>= λ r₁. with_places i k (check_type (not (eqb i 0)) first last c r₁)
 
@@ -42,7 +42,7 @@ abbrev pub finish_of : ℕ → Running → Result Unit
 finish_of i r = with_places i 0 (need (elim r.width [ none ↦ true | some w ↦ ltb 0 w ]) zero_total_width)
 
 -- the same over what a shape says
--- addWidth
+-- add_width
 abbrev pub add_as : Option ℤ → Running → Result Running
 add_as w r =
     elim w [
@@ -55,7 +55,7 @@ add_as w r =
       ]
     ]
 
--- checkType of an unbounded filler
+-- check_type of an unbounded filler
 abbrev pub check_open : Bool → Bool → Bool → Running → Result Running
 check_open sink first last r = do
   _ ← need (not (sink && first && last)) lone_filler_sink
@@ -68,7 +68,7 @@ check_literal sink r = need (not sink) literal_in_sink >>= λ _. ok r
 abbrev pub with_full : Bool → Running → Running
 with_full full r = record { width = r.width; align = r.align; deterministic = r.deterministic; nonzero = r.nonzero || full }
 
--- checkType; any other kind counts as a filler
+-- check_type; any other kind counts as a filler
 abbrev pub check_as : ℕ → Bool → Bool → Bool → Bool → Bool → Running → Result Running
 check_as kind ends full sink first last r =
     if eqb kind 1 then check_literal sink r
