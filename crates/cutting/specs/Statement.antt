@@ -3,8 +3,8 @@
 -- Quotations are document 01's, section "Cutting a literal". Every image that the run accepts is the image of a tree that fits
 -- (cut_proof, every-accepted), so "every image" is "every tree that fits" here.
 use Rattle.std.specs.Prelude.{◌≡◌, ◌≤◌, ◌<◌, ◌+◌, ◌-◌, ◌/◌, ◌%◌, ◌^◌, ◌&&◌, ◌∷◌, ◌++◌, if◌then◌else◌}
-use Rattle.definition.specs.Prelude.{ℕ, suc, Bool, true, false, not, Option, none, some, List, [], map, length, get_or, take, drop, ltb, eqb, ℤ, pos, negsuc, nat_abs}
-use Rattle.definition.specs.Basics.{Result, ok, refused, ◌>>=◌, is_empty, same_bytes, sum, joined, area_after}
+use Rattle.definition.specs.Prelude.{ℕ, suc, Bool, true, false, Option, none, some, List, [], map, length, get_or, take, ltb, eqb, pos, negsuc, nat_abs}
+use Rattle.definition.specs.Basics.{ok, refused, ◌>>=◌, is_empty, same_bytes, sum, joined, area_after}
 use Rattle.definition.specs.Characters.{char}
 use Rattle.definition.specs.Limits.{area_needed}
 use Rattle.definition.specs.Image.{Unparsed, Placed, kinds, tree_of}
@@ -13,7 +13,7 @@ use Rattle.definition.specs.Text.{items}
 use Rattle.definition.specs.Ranges.{Usb, Usbr, parse_range, single_bit, static_val, static_width}
 use Rattle.definition.specs.Component.{Component, literal, variable, filler, stage1_component, stage1, stage2, simplify_usb, the_end}
 use Rattle.definition.specs.Concatenation.{is_static_literal, merge}
-use Rattle.definition.specs.Answer.{Read, Field, read_answer}
+use Rattle.definition.specs.Answer.{Read, read_answer}
 use Rattle.definition.specs.Run.{Choices, run, in_force}
 
 -- ── The parts of a component ──
@@ -219,7 +219,7 @@ pub record Premises (g : Given) : Type 0 where
   pub rises : rising g.a (g.place ∷ g.places) g.b ≡ true
   pub brackets_read : map (reads_as (length g.node.bits)) g.brackets ≡ map some (pieces_of g.a (g.place ∷ g.places) g.b)
   -- "if that tree keeps document 01's limits and the area is long enough for it"
-  pub within_limits_lem : fits (new_tree g) ≡ true
+  pub within_limits : fits (new_tree g) ≡ true
   pub long_enough : area_needed (length (new_tree g)) (length (joined (new_tree g))) (length (literals_of (joined (new_tree g)))) ≤ length g.new_area
 
 -- what the two runs leave in their areas, read field by field
@@ -227,25 +227,25 @@ abbrev pub read_old : Given → Read
 read_old g = read_answer (image g) (area_after g.area (ok g.answer))
 
 abbrev pub read_new : Given → List ℕ → Read
-read_new g new_answer_lem = read_answer (new_image g) (area_after g.new_area (ok new_answer_lem))
+read_new g new_answer = read_answer (new_image g) (area_after g.new_area (ok new_answer))
 
 -- bit i of the literal lies in both at the same place of the same component, and that place holds its value in both answers
-pub record BitKept (g : Given) (new_answer_lem : List ℕ) (i : ℕ) : Type 0 where
+pub record BitKept (g : Given) (new_answer : List ℕ) (i : ℕ) : Type 0 where
   pub at : BitPlace
   pub old_place : place_of (components_of (image g)) (length g.concatenations_below) (length g.below) (i - g.a) ≡ at
   pub new_place :
       let p = piece_at g.a (g.place ∷ g.places) i in
       place_of (components_of (new_image g)) (length g.concatenations_below) (length g.below + p.index) (i - p.start) ≡ at
   pub old_value : bit_in (read_old g) at ≡ some (get_or g.node.bits i 0)
-  pub new_value : bit_in (read_new g new_answer_lem) at ≡ some (get_or g.node.bits i 0)
+  pub new_value : bit_in (read_new g new_answer) at ≡ some (get_or g.node.bits i 0)
 
 pub record Same (g : Given) : Type 0 where
-  pub new_answer_lem : List ℕ
-  pub new_accepted : run (new_image g) g.how (length g.new_area) ≡ ok new_answer_lem
-  pub fields_equal : read_new g new_answer_lem ≡ read_old g
+  pub new_answer : List ℕ
+  pub new_accepted : run (new_image g) g.how (length g.new_area) ≡ ok new_answer
+  pub fields_equal : read_new g new_answer ≡ read_old g
   -- document 02, L1: "the cutting statement keeps the default", and so the starting value in force
-  pub start_kept : in_force (new_image g) g.how (ok new_answer_lem) ≡ in_force (image g) g.how (ok g.answer)
-  pub bits_kept : (i : ℕ) → g.a ≤ i → i < g.b → BitKept g new_answer_lem i
+  pub start_kept : in_force (new_image g) g.how (ok new_answer) ≡ in_force (image g) g.how (ok g.answer)
+  pub bits_kept : (i : ℕ) → g.a ≤ i → i < g.b → BitKept g new_answer i
 
 abbrev pub Cutting : Type 0
 Cutting = (g : Given) → Premises g → Same g

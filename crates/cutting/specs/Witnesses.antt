@@ -94,7 +94,7 @@ meets g h =
       bounds = ap (λ f. f.bounds) h;
       rises = ap (λ f. f.rises) h;
       brackets_read = ap (λ f. f.brackets_read) h;
-      within_limits_lem = ap (λ f. f.fits_new) h;
+      within_limits = ap (λ f. f.fits_new) h;
       long_enough = leb→le (room g) (length g.new_area) (subst T (sym (ap (λ f. f.room) h)) tt);
     }
 

@@ -1,12 +1,12 @@
 -- A tree's image without its text starts, and bit places, which do not depend on text starts.
-use Rattle.std.specs.Prelude.{◌≡◌, ◌+◌, ◌&&◌, ◌∷◌, ◌++◌, if◌then◌else◌}
+use Rattle.std.specs.Prelude.{◌≡◌, ◌+◌, ◌&&◌, ◌∷◌, if◌then◌else◌}
 use Rattle.std.proofs.Math.Path.{refl}
-use Rattle.std.proofs.Common.{sym, ◌∙◌, ap}
+use Rattle.std.proofs.Common.{◌∙◌, ap}
 use Rattle.std.proofs.lemmas.List.{map-append, length-map}
 use Rattle.std.proofs.Math.Seq.{take_at, drop_at}
 use Rattle.definition.specs.Prelude.{ℕ, zero, suc, Bool, true, false, List, [], map, length, take, drop, get_or}
-use Rattle.definition.specs.Basics.{joined, sum, is_empty}
-use Rattle.definition.specs.Image.{Unparsed, Placed, parts}
+use Rattle.definition.specs.Basics.{joined, is_empty}
+use Rattle.definition.specs.Image.{Placed, parts}
 use Rattle.definition.specs.Tree.{Node, Tree, recs_of, text_of}
 use Rattle.definition.specs.Component.{Component}
 use Rattle.definition.specs.Concatenation.{merge, is_static_literal}

@@ -1,12 +1,12 @@
 -- Cutting a literal changes nothing: the claim of crate `cutting`, proved.
-use Rattle.std.specs.Prelude.{◌≡◌, refl, ◌≤◌, ◌<◌, ◌+◌, ◌-◌, ◌&&◌, ◌∷◌, ◌++◌, if◌then◌else◌}
+use Rattle.std.specs.Prelude.{◌≡◌, refl, ◌≤◌, ◌<◌, ◌+◌, ◌-◌, ◌∷◌, ◌++◌, if◌then◌else◌}
 use Rattle.std.proofs.Common.{sym, ◌∙◌, ap, arith, append-nil}
-use Rattle.definition.specs.Prelude.{ℕ, Bool, true, false, Option, none, some, List, [], map, length, drop, get_or, leb, ltb}
+use Rattle.definition.specs.Prelude.{ℕ, Bool, true, some, List, [], length, drop, get_or, leb}
 use Rattle.definition.specs.Basics.{Result, ok, refused, ◌>>=◌, joined, all}
 use Rattle.definition.specs.Limits.{area_needed}
-use Rattle.definition.specs.Image.{Unparsed, Placed, counts, tree_of}
+use Rattle.definition.specs.Image.{Placed}
 use Rattle.definition.specs.Tree.{Node, Tree, image_of, fits, literals_of, sound_node}
-use Rattle.definition.specs.Component.{Component, Parsed, stage1, stage2}
+use Rattle.definition.specs.Component.{Component, Parsed}
 use Rattle.definition.specs.Answer.{Answer, answer_bytes, read_answer, Read, is_set}
 use Rattle.definition.specs.Run.{Choices, run, stages, in_force}
 use Rattle.laws.specs.Results.{bind_ok}
@@ -19,7 +19,7 @@ use Rattle.prepared.specs.Statement.{ReadsBack, placed_tree}
 use Rattle.answer_facts.specs.read.Statement.{erase_tree, erase_answer, on_ok, shown}
 use Rattle.answer_facts.specs.read.Erase.{erase_parsed, erase_stages, erase_early}
 use Rattle.answer_facts.specs.read.ReadAnswer.{reads_answer}
-use Rattle.cutting.specs.Statement.{Given, Premises, Same, BitKept, Cutting, tree_with, new_tree, image, new_image, read_old, read_new, place_of, piece_at, components_of, bit_in, BitPlace}
+use Rattle.cutting.specs.Statement.{Given, Premises, BitKept, Cutting, tree_with, new_tree, image, new_image, place_of, piece_at, components_of, bit_in}
 use Rattle.answer_facts.specs.stages.Statement.{early, later, InTurn}
 use Rattle.cutting_proof.specs.stages.Statement.{bare_tree, CutEarly, CutLater, CutParsed, Cuttable, bits_between, piece_components}
 use Rattle.cutting_proof.specs.bits.Places.{same_place}
@@ -129,7 +129,7 @@ module _ (in_turn : InTurn) (cut_early : CutEarly) (cut_later : CutLater) where
     new_answer = answer_bytes new.0
 
     new_run : run (new_image g) g.how (length g.new_area) ≡ ok new_answer
-    new_run = run_of (new_tree g) pr.within_limits_lem g.how (length g.new_area) new.0 accepts.mode_right new.1 pr.long_enough
+    new_run = run_of (new_tree g) pr.within_limits g.how (length g.new_area) new.0 accepts.mode_right new.1 pr.long_enough
 
     -- whatever follows them, the two answers say the same
     old_read : (rest : List ℕ) → read_answer (image g) (g.answer ++ rest) ≡ shown (erase_answer accepts.said)
@@ -138,7 +138,7 @@ module _ (in_turn : InTurn) (cut_early : CutEarly) (cut_later : CutLater) where
         ∙ reads_answer old pr.a_tree g.how accepts.said old_placed rest
 
     new_read : (rest : List ℕ) → read_answer (new_image g) (new_answer ++ rest) ≡ shown (erase_answer accepts.said)
-    new_read rest = reads_answer (new_tree g) pr.within_limits_lem g.how new.0 new.1 rest ∙ ap shown new.2
+    new_read rest = reads_answer (new_tree g) pr.within_limits g.how new.0 new.1 rest ∙ ap shown new.2
 
     abbrev old_rest : List ℕ
     old_rest = drop (length g.answer) g.area
@@ -167,7 +167,7 @@ module _ (in_turn : InTurn) (cut_early : CutEarly) (cut_later : CutLater) where
               components_bare old pr.a_tree old_stages.parsed old_stages.bare_early (length g.concatenations_below) (length g.below) (i - g.a)
               ∙ λ x. place_of (cut.old x) ((sym cut.same_concatenations) x) ((sym cut.same_components) x) (i - g.a);
           new_place =
-              components_bare (new_tree g) pr.within_limits_lem (record { init = old_stages.parsed.init; cc = new_components }) cut.new
+              components_bare (new_tree g) pr.within_limits (record { init = old_stages.parsed.init; cc = new_components }) cut.new
               (length g.concatenations_below) (length g.below + (piece_at g.a places i).index) (i - (piece_at g.a places i).start)
               ∙ (λ x. let p = piece_at g.a places i in place_of new_components ((sym cut.same_concatenations) x) ((sym cut.same_components) x + p.index) (i - p.start))
               ∙ same_place cut.concatenations_below cut.below cut.above cut.concatenations_above g.node.bits g.a places g.b
@@ -179,7 +179,7 @@ module _ (in_turn : InTurn) (cut_early : CutEarly) (cut_later : CutLater) where
   pub cutting : Cutting
   cutting g pr =
       record {
-        new_answer_lem = new_answer g pr;
+        new_answer = new_answer g pr;
         new_accepted = new_run g pr;
         fields_equal = new_read g pr (new_rest g pr) ∙ sym (old_read g pr (old_rest g pr));
         start_kept = start_kept g pr;

@@ -2,16 +2,15 @@
 -- run's own, and are what demand 2's definition gives."
 use Rattle.std.specs.Prelude.{◌≡◌, refl, ◌≤◌, ◌<◌, ◌+◌, ◌-◌, ◌∷◌}
 use Rattle.std.proofs.Common.{sym, ap, ◌∙◌, arith}
-use Rattle.definition.specs.Prelude.{ℕ, true, some, List, [], map, length, get_or}
-use Rattle.definition.specs.Basics.{Result, ok, refused, ◌>>=◌, joined, area_after}
-use Rattle.definition.specs.Limits.{area_needed}
-use Rattle.definition.specs.Tree.{Tree, image_of, fits, literals_of}
+use Rattle.definition.specs.Prelude.{ℕ, true, some, List, length, get_or}
+use Rattle.definition.specs.Basics.{Result, ok, refused, ◌>>=◌, area_after}
+use Rattle.definition.specs.Tree.{Tree, image_of, fits}
 use Rattle.definition.specs.Answer.{read_answer}
 use Rattle.definition.specs.Run.{Choices, run, in_force, ran_on}
 use Rattle.prepared.specs.Statement.{Bytes}
 use Rattle.errors.specs.Refused.{outcome_of}
 use Rattle.errors.specs.declared.Outcome.{Outcome}
-use Rattle.errors.specs.declared.Outcome.TheVariants.{Accepted, Refused}
+use Rattle.errors.specs.declared.Outcome.TheVariants.{Accepted}
 use Rattle.cutting.specs.Statement.{Given, Premises, BitPlace, image, new_image, place_of, components_of, piece_at, bit_in}
 use Rattle.cutting.specs.Witnesses.{two}
 use Rattle.cutting.specs.Further.{defaulted}
@@ -49,12 +48,12 @@ pub cut_run : (g : Given) → Premises g → (o o' : Outcome) (after start after
 cut_run g pr o o' after start after' start' e e' =
     let s = cutting g pr in
     let left : after ≡ area_after g.area (ok g.answer) = ap (λ (p : Came). p.1) e ∙ ap (area_after g.area) pr.accepted in
-    let left' : after' ≡ area_after g.new_area (ok s.new_answer_lem) = ap (λ (p : Came). p.1) e' ∙ ap (area_after g.new_area) s.new_accepted in
+    let left' : after' ≡ area_after g.new_area (ok s.new_answer) = ap (λ (p : Came). p.1) e' ∙ ap (area_after g.new_area) s.new_accepted in
     let told : start ≡ in_force (image g) g.how (ok g.answer) = ap (λ (p : Came). p.2) e ∙ ap (in_force (image g) g.how) pr.accepted in
-    let told' : start' ≡ in_force (new_image g) g.how (ok s.new_answer_lem) =
+    let told' : start' ≡ in_force (new_image g) g.how (ok s.new_answer) =
     ap (λ (p : Came). p.2) e' ∙ ap (in_force (new_image g) g.how) s.new_accepted in
     record {
-      size = length s.new_answer_lem;
+      size = length s.new_answer;
       accepted =
           ap (λ (p : Came). p.0) e'
           ∙ ap (λ (r : Result (List ℕ)). r >>= λ bytes. ok (length bytes)) s.new_accepted;
@@ -93,14 +92,14 @@ abbrev BothAccepted : (g : Given) → Premises g → Type 0
 BothAccepted g pr =
     let s = cutting g pr in
     SameRun g (area_after g.area (ok g.answer)) (in_force (image g) g.how (ok g.answer))
-    (Accepted (length s.new_answer_lem)) (area_after g.new_area (ok s.new_answer_lem)) (in_force (new_image g) g.how (ok s.new_answer_lem))
+    (Accepted (length s.new_answer)) (area_after g.new_area (ok s.new_answer)) (in_force (new_image g) g.how (ok s.new_answer))
 
 both_accepted : (g : Given) (pr : Premises g) → BothAccepted g pr
 both_accepted g pr =
     let s = cutting g pr in
-    cut_run g pr (Accepted (length g.answer)) (Accepted (length s.new_answer_lem)) _ _ _ _
+    cut_run g pr (Accepted (length g.answer)) (Accepted (length s.new_answer)) _ _ _ _
     (ran_accepted (image g) g.how g.area g.answer pr.accepted)
-    (ran_accepted (new_image g) g.how g.new_area s.new_answer_lem s.new_accepted)
+    (ran_accepted (new_image g) g.how g.new_area s.new_answer s.new_accepted)
 
 -- of the worked literal in two pieces, and under a default
 cut_in_two : BothAccepted two met.0

@@ -1,6 +1,6 @@
 -- The characters that have a meaning of their own, by name. Their codes stand here only.
 use Rattle.std.specs.Prelude.{◌≡◌, refl, ◌∷◌}
-use Rattle.definition.specs.Prelude.{ℕ, List, []}
+use Rattle.definition.specs.Prelude.{ℕ, []}
 use Rattle.definition.specs.Basics.{ascii}
 
 abbrev pub char :

@@ -11,7 +11,7 @@ abbrev pub counts_right : List ℕ → Bool
 counts_right image =
     let h = counts image in
     within 1 limits.concatenations h.c && within 1 limits.components h.n && within 1 limits.records h.r
-    && within 1 limits.text h.t && leb h.b limits.literal_bytes_lem
+    && within 1 limits.text h.t && leb h.b limits.literal_bytes
 
 -- 4: "then the offsets of five tables, back to back in this order from byte 40", and nothing after them
 abbrev pub offsets_right : List ℕ → Bool

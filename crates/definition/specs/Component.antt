@@ -1,13 +1,13 @@
 -- Stages 1 and 2 of a component, free of its place, and over the whole tree (src/component.rs, and simplify of src/ranges.rs).
 use Rattle.std.specs.Prelude.{◌&&◌, ◌||◌, ◌∷◌, ◌+ℤ◌, ◌-ℤ◌, if◌then◌else◌}
-use Rattle.definition.specs.Prelude.{ℕ, zero, suc, Bool, true, false, not, Option, none, some, List, [], length, get_or, take, drop, eqb, ℤ, pos, nat_abs, lt_z, le_z, non_neg}
+use Rattle.definition.specs.Prelude.{ℕ, suc, Bool, true, false, not, Option, none, some, List, [], length, get_or, take, drop, eqb, ℤ, pos, nat_abs, lt_z, le_z, non_neg}
 use Rattle.definition.specs.Basics.{Result, ok, ◌>>=◌, with_places, within, is_empty}
 use Rattle.definition.specs.Characters.{char}
 use Rattle.definition.specs.Numbers.{try_parse}
 use Rattle.definition.specs.Refusals.{need, empty_after_colon, nothing_before_range, no_literal, overflow, negative_bound, reversed, zero_width, start_above_width, end_above_width, range_above_width, end_zero_lem, open_start}
 use Rattle.definition.specs.Image.{Unparsed, Placed, kinds}
 use Rattle.definition.specs.Text.{Part, no_text, Item, items, is_group, is_token, part_of}
-use Rattle.definition.specs.Ranges.{Usb, Usbr, val, text, with_x, unbounded, parse_range, single_bit, static_val, static_width, begins_with}
+use Rattle.definition.specs.Ranges.{Usb, Usbr, val, with_x, unbounded, parse_range, single_bit, static_val, static_width, begins_with}
 
 pub data ComponentType : Type 0 where
   literal : List ℕ → ComponentType

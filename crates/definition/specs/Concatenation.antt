@@ -1,6 +1,6 @@
 -- Stage 3, the check of each concatenation, and stage 5, merging (src/concatenation.rs: Concatenation::check and ::simplify).
 use Rattle.std.specs.Prelude.{◌+◌, ◌^◌, ◌&&◌, ◌||◌, ◌∷◌, ◌++◌, if◌then◌else◌}
-use Rattle.definition.specs.Prelude.{ℕ, zero, suc, Bool, true, false, not, Option, none, some, List, [], length, ltb, eqb, pos, nat_abs}
+use Rattle.definition.specs.Prelude.{ℕ, suc, Bool, true, false, not, Option, none, some, List, [], length, ltb, eqb, pos, nat_abs}
 use Rattle.definition.specs.Basics.{Result, ok, ◌>>=◌, with_places, is_empty}
 use Rattle.definition.specs.Refusals.{need, literal_in_sink, lone_filler_sink, second_filler, zero_total_width, sum_overflow}
 use Rattle.definition.specs.Image.{Placed}

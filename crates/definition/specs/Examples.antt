@@ -5,9 +5,9 @@ use Rattle.definition.specs.Basics.{Result, ok, refused, ◌>>=◌, ascii}
 use Rattle.definition.specs.Image.{Unparsed, Placed, kinds}
 use Rattle.definition.specs.Tree.{Forest, end, word, group, flat}
 use Rattle.definition.specs.Component.{Component, stage1, stage2, starting_value, each, each_in}
-use Rattle.definition.specs.Concatenation.{Concatenation, FillerAlign, align_none, align_lsb, align_msb, stage3, check, check_from, merge, bits_of}
+use Rattle.definition.specs.Concatenation.{Concatenation, FillerAlign, align_none, stage3, check, check_from, merge, bits_of}
 use Rattle.definition.specs.Overall.{Overall, stage4, overall_from, place_from, middle_from, opposite_from}
-use Rattle.definition.specs.Readings.{Reading, Sample, as_bound, as_range, reads_bound, reads_range, sum_of, reading_for, tokens, parenthesised}
+use Rattle.definition.specs.Readings.{as_bound, as_range, reads_bound, reads_range, sum_of, reading_for, tokens, parenthesised}
 
 -- `1..=4` ends at 5
 pub inclusive : reading_for (as_range (tokens ("1" ∷ "." ∷ "." ∷ "=" ∷ "4" ∷ []))) ≡ reads_range (sum_of "" (pos 1)) (some (sum_of "" (pos 5)))

@@ -95,7 +95,7 @@ listing image (refused q) = line (ascii "refused" ∷ decimal q.number ∷ decim
 -- "A program reads standard input, one mode byte then an image, and prints the answer. Empty input is number 2"; its area is long
 -- enough for any image
 abbrev pub program_area : ℕ
-program_area = area_needed limits.concatenations limits.components limits.literal_bytes_lem
+program_area = area_needed limits.concatenations limits.components limits.literal_bytes
 
 unfoldable pub output : List ℕ → List ℕ
 output [] = listing [] (refuse short_image)

@@ -1,6 +1,6 @@
 -- Document 01, "Numbers and bounds": 128-bit integers as ℤ with a test, and i128_try_parse (src/ranges.rs).
 use Rattle.std.specs.Prelude.{◌+◌, ◌*◌, ◌-◌, ◌^◌, ◌&&◌, ◌∷◌, if◌then◌else◌}
-use Rattle.definition.specs.Prelude.{ℕ, Bool, true, Option, none, some, List, [], length, get_or, drop, ltb, eqb, ℤ, pos, negsuc, neg_ℤ}
+use Rattle.definition.specs.Prelude.{ℕ, Bool, Option, none, some, List, [], length, get_or, drop, ltb, eqb, ℤ, pos, negsuc, neg_ℤ}
 use Rattle.definition.specs.Basics.{within, is_empty}
 use Rattle.definition.specs.Characters.{char}
 

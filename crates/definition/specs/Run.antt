@@ -1,5 +1,5 @@
 -- The whole run (document 01, "How each operation refuses"), and the starting value in force (document 02, L1).
-use Rattle.std.specs.Prelude.{◌+◌, ◌||◌, if◌then◌else◌}
+use Rattle.std.specs.Prelude.{◌||◌, if◌then◌else◌}
 use Rattle.definition.specs.Prelude.{ℕ, Bool, true, false, not, Option, none, some, List, [], map, length, leb}
 use Rattle.definition.specs.Basics.{Result, ok, refused, ◌>>=◌, is_empty, area_after}
 use Rattle.definition.specs.Limits.{area_needed}

@@ -5,7 +5,7 @@ use Rattle.definition.specs.Basics.{Result, ok, ◌>>=◌, area_after, all, tab,
 use Rattle.definition.specs.Limits.{limits}
 use Rattle.definition.specs.Refusals.{token_number, bad_token, empty_component, over_limits, short_image_area, needs}
 use Rattle.definition.specs.Image.{u32_at, bytes_at}
-use Rattle.definition.specs.Tree.{Node, Tree, all_recs, text_of, depth, image_of}
+use Rattle.definition.specs.Tree.{Tree, all_recs, text_of, depth, image_of}
 use Rattle.definition.specs.TokenStream.{Leaf, ident, punct, literal, Stream, done, leaf, delimited, divided, stream_tree}
 
 -- "A token is 12 bytes: kind (0 identifier, 1 punctuation, 2 literal, 3 to 6 openers in document 01's order, 7 closer), text start, length"

@@ -1,6 +1,6 @@
 -- A prepared image is a tree written down: concatenations of components, a component being a forest of records and its literal's bits.
 use Rattle.std.specs.Prelude.{◌+◌, ◌*◌, ◌/◌, ◌%◌, ◌^◌, ◌&&◌, ◌∷◌, ◌++◌}
-use Rattle.definition.specs.Prelude.{ℕ, zero, suc, max, Bool, true, not, List, [], map, length, get_or, leb, ltb}
+use Rattle.definition.specs.Prelude.{ℕ, suc, max, Bool, true, not, List, [], map, length, get_or, leb, ltb}
 use Rattle.definition.specs.Basics.{within, is_empty, sum, all, tab, joined}
 use Rattle.definition.specs.Limits.{limits}
 use Rattle.definition.specs.Image.{Rec, bytes_for, tables_for, kinds, opens, delimiter}
@@ -93,4 +93,4 @@ fits t =
     let ns = joined t in
     within 1 limits.concatenations (length t) && all (λ c. leb 1 (length c)) t && leb (length ns) limits.components
     && leb (length (all_recs ns)) limits.records && leb (length (text_of (all_recs ns))) limits.text
-    && leb (length (literals_of ns)) limits.literal_bytes_lem && all sound_node ns
+    && leb (length (literals_of ns)) limits.literal_bytes && all sound_node ns

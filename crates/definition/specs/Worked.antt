@@ -1,10 +1,10 @@
 -- Document 01's worked listing, and refused images: closed examples, by computation.
 use Rattle.std.specs.Prelude.{◌≡◌, refl, set, ◌+◌, ◌∷◌, ◌++◌}
 use Rattle.definition.specs.Prelude.{ℕ, zero, suc, List, [], map, take, true}
-use Rattle.definition.specs.Basics.{ascii, Result, ok, refused, refusal_of}
+use Rattle.definition.specs.Basics.{ascii, ok, refused, refusal_of}
 use Rattle.definition.specs.Image.{kinds}
 use Rattle.definition.specs.Check.{check_image}
-use Rattle.definition.specs.Tree.{Tree, Node, Forest, end, word, group, image_of, fits}
+use Rattle.definition.specs.Tree.{Tree, Forest, end, word, group, image_of, fits}
 use Rattle.definition.specs.Run.{under, run}
 use Rattle.definition.specs.Listing.{output}
 use Rattle.definition.specs.Compute.{computed}

@@ -20,7 +20,7 @@ pub record Fits (t : Tree) : Type 0 where
   pub components : length (joined t) ≤ limits.components
   pub records : length (all_recs (joined t)) ≤ limits.records
   pub text : length (text_of (all_recs (joined t))) ≤ limits.text
-  pub literals : length (literals_of (joined t)) ≤ limits.literal_bytes_lem
+  pub literals : length (literals_of (joined t)) ≤ limits.literal_bytes
   pub sound : all sound_node (joined t) ≡ true
 
 pub fits_parts : (t : Tree) → fits t ≡ true → Fits t

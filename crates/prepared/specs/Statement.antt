@@ -1,7 +1,7 @@
 -- What is claimed of prepared images: the image of a tree that fits passes the check and reads back as the tree, and every image
 -- that passes the check is the image of a tree that fits.
-use Rattle.std.specs.Prelude.{◌≡◌, ◌+◌, ◌∷◌, ◌++◌}
-use Rattle.definition.specs.Prelude.{ℕ, Bool, true, List, [], map, length, ltb, get_or}
+use Rattle.std.specs.Prelude.{◌≡◌, ◌+◌, ◌∷◌}
+use Rattle.definition.specs.Prelude.{ℕ, true, List, [], map, length, ltb, get_or}
 use Rattle.definition.specs.Basics.{ok, all, joined, tab}
 use Rattle.definition.specs.Image.{Rec, Unparsed, Placed, Entry, counts, tables, bytes_at, entry_at, tree_of, parts}
 use Rattle.definition.specs.Check.{check_image}

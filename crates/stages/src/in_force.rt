@@ -21,7 +21,8 @@ fn told_in(image: &[u8], answer: &[u8]) -> InForce
     let flags = u32_at(answer, 16);
     let start = u32_at(answer, 24) as usize;
     let length = u32_at(answer, 28) as usize;
-    if flags / 4 % 2 == 1 {
+    let own = flags / 4 % 2 == 1;
+    if own {
         return InForce::Image(text_place(image) + start, length);
     }
     InForce::Default

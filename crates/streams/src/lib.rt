@@ -1,7 +1,7 @@
 // What the programs share of reading and of saying why it failed, over std's readers and writers. Nothing here allocates.
 #![tactic(auto)]
 
-ghost use Rattle.std.specs.Prelude.{◌<◌, length, take, IfOk};
+ghost use Rattle.std.specs.Prelude.{◌≡◌, ◌⊎◌, length, take, IfOk};
 ghost use Rattle.std.specs.Io.{ReadsAtMost};
 ghost use Rattle.std.specs.Io.KnownBytes.{Consumes, IsAtEnd};
 
@@ -13,7 +13,7 @@ use std::{fmt, io};
 pub fn read_full<R: Read>(from: &mut R, buf: &mut [u8]) -> io::Result<usize>
     ensures bound { ReadsAtMost result buf.new }
     ensures bytes { IfOk result (λ n. Consumes (R.remaining from.old) (R.remaining from.new) (take n buf.new)) }
-    ensures end { IfOk result (λ n. n < length buf.new → IsAtEnd (R.remaining from.new)) }
+    ensures end { IfOk result (λ n. (n ≡ length buf.new) ⊎ IsAtEnd (R.remaining from.new)) }
 {
     let mut done = 0;
     while done < buf.len() {

@@ -1,6 +1,6 @@
 -- What tokens may come to: an image that the area has room for, or one of the refusals 50 to 53, with the places 0 and 0.
 use Rattle.std.specs.Prelude.{◌≡◌, refl, ◌≤◌}
-use Rattle.std.proofs.Common.{sym, ap, arith}
+use Rattle.std.proofs.Common.{arith}
 use Rattle.definition.specs.Prelude.{ℕ, Bool, true, false, List, length, leb}
 use Rattle.definition.specs.Basics.{Refusal, Result, ok, refused, refusal_of, ◌>>=◌}
 use Rattle.definition.specs.Refusals.{needs}

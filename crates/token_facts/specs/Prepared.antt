@@ -54,7 +54,7 @@ unfolding fits
 tree_fits t one some plain l =
     let ((((concatenations, components), records), text), depths) = simp tested at l in
     let none = literals_none (joined t) plain in
-    let literals : length (literals_of (joined t)) ≤ limits.literal_bytes_lem = omega arith in
+    let literals : length (literals_of (joined t)) ≤ limits.literal_bytes = omega arith in
     let sound = all_both plain_node (λ n. leb (depth n.forest) limits.depth) sound_node (joined t) node_sound plain depths in
     simp tested (((((((one, concatenations), some), components), records), text), literals), sound)
 

@@ -1,15 +1,15 @@
 -- What is claimed of tokens (document 02, L2).
-use Rattle.std.specs.Prelude.{◌≡◌, ◌≤◌, ◌<◌, ◌+◌, ◌*◌, ◌%◌, ◌&&◌, ◌||◌, ◌∷◌, ◌++◌}
-use Rattle.definition.specs.Prelude.{ℕ, suc, max, Bool, true, false, List, [], map, reverse, length, leb}
-use Rattle.definition.specs.Basics.{ok, is_empty, all, joined}
+use Rattle.std.specs.Prelude.{◌≡◌, ◌≤◌, ◌<◌, ◌+◌, ◌%◌, ◌∷◌, ◌++◌}
+use Rattle.definition.specs.Prelude.{ℕ, true, false, List, [], map, reverse, length, leb}
+use Rattle.definition.specs.Basics.{ok, all, joined}
 use Rattle.definition.specs.Limits.{limits}
 use Rattle.definition.specs.Image.{tree_of}
 use Rattle.definition.specs.Check.{check_image}
-use Rattle.definition.specs.Tree.{flat, text_of, all_recs, depth, Node, fits, image_of}
-use Rattle.definition.specs.TokenStream.{Stream, done, begins_ident, before, forest_of, divided, ast, turned, stream_tree}
-use Rattle.definition.specs.Tokens.{Token, closer, kind_at, text_start, text_length, count, tokens, tokens_right, nested, streams, stream_of, none_empty, within_limits, token_image}
+use Rattle.definition.specs.Tree.{flat, text_of, all_recs, depth}
+use Rattle.definition.specs.TokenStream.{Stream, forest_of, divided, ast, turned, stream_tree}
+use Rattle.definition.specs.Tokens.{Token, kind_at, text_start, text_length, count, tokens, tokens_right, stream_of, none_empty, token_image}
 use Rattle.prepared.specs.Statement.{Bytes, placed_tree}
-use Rattle.token_facts.specs.Flat.{flat_tokens, sound_stream, is_component, comma, semicolon, between, starts_ident, inner, emit, deepest, weigh, semicolons, dividers, records, bytes, none_empty_in, to_semicolon, to_comma}
+use Rattle.token_facts.specs.Flat.{flat_tokens, sound_stream, is_component, comma, semicolon, between, emit, deepest, weigh, semicolons, dividers, records, bytes, none_empty_in, to_semicolon, to_comma}
 
 -- ---- the promises of L2
 

@@ -1,7 +1,7 @@
 -- What an accepted run says: its mode, its image and its area are right, and the stages accept.
 use Rattle.std.specs.Prelude.{◌≡◌, refl}
 use Rattle.definition.specs.Prelude.{ℕ, true, List, leb}
-use Rattle.definition.specs.Basics.{ok, ◌>>=◌}
+use Rattle.definition.specs.Basics.{ok}
 use Rattle.definition.specs.Limits.{area_needed}
 use Rattle.definition.specs.Refusals.{need, mode_above_2, short_area}
 use Rattle.definition.specs.Image.{counts, tree_of}

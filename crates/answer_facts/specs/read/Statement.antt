@@ -1,11 +1,10 @@
 -- The answer of an accepted run, read back from its bytes, is the stages' answer with each text as its bytes; and the stages do not
 -- look at the text starts.
 use Rattle.std.specs.Prelude.{◌≡◌, ◌+◌, ◌*◌, ◌^◌, ◌∷◌, ◌++◌}
-use Rattle.definition.specs.Prelude.{ℕ, Option, none, some, true, List, [], map, length, ℤ}
+use Rattle.definition.specs.Prelude.{ℕ, none, some, true, List, [], map, length}
 use Rattle.definition.specs.Basics.{Result, ok, refused, sum, tab}
 use Rattle.definition.specs.Image.{Unparsed, Placed, u32_at}
 use Rattle.definition.specs.Tree.{Tree, image_of, fits, u32, packed}
-use Rattle.definition.specs.Text.{Part}
 use Rattle.definition.specs.Ranges.{Usb}
 use Rattle.definition.specs.Component.{Component, ComponentType, literal, variable, filler}
 use Rattle.definition.specs.Concatenation.{Concatenation, align_number, bits_of}

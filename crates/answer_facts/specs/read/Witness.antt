@@ -1,6 +1,6 @@
 -- A tree that meets the premises of `reads-answer`: a starting value, a variable with a range, and literals that merge.
 use Rattle.std.specs.Prelude.{◌≡◌, refl, ◌∷◌}
-use Rattle.definition.specs.Prelude.{true, List, []}
+use Rattle.definition.specs.Prelude.{true, []}
 use Rattle.definition.specs.Basics.{ok, same_bytes, sum, all, joined, tab}
 use Rattle.definition.specs.Numbers.{half128, digit_worth, digits_from, inner, unsigned_parse, try_parse}
 use Rattle.definition.specs.Image.{parts, kinds}

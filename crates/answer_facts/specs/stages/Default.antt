@@ -1,7 +1,6 @@
 -- What a default changes (document 02, L1): an empty one nothing, any other takes away the refusal 40 and changes no answer.
 use Rattle.std.specs.Prelude.{◌≡◌, refl, ◌&&◌, ◌||◌, ◌∷◌}
-use Rattle.std.proofs.Common.{sym, ap, ◌∙◌}
-use Rattle.definition.specs.Prelude.{ℕ, suc, Bool, true, false, not, Option, none, some, List, [], map, length, leb, eqb}
+use Rattle.definition.specs.Prelude.{ℕ, suc, Bool, true, false, not, Option, none, some, List, [], map, leb, eqb}
 use Rattle.definition.specs.Basics.{Result, ok, refused, refusal_of, ◌>>=◌, with_places, is_empty}
 use Rattle.definition.specs.Limits.{area_needed}
 use Rattle.definition.specs.Refusals.{need, mode_above_2, short_area, filler_without_start}
@@ -12,7 +11,7 @@ use Rattle.definition.specs.Component.{Component, stage1, stage2}
 use Rattle.definition.specs.Concatenation.{Concatenation, stage3, merged}
 use Rattle.definition.specs.Overall.{Overall, place_from, is_filler, check_source, join_width, overall_from, overall_start, stage4}
 use Rattle.definition.specs.Answer.{Answer, answer_bytes}
-use Rattle.definition.specs.Run.{Choices, with_default, under, has_start, stages, run}
+use Rattle.definition.specs.Run.{with_default, under, stages, run}
 
 -- ---- the run of before, as document 01 has it: a mode, and no default
 

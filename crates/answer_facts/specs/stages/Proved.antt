@@ -2,7 +2,7 @@
 use Rattle.std.specs.Prelude.{◌≡◌, ◌&&◌, ◌∷◌}
 use Rattle.std.proofs.Math.Path.{refl}
 use Rattle.std.proofs.Common.{sym, ◌∙◌}
-use Rattle.definition.specs.Prelude.{ℕ, suc, Bool, Option, none, List, [], eqb}
+use Rattle.definition.specs.Prelude.{ℕ, suc, Bool, Option, List, [], eqb}
 use Rattle.definition.specs.Basics.{Result, ok, refused, ◌>>=◌, is_empty, same_bytes}
 use Rattle.definition.specs.Image.{Unparsed, Placed}
 use Rattle.definition.specs.Tree.{text_of}

@@ -1,5 +1,5 @@
 -- Answers that are kept: what one operation accepts, another accepts with the same answer, wherever either would refuse.
-use Rattle.std.specs.Prelude.{◌≡◌, refl}
+use Rattle.std.specs.Prelude.{◌≡◌}
 use Rattle.definition.specs.Prelude.{ℕ}
 use Rattle.definition.specs.Basics.{Result, ok, ◌>>=◌, with_places}
 use Rattle.laws.specs.Results.{bind_ok, placed_ok}

@@ -6,7 +6,7 @@ use Rattle.definition.specs.Image.{Placed}
 use Rattle.definition.specs.Text.{Part}
 use Rattle.definition.specs.Component.{Component}
 use Rattle.definition.specs.Concatenation.{Concatenation, stage3, merged}
-use Rattle.definition.specs.Overall.{Overall, overall_start, stage4}
+use Rattle.definition.specs.Overall.{Overall, stage4}
 use Rattle.definition.specs.Answer.{Answer}
 use Rattle.definition.specs.Run.{Choices, has_start}
 use Rattle.answer_facts.specs.stages.Statement.{later}

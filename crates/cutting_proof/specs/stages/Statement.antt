@@ -1,9 +1,9 @@
 -- What the stages make of a tree with a fixed literal and of the tree with its pieces, the text starts left out.
-use Rattle.std.specs.Prelude.{◌≡◌, ◌≤◌, ◌<◌, ◌∷◌, ◌++◌}
+use Rattle.std.specs.Prelude.{◌≡◌, ◌≤◌, ◌∷◌, ◌++◌}
 use Rattle.definition.specs.Prelude.{ℕ, true, Option, some, List, [], map, length}
 use Rattle.definition.specs.Basics.{ok}
 use Rattle.definition.specs.Image.{Unparsed, Placed}
-use Rattle.definition.specs.Tree.{Node, Tree, sound_forest}
+use Rattle.definition.specs.Tree.{Tree, sound_forest}
 use Rattle.definition.specs.Component.{Component, Parsed}
 use Rattle.definition.specs.Answer.{Answer}
 use Rattle.definition.specs.Run.{Choices}

@@ -17,7 +17,7 @@ use Rattle.image.specs.declared.check.records.Places.{Places}
 abbrev pub counts_in : record { c : ℕ; n : ℕ; r : ℕ; t : ℕ; b : ℕ } → Bool
 counts_in h =
     within 1 limits.concatenations h.c && within 1 limits.components h.n && within 1 limits.records h.r
-    && within 1 limits.text h.t && leb h.b limits.literal_bytes_lem
+    && within 1 limits.text h.t && leb h.b limits.literal_bytes
 
 abbrev pub offsets_in : List ℕ → record { concatenations : ℕ; components : ℕ; records : ℕ; text : ℕ; literals : ℕ; stop : ℕ } → Bool
 offsets_in image at =

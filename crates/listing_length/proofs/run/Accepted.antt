@@ -27,7 +27,7 @@ record Counted (image : List ℕ) : Type 0 where
   concatenations : (counts image).c ≤ limits.concatenations
   components_most : (counts image).n ≤ limits.components
   text_most : (counts image).t ≤ limits.text
-  literals_most : (counts image).b ≤ limits.literal_bytes_lem
+  literals_most : (counts image).b ≤ limits.literal_bytes
 
 counted : (image : List ℕ) → check_image image ≡ ok tt → Counted image
 counted image h =
@@ -46,7 +46,7 @@ answer_listing image how a h e = go (counted image h) (answer_fits image h how a
         let few : length a.cc < 2 ^ 32 = omega (arith, f.concatenations, k.concatenations) in
         let small : length (components a) < 2 ^ 32 = omega (arith, f.merged, k.components_most) in
         let r : ReadLess image a few small = read_lengths image a few small in
-        accepted_most image (answer_bytes a) (2 * limits.text) limits.literal_bytes_lem (
+        accepted_most image (answer_bytes a) (2 * limits.text) limits.literal_bytes (
           omega (arith, r.concats, f.concatenations, k.concatenations),
           omega (arith, r.fields, f.merged, k.components_most),
           omega (arith, r.text, t, tree_text image h, k.text_most),

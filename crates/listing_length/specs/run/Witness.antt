@@ -1,5 +1,5 @@
 -- A closed run that meets the premises of the theorems on the way: a starting value, and a bracket without dots, whose text is read twice.
-use Rattle.std.specs.Prelude.{◌≡◌, refl, ◌≤◌, ◌<◌, ◌*◌, ◌^◌, ◌∷◌}
+use Rattle.std.specs.Prelude.{◌≡◌, refl, ◌<◌, ◌*◌, ◌^◌, ◌∷◌}
 use Rattle.std.proofs.Common.{lit≤}
 use Rattle.definition.specs.Prelude.{ℕ, List, [], length}
 use Rattle.definition.specs.Basics.{ok, joined, ascii}

@@ -39,7 +39,8 @@ pub(crate) fn read(s: &[u8]) -> u64
         return NONE;
     }
     if 2 < s.len() {
-        if s[0] == b'0' {
+        let zero = s[0] == b'0';
+        if zero {
             return NONE;
         }
     }

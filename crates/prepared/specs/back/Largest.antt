@@ -1,6 +1,6 @@
 -- No image that passes the check is longer than `maxImage`, 51,304 bytes: "input above 51,306 bytes is judged on its first 51,306, which no
 -- image can fill."
-use Rattle.std.specs.Prelude.{◌≡◌, refl, ◌≤◌, ◌<◌, ◌+◌, ◌*◌, ◌-◌, ◌∷◌}
+use Rattle.std.specs.Prelude.{◌≡◌, refl, ◌≤◌, ◌+◌, ◌*◌, ◌-◌, ◌∷◌}
 use Rattle.std.proofs.Common.{arith, length-take-le}
 use Rattle.definition.specs.Prelude.{ℕ, List, length, take}
 use Rattle.definition.specs.Basics.{ok}
@@ -26,10 +26,10 @@ image_most image passes =
     let k = all_tested image passes in
     let h = counts image in
     let q = counts_say h.c h.n h.r h.t h.b
-    limits.concatenations limits.components limits.records limits.text limits.literal_bytes_lem k.counted in
+    limits.concatenations limits.components limits.records limits.text limits.literal_bytes k.counted in
     most h.c h.n h.r h.t h.b q.0.0.0.0.1 q.0.0.0.1.1 q.0.0.1.1 q.0.1.1 q.1 (image_ends image passes)
   where
-    most : (c n r t b : ℕ) → c ≤ limits.concatenations → n ≤ limits.components → r ≤ limits.records → t ≤ limits.text → b ≤ limits.literal_bytes_lem
+    most : (c n r t b : ℕ) → c ≤ limits.concatenations → n ≤ limits.components → r ≤ limits.records → t ≤ limits.text → b ≤ limits.literal_bytes
         → length image ≡ 40 + 4 * c + 8 * n + 12 * r + t + b → length image ≤ max_image
     most c n r t b hc hn hr ht hb e = omega arith
 

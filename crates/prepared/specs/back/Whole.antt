@@ -95,7 +95,7 @@ module _ (image : List ℕ) (c n r t b : ℕ) where
     pub components : n ≤ limits.components
     pub records : (1 ≤ r) × (r ≤ limits.records)
     pub text_bytes_lem : t ≤ limits.text
-    pub literal_bytes_lem : b ≤ limits.literal_bytes_lem
+    pub literal_bytes_lem : b ≤ limits.literal_bytes
     pub sizes : all (leb 1) (tab size 0 c) ≡ true
     pub all_components : sum (tab size 0 c) ≡ n
     pub all_records : sum (tab count 0 n) ≡ r

@@ -131,7 +131,8 @@ fn put(area: &mut [u8], image: &[u8], words: &[u64], k: usize, s: Merging) -> Me
 {
     let w = 11 * k;
     let flags = words[w];
-    if flags / 32 % 2 == 1 {
+    let literal = flags / 32 % 2 == 1;
+    if literal {
         return lengthen(area, image, words[w + 1], words[w + 10], s);
     }
     put_other(area, image, words, k, s)

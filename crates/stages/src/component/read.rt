@@ -108,7 +108,8 @@ pub(crate) fn without_start(run: Run, after: PBind) -> Run
     if after.0 <= r.0 {
         return run;
     }
-    if stop.0 <= after.0 {
+    let before = stop.0 <= after.0;
+    if before {
         return run;
     }
     Run {

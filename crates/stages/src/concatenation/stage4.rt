@@ -185,7 +185,8 @@ fn check_common(mode: u32, width: OptionUsize) -> Checked
     let OptionUsize::None = width else {
         return Checked::Passed;
     };
-    if mode == 2 {
+    let wanted = mode == 2;
+    if wanted {
         return refused_at(42, 0, 0);
     }
     Checked::Passed
@@ -198,7 +199,8 @@ fn check_only(c: u32, deterministic: bool) -> Checked
     if deterministic {
         return Checked::Passed;
     }
-    if c == 1 {
+    let alone = c == 1;
+    if alone {
         return refused_at(43, 0, 0);
     }
     Checked::Passed

@@ -16,37 +16,37 @@ bounds-words-w c = let h = row_fits c.requires.2 in omega arith
 pub overflow_add-w : goal.overflow_add-w
 overflow_add-w c = let h = row_fits c.requires.2 in search rules
 
-pub offset_bounds-words-w-then-flags-eq1 : goal.offset_bounds-words-w-then-flags-eq1
-offset_bounds-words-w-then-flags-eq1 c = let h = row_fits c.requires.2 in search rules
+pub offset_bounds-words-w-then-literal : goal.offset_bounds-words-w-then-literal
+offset_bounds-words-w-then-literal c = let h = row_fits c.requires.2 in search rules
 
-pub bounds-words-w-then-flags-eq1 : goal.bounds-words-w-then-flags-eq1
-bounds-words-w-then-flags-eq1 c = let h = row_fits c.requires.2 in omega arith
+pub bounds-words-w-then-literal : goal.bounds-words-w-then-literal
+bounds-words-w-then-literal c = let h = row_fits c.requires.2 in omega arith
 
-pub overflow_add-w-then-flags-eq1 : goal.overflow_add-w-then-flags-eq1
-overflow_add-w-then-flags-eq1 c = let h = row_fits c.requires.2 in search rules
+pub overflow_add-w-then-literal : goal.overflow_add-w-then-literal
+overflow_add-w-then-literal c = let h = row_fits c.requires.2 in search rules
 
-pub offset_bounds-words-w-then-flags-eq1-2 : goal.offset_bounds-words-w-then-flags-eq1-2
-offset_bounds-words-w-then-flags-eq1-2 c = let h = row_fits c.requires.2 in search rules
+pub offset_bounds-words-w-then-literal-2 : goal.offset_bounds-words-w-then-literal-2
+offset_bounds-words-w-then-literal-2 c = let h = row_fits c.requires.2 in search rules
 
-pub bounds-words-w-then-flags-eq1-2 : goal.bounds-words-w-then-flags-eq1-2
-bounds-words-w-then-flags-eq1-2 c = let h = row_fits c.requires.2 in omega arith
+pub bounds-words-w-then-literal-2 : goal.bounds-words-w-then-literal-2
+bounds-words-w-then-literal-2 c = let h = row_fits c.requires.2 in omega arith
 
 pub lengthen-requires : goal.lengthen-requires
 lengthen-requires c =
     let a = c.args in
     let (d, cs, is, fixed, room) = c.requires in
     let at = row_at is in
-    let t = is_static _ _ (static_at a.image.now a.words.now a.k d at) c.if-flags-eq1.true in
+    let t = is_static _ _ (static_at a.image.now a.words.now a.k d at) c.if-literal.true in
     let b = bits_at a.image.now a.words.now a.k d at (static_kind d.value t) in
     (b.room, b.order)
 
-pub returns-then-flags-eq1 : goal.returns-then-flags-eq1
-returns-then-flags-eq1 c =
+pub returns-then-literal : goal.returns-then-literal
+returns-then-literal c =
     let a = c.args in
     let l = c.lengthen in
     λ d is fixed.
     let at = row_at is in
-    let t = is_static _ _ (static_at a.image.now a.words.now a.k d at) c.if-flags-eq1.true in
+    let t = is_static _ _ (static_at a.image.now a.words.now a.k d at) c.if-literal.true in
     let b = bits_at a.image.now a.words.now a.k d at (static_kind d.value t) in
     static_step d a.area.now a.s a.image.now a.words.now a.k l.result _ t b l.ensures
 
@@ -55,7 +55,7 @@ put_other-requires c =
     let a = c.args in
     let (d, cs, is, fixed, room) = c.requires in
     let at = row_at is in
-    let t = not_static _ _ (static_at a.image.now a.words.now a.k d at) c.if-flags-eq1.false in
+    let t = not_static _ _ (static_at a.image.now a.words.now a.k d at) c.if-literal.false in
     (d, _, is, fixed, to_close a.area.now a.s d cs t room, t)
 
 pub returns : goal.returns
@@ -63,5 +63,5 @@ returns c =
     let a = c.args in
     λ d is fixed.
     let at = row_at is in
-    let t = not_static _ _ (static_at a.image.now a.words.now a.k d at) c.if-flags-eq1.false in
+    let t = not_static _ _ (static_at a.image.now a.words.now a.k d at) c.if-literal.false in
     other_step d a.area.now a.s c.put_other.result _ t (c.put_other.ensures d is fixed t)

@@ -9,13 +9,13 @@ returns-then-after-r c =
     rw (le-leb a.after.0 a.run.r.0 c.if-after-r.true) refl
 
 -- src/component/read.rt:117:9
-pub returns-then-stop-after : goal.returns-then-stop-after
-returns-then-stop-after c =
+pub returns-then-before : goal.returns-then-before
+returns-then-before c =
     let a = c.args in
-    rw (lt-leb a.after.0 a.run.r.0 c.if-after-r.false, le-leb a.run.stop.0 a.after.0 c.if-stop-after.true) refl
+    rw (lt-leb a.after.0 a.run.r.0 c.if-after-r.false, le-leb a.run.stop.0 a.after.0 c.if-before.true) refl
 
 -- src/component/read.rt:107:1
 pub returns : goal.returns
 returns c =
     let a = c.args in
-    rw (lt-leb a.after.0 a.run.r.0 c.if-after-r.false, lt-leb a.run.stop.0 a.after.0 c.if-stop-after.false) refl
+    rw (lt-leb a.after.0 a.run.r.0 c.if-after-r.false, lt-leb a.run.stop.0 a.after.0 c.if-before.false) refl

@@ -8,13 +8,13 @@ returns-in_default c =
     let p = c.args in
     common_known p.mode (option_usize p.width) _ (ap option_usize c.in_default.is)
 
-pub returns-then-mode-eq2 : goal.returns-then-mode-eq2
-returns-then-mode-eq2 c =
+pub returns-then-wanted : goal.returns-then-wanted
+returns-then-wanted c =
     let p = c.args in
     c.refused_at.ensures
-    ∙ common_lacking p.mode (option_usize p.width) (ap option_usize c.in-None.is) c.if-mode-eq2.true
+    ∙ common_lacking p.mode (option_usize p.width) (ap option_usize c.in-None.is) c.if-wanted.true
 
 pub returns : goal.returns
 returns c =
     let p = c.args in
-    common_free p.mode (option_usize p.width) (ap option_usize c.in-None.is) c.if-mode-eq2.false
+    common_free p.mode (option_usize p.width) (ap option_usize c.in-None.is) c.if-wanted.false
