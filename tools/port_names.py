@@ -3,7 +3,7 @@
 
 usage: tools/port_names.py [--check] [FOLDER]
 
-Run once, right after /opt/rattle/port/port.py, on the tree that it left. It turns
+Run once, right after the kit's port.py, on the tree that it left. It turns
   crates/*/specs and crates/*/proofs    every name with a dash or an inner capital that is not imported from the kit's libraries
                                         and not a label that Rattle makes (those stand in a function's own Proof.antt)
   crates/*/src                          the same names, in clauses and `ghost use` items alone
