@@ -66,7 +66,7 @@ module _ (in_turn : InTurn) (cut_early : CutEarly) (cut_later : CutLater) where
       (record {
         mode_right = m;
         checked = passes_check t f;
-        area_right = rw (r.concatenations, r.components, r.literal_bytes_lem) ((leb_iff (area_needed (length t) (length (joined t)) (length (literals_of (joined t)))) area).1 room);
+        area_right = rw (r.concatenations, r.components, r.literal_bytes) ((leb_iff (area_needed (length t) (length (joined t)) (length (literals_of (joined t)))) area).1 room);
         said = b;
         staged = rw r.tree s;
         bytes = refl;

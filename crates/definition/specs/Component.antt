@@ -4,7 +4,7 @@ use Rattle.definition.specs.Prelude.{ℕ, suc, Bool, true, false, not, Option, n
 use Rattle.definition.specs.Basics.{Result, ok, ◌>>=◌, with_places, within, is_empty}
 use Rattle.definition.specs.Characters.{char}
 use Rattle.definition.specs.Numbers.{try_parse}
-use Rattle.definition.specs.Refusals.{need, empty_after_colon, nothing_before_range, no_literal, overflow, negative_bound, reversed, zero_width, start_above_width, end_above_width, range_above_width, end_zero_lem, open_start}
+use Rattle.definition.specs.Refusals.{need, empty_after_colon, nothing_before_range, no_literal, overflow, negative_bound, reversed, zero_width, start_above_width, end_above_width, range_above_width, end_zero, open_start}
 use Rattle.definition.specs.Image.{Unparsed, Placed, kinds}
 use Rattle.definition.specs.Text.{Part, no_text, Item, items, is_group, is_token, part_of}
 use Rattle.definition.specs.Ranges.{Usb, Usbr, val, with_x, unbounded, parse_range, single_bit, static_val, static_width, begins_with}
@@ -191,7 +191,7 @@ simplify_literal bits r = do
   _ ← need (if_static (λ x. lt_z x w) r.start) start_above_width
   _ ← need (if_static_end (λ x. le_z x w) r) end_above_width
   _ ← need (if_known (λ x. le_z x w) (with_end (length bits) r)) range_above_width
-  _ ← need (if_static_end (lt_z (pos 0)) r) end_zero_lem
+  _ ← need (if_static_end (lt_z (pos 0)) r) end_zero
   ok (cut_literal bits r)
 
 -- is_guaranteed_zero

@@ -6,7 +6,7 @@ use Rattle.definition.specs.Basics.{Result, ok, refused, refusal_of}
 pub data Reason : Type 0 where
   mode_above_2 short_image bad_count bad_offset bad_entry bad_record too_deep short_area : Reason
   empty_after_colon nothing_before_range empty_range second_dots three_dots not_one_token bound_overflow no_literal : Reason
-  overflow negative_bound reversed zero_width start_above_width end_above_width range_above_width end_zero_lem open_start : Reason
+  overflow negative_bound reversed zero_width start_above_width end_above_width range_above_width end_zero open_start : Reason
   literal_in_sink lone_filler_sink second_filler zero_total_width sum_overflow : Reason
   filler_without_start unequal_widths no_common_width only_source middle_filler opposite_fillers : Reason
 
@@ -37,7 +37,7 @@ number_of zero_width = 23
 number_of start_above_width = 24
 number_of end_above_width = 25
 number_of range_above_width = 26
-number_of end_zero_lem = 27
+number_of end_zero = 27
 number_of open_start = 28
 -- stage 3
 number_of literal_in_sink = 30

@@ -33,8 +33,8 @@ pub record ReadsBack (t : Tree) : Type 0 where
   pub concatenations : (counts (image_of t)).c ≡ length t
   pub components : (counts (image_of t)).n ≡ length (joined t)
   pub records : (counts (image_of t)).r ≡ length (all_recs (joined t))
-  pub text_bytes_lem : (counts (image_of t)).t ≡ length (text_of (all_recs (joined t)))
-  pub literal_bytes_lem : (counts (image_of t)).b ≡ length (literals_of (joined t))
+  pub text_bytes : (counts (image_of t)).t ≡ length (text_of (all_recs (joined t)))
+  pub literal_bytes : (counts (image_of t)).b ≡ length (literals_of (joined t))
   -- the record table: kinds, text starts, skips
   pub entries : tab (entry_at (image_of t)) 0 (length (all_recs (joined t))) ≡ entries_from 0 (all_recs (joined t))
   -- the text

@@ -4,7 +4,7 @@ use Rattle.definition.specs.Prelude.{Bool, true, false, not, Option, none, some,
 use Rattle.definition.specs.Basics.{ok, ◌>>=◌, is_empty}
 use Rattle.definition.specs.Characters.{char}
 use Rattle.definition.specs.Numbers.{narrow, try_parse}
-use Rattle.definition.specs.Refusals.{Reason, need, empty_range, second_dots, three_dots, not_one_token, bound_overflow, nothing_before_range, no_literal, overflow, negative_bound, reversed, zero_width, start_above_width, end_above_width, range_above_width, end_zero_lem, open_start}
+use Rattle.definition.specs.Refusals.{Reason, need, empty_range, second_dots, three_dots, not_one_token, bound_overflow, nothing_before_range, no_literal, overflow, negative_bound, reversed, zero_width, start_above_width, end_above_width, range_above_width, end_zero, open_start}
 use Rattle.definition.specs.Image.{Unparsed, kinds}
 use Rattle.definition.specs.Text.{Part, no_text, Item, items, is_group, is_token, part_of}
 use Rattle.definition.specs.Ranges.{Usb, Usbr, Cut, Scan, with_x, number_in, side, join_sides, cut_bound, read_bound, parse_usb, find, scan_step, scan_from, parse_start, parse_end, parse_range, unbounded}
@@ -113,7 +113,7 @@ simplify_literal_fine bits r =
     next_ends (need_ends (if_static (λ x. lt_z x (pos (length bits))) r.start) start_above_width) λ _.
     next_ends (need_ends (if_static_end (λ x. le_z x (pos (length bits))) r) end_above_width) λ _.
     next_ends (need_ends (if_known (λ x. le_z x (pos (length bits))) (with_end (length bits) r)) range_above_width) λ _.
-    next_ends (need_ends (if_static_end (lt_z (pos 0)) r) end_zero_lem) λ _. fine _
+    next_ends (need_ends (if_static_end (lt_z (pos 0)) r) end_zero) λ _. fine _
 
 pub simplify_fine : (c : Component) → Fine (simplify c)
 unfolding simplify

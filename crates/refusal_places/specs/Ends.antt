@@ -4,7 +4,7 @@ use Rattle.std.proofs.Common.{arith}
 use Rattle.definition.specs.Prelude.{ℕ, Bool, true, false, Option, none, some}
 use Rattle.definition.specs.Basics.{Refusal, refusal_of, Result, ok, refused, ◌>>=◌, with_places}
 use Rattle.definition.specs.Limits.{limits}
-use Rattle.definition.specs.Refusals.{Reason, mode_above_2, short_image, bad_count, bad_offset, bad_entry, bad_record, too_deep, short_area, empty_after_colon, nothing_before_range, empty_range, second_dots, three_dots, not_one_token, bound_overflow, no_literal, overflow, negative_bound, reversed, zero_width, start_above_width, end_above_width, range_above_width, end_zero_lem, open_start, literal_in_sink, lone_filler_sink, second_filler, zero_total_width, sum_overflow, filler_without_start, unequal_widths, no_common_width, only_source, middle_filler, opposite_fillers, number_of, refuse, need}
+use Rattle.definition.specs.Refusals.{Reason, mode_above_2, short_image, bad_count, bad_offset, bad_entry, bad_record, too_deep, short_area, empty_after_colon, nothing_before_range, empty_range, second_dots, three_dots, not_one_token, bound_overflow, no_literal, overflow, negative_bound, reversed, zero_width, start_above_width, end_above_width, range_above_width, end_zero, open_start, literal_in_sink, lone_filler_sink, second_filler, zero_total_width, sum_overflow, filler_without_start, unequal_widths, no_common_width, only_source, middle_filler, opposite_fillers, number_of, refuse, need}
 
 -- a number of the table, and places within the limits of an image
 abbrev pub Told : Refusal → Type 0
@@ -44,7 +44,7 @@ in_table zero_width = (omega arith, omega arith)
 in_table start_above_width = (omega arith, omega arith)
 in_table end_above_width = (omega arith, omega arith)
 in_table range_above_width = (omega arith, omega arith)
-in_table end_zero_lem = (omega arith, omega arith)
+in_table end_zero = (omega arith, omega arith)
 in_table open_start = (omega arith, omega arith)
 in_table literal_in_sink = (omega arith, omega arith)
 in_table lone_filler_sink = (omega arith, omega arith)

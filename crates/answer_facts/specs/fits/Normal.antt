@@ -6,7 +6,7 @@ use Rattle.std.proofs.Math.Seq.{length-slice}
 use Rattle.definition.specs.Prelude.{Bool, true, false, Option, none, some, List, [], length, take, drop, ltb, ℤ, pos, negsuc, lt_z, le_z, non_neg}
 use Rattle.definition.specs.Basics.{ok, ◌>>=◌, same_bytes}
 use Rattle.definition.specs.Numbers.{half128, narrow}
-use Rattle.definition.specs.Refusals.{Reason, need, negative_bound, reversed, zero_width, start_above_width, end_above_width, range_above_width, end_zero_lem, open_start}
+use Rattle.definition.specs.Refusals.{Reason, need, negative_bound, reversed, zero_width, start_above_width, end_above_width, range_above_width, end_zero, open_start}
 use Rattle.definition.specs.Ranges.{Usb, Usbr, val}
 use Rattle.definition.specs.Component.{Component, ComponentType, literal, variable, filler, simplify_usb, simplify_end, simplify_range, if_static, if_static_end, if_known, with_end, cut_literal, simplify_literal, simplify, is_zero, has_end}
 use Rattle.definition.specs.Concatenation.{is_static_literal, bits_of}
@@ -99,7 +99,7 @@ literal_passed bits h r (p, q) =
     bound (yields_need (if_static (λ x. lt_z x w) r.start) start_above_width) λ _ s.
     bound (yields_need (if_static_end (λ x. le_z x w) r) end_above_width) λ _ e.
     after (need (if_known (λ x. le_z x w) (with_end (length bits) r)) range_above_width) λ _.
-    after (need (if_static_end (lt_z (pos 0)) r) end_zero_lem) λ _.
+    after (need (if_static_end (lt_z (pos 0)) r) end_zero) λ _.
     given (literal_normal bits h r (record { positive = p; ordered = q; start_within = s; end_within = e }), cut_kept bits r h)
 
 pub simplify_normal : (c : Component) → Short (bits_of c) → Yields (λ d. Normal d × Kept (bits_of c) d) (simplify c)

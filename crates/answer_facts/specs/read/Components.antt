@@ -6,7 +6,7 @@ use Rattle.definition.specs.Prelude.{Bool, true, false, not, Option, none, some,
 use Rattle.definition.specs.Basics.{ok, ◌>>=◌, is_empty}
 use Rattle.definition.specs.Characters.{char}
 use Rattle.definition.specs.Numbers.{try_parse}
-use Rattle.definition.specs.Refusals.{need, nothing_before_range, no_literal, overflow, negative_bound, reversed, zero_width, start_above_width, end_above_width, range_above_width, end_zero_lem, open_start}
+use Rattle.definition.specs.Refusals.{need, nothing_before_range, no_literal, overflow, negative_bound, reversed, zero_width, start_above_width, end_above_width, range_above_width, end_zero, open_start}
 use Rattle.definition.specs.Image.{Unparsed, kinds}
 use Rattle.definition.specs.Tree.{text_of}
 use Rattle.definition.specs.Text.{no_text, Item, items, is_token}
@@ -152,7 +152,7 @@ module _ (txt : List ℕ) where
       let w : ℤ = pos (length bits) in
       after (need (if_static (λ x. lt_z x w) r.start) start_above_width) λ _. after (need (if_static_end (λ x. le_z x w) r) end_above_width) λ _.
       after (need (if_known (λ x. le_z x w) (with_end (length bits) r)) range_above_width) λ _.
-      after (need (if_static_end (lt_z (pos 0)) r) end_zero_lem) λ _. given (literal_cut bits r k)
+      after (need (if_static_end (lt_z (pos 0)) r) end_zero) λ _. given (literal_cut bits r k)
 
   pub simplify_kept : (c : Component) → InComponent txt c → Yields (Kept (bits_of c)) (simplify c)
   unfolding simplify

@@ -97,7 +97,7 @@ module _ (image : List ℕ) (b : Bytes image) (how : Choices) (area : ℕ) (byte
       let told : u32_at (bytes ++ rest) 24 + u32_at (bytes ++ rest) 28 ≡ u32_at (answer_bytes it.said ++ rest) 24 + u32_at (answer_bytes it.said ++ rest) 28 =
       ap (λ s. u32_at (s ++ rest) 24 + u32_at (s ++ rest) 28) it.its_bytes in
       let size : (counts image).t ≡ length (text_of (all_recs (joined it.tree))) =
-      ap (λ x. (counts x).t) it.its_image ∙ (read_back it.tree it.a_tree).text_bytes_lem in
+      ap (λ x. (counts x).t) it.its_image ∙ (read_back it.tree it.a_tree).text_bytes in
       ends (tables image).text _ _ _ (counts image).t (counts image).b _ (image_ends image it.checked) in_text told size
     where
       ends : (at i k n t b m : ℕ) → length image ≡ at + t + b → m ≤ n → i + k ≡ m → t ≡ n → at + i + k ≤ length image

@@ -4,7 +4,7 @@ use Rattle.std.proofs.Common.{zero-le, le_refl, arith, length-append}
 use Rattle.definition.specs.Prelude.{ℕ, Bool, true, false, not, Option, none, some, List, [], length, take, drop, eqb, ℤ, pos, nat_abs, lt_z, le_z, non_neg}
 use Rattle.definition.specs.Basics.{ok, ◌>>=◌, is_empty}
 use Rattle.definition.specs.Numbers.{try_parse}
-use Rattle.definition.specs.Refusals.{need, nothing_before_range, no_literal, overflow, negative_bound, reversed, zero_width, start_above_width, end_above_width, range_above_width, end_zero_lem, open_start}
+use Rattle.definition.specs.Refusals.{need, nothing_before_range, no_literal, overflow, negative_bound, reversed, zero_width, start_above_width, end_above_width, range_above_width, end_zero, open_start}
 use Rattle.definition.specs.Image.{Unparsed, kinds}
 use Rattle.definition.specs.Text.{no_text, Item, items, bytes_of, part_of}
 use Rattle.definition.specs.Ranges.{Usb, Usbr, val, with_x, unbounded, parse_range, single_bit, static_val}
@@ -172,7 +172,7 @@ simplify_text c = bound (range_text_lem c.range) λ r k. go r k c.c_type
         let l : component_text (cut_literal bits r) ≤ 0 + range_text c.range = omega (arith, k, literal_text bits r) in
         after (need (if_static (λ x. lt_z x w) r.start) start_above_width) λ _. after (need (if_static_end (λ x. le_z x w) r) end_above_width) λ _.
         after (need (if_known (λ x. le_z x w) (with_end (length bits) r)) range_above_width) λ _.
-        after (need (if_static_end (lt_z (pos 0)) r) end_zero_lem) λ _. given l
+        after (need (if_static_end (lt_z (pos 0)) r) end_zero) λ _. given l
     go r k (variable p) =
         let l : component_text (record { c_type = variable p; range = r }) ≤ length p.bytes + range_text c.range = omega (arith, k) in given l
     go r k filler =

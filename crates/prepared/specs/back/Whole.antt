@@ -94,8 +94,8 @@ module _ (image : List ℕ) (c n r t b : ℕ) where
     pub concatenations : (1 ≤ c) × (c ≤ limits.concatenations)
     pub components : n ≤ limits.components
     pub records : (1 ≤ r) × (r ≤ limits.records)
-    pub text_bytes_lem : t ≤ limits.text
-    pub literal_bytes_lem : b ≤ limits.literal_bytes
+    pub text_bytes : t ≤ limits.text
+    pub literal_bytes : b ≤ limits.literal_bytes
     pub sizes : all (leb 1) (tab size 0 c) ≡ true
     pub all_components : sum (tab size 0 c) ≡ n
     pub all_records : sum (tab count 0 n) ≡ r
@@ -127,7 +127,7 @@ module _ (image : List ℕ) (c n r t b : ℕ) where
   unfolding fits
   fitting k tree w some sound =
       rw (w.c_is, w.n_is, w.r_is, w.t_is, w.b_is)
-      (simp tested ((((((k.concatenations, some), k.components), k.records.1), k.text_bytes_lem), k.literal_bytes_lem), sound))
+      (simp tested ((((((k.concatenations, some), k.components), k.records.1), k.text_bytes), k.literal_bytes), sound))
 
   module _ (bytes : Bytes image) (k : Checked) where
     text_right_lem : Bytes text

@@ -2,7 +2,7 @@
 use Rattle.std.specs.Prelude.{◌≡◌, ◌&&◌, ◌||◌, if◌then◌else◌}
 use Rattle.definition.specs.Prelude.{ℕ, Bool, true, false, Option, none, some, ℤ, pos, lt_z, le_z, non_neg}
 use Rattle.definition.specs.Basics.{Result, ok, ◌>>=◌}
-use Rattle.definition.specs.Refusals.{need, negative_bound, reversed, zero_width, start_above_width, end_above_width, range_above_width, end_zero_lem, open_start}
+use Rattle.definition.specs.Refusals.{need, negative_bound, reversed, zero_width, start_above_width, end_above_width, range_above_width, end_zero, open_start}
 use Rattle.definition.specs.Ranges.{Usb, Usbr, val, static_val}
 use Rattle.definition.specs.Component.{simplify_usb, simplify_end, if_static, if_static_end, if_known, is_zero, has_end, with_end}
 use Rattle.numbers.specs.Value.{value_of}
@@ -16,8 +16,8 @@ passes p o = elim o [ none ↦ true | some x ↦ p x ]
 abbrev pub end_val : Option Usb → Option ℤ
 end_val o = elim o [ none ↦ none | some e ↦ static_val e ]
 
-abbrev pub end_zero : Option Usb → Bool
-end_zero o = elim o [ none ↦ false | some e ↦ is_zero e ]
+abbrev pub ends_in_zero : Option Usb → Bool
+ends_in_zero o = elim o [ none ↦ false | some e ↦ is_zero e ]
 
 -- two numbers, where both are known
 abbrev pub both_of : Option ℤ → Option ℤ → Option (ℤ × ℤ)
@@ -67,7 +67,7 @@ abbrev pub end_checked : ℕ → Usbr → Result Usbr
 end_checked w v = do
   _ ← need (if_static_end (λ x. le_z x (pos w)) v) end_above_width
   _ ← need (if_known (λ x. le_z x (pos w)) v) range_above_width
-  _ ← need (if_static_end (lt_z (pos 0)) v) end_zero_lem
+  _ ← need (if_static_end (lt_z (pos 0)) v) end_zero
   ok v
 
 -- of one that has none
@@ -79,7 +79,7 @@ literal_range w v = do
   _ ← need (if_static (λ x. lt_z x (pos w)) v.start) start_above_width
   _ ← need (if_static_end (λ x. le_z x (pos w)) v) end_above_width
   _ ← need (if_known (λ x. le_z x (pos w)) (with_end w v)) range_above_width
-  _ ← need (if_static_end (lt_z (pos 0)) v) end_zero_lem
+  _ ← need (if_static_end (lt_z (pos 0)) v) end_zero
   ok (with_end w v)
 
 -- 28

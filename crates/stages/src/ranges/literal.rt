@@ -3,7 +3,7 @@ ghost use Rattle.std.specs.Prelude.{◌≡◌, ℕ, ◌≤◌, true, false, not,
 ghost use Rattle.std.specs.Int.Signed.{non_neg};
 ghost use Rattle.numbers.specs.Value.{option_of};
 ghost use Rattle.stages.specs.ranges.Values.{Tree as TreeIn, usb_of, end_of, usbr_of, UsbFits, Measured, SimplifiedReads};
-ghost use Rattle.stages.specs.ranges.Checks.{passes, end_zero, Positive, end_checked, to_width, literal_range, filler_range};
+ghost use Rattle.stages.specs.ranges.Checks.{passes, ends_in_zero, Positive, end_checked, to_width, literal_range, filler_range};
 
 use super::types::{OptionUsb, Simplified, Usb, Usbr};
 use super::usbr::end_val;
@@ -22,7 +22,7 @@ fn above(n: OptionI128, w: u32) -> bool
 
 // An end that is 0.
 fn end_zero(end: OptionUsb) -> bool
-    ensures { (image : List ℕ) (t : TreeIn) (base : ℕ) → result ≡ end_zero (end_of image t base «end») }
+    ensures { (image : List ℕ) (t : TreeIn) (base : ℕ) → result ≡ ends_in_zero (end_of image t base «end») }
 {
     match end {
         OptionUsb::Some(u) => u.is_guaranteed_zero(),

@@ -12,22 +12,22 @@ returns-then-image-lt40 c = c.refuse.ensures ∙ sym (too_short c.args.image.now
 
 pub returns-then-not-counts_right : goal.returns-then-not-counts_right
 returns-then-not-counts_right c =
-    let counts-read : (counts_right c.args.image.now ≡ c.counts_right.result) =
+    let counts_read : (counts_right c.args.image.now ≡ c.counts_right.result) =
     sym (c.counts_right.ensures ∙ ap counts_in c.header-h.ensures) in
-    c.refuse-then-not-counts_right.ensures ∙ sym (miscounted c.args.image.now c.if-image-lt40.false (counts-read ∙ c.if-not-counts_right.true))
+    c.refuse-then-not-counts_right.ensures ∙ sym (miscounted c.args.image.now c.if-image-lt40.false (counts_read ∙ c.if-not-counts_right.true))
 
 pub returns-then-not-offsets_right : goal.returns-then-not-offsets_right
 returns-then-not-offsets_right c =
-    let counts-read : (counts_right c.args.image.now ≡ c.counts_right.result) =
+    let counts_read : (counts_right c.args.image.now ≡ c.counts_right.result) =
     sym (c.counts_right.ensures ∙ ap counts_in c.header-h.ensures) in
     let placed : (tables_of c.tables_for-at.result ≡ tables c.args.image.now) =
     tables_told c.args.image.now c.tables_for-at.result c.header-h.result c.tables_for-at.ensures c.header-h.ensures in
-    let offsets-read : (offsets_right c.args.image.now ≡ c.offsets_right.result) =
+    let offsets_read : (offsets_right c.args.image.now ≡ c.offsets_right.result) =
     let image = c.args.image.now in
     sym (c.offsets_right.ensures ∙ ap (offsets_in image) placed) in
     c.refuse-then-not-offsets_right.ensures
-    ∙ sym (misplaced c.args.image.now c.if-image-lt40.false (counts-read ∙ c.if-not-counts_right.false)
-    (offsets-read ∙ c.if-not-offsets_right.true))
+    ∙ sym (misplaced c.args.image.now c.if-image-lt40.false (counts_read ∙ c.if-not-counts_right.false)
+    (offsets_read ∙ c.if-not-offsets_right.true))
 
 pub entries_right-requires : goal.entries_right-requires
 entries_right-requires c =
@@ -44,16 +44,16 @@ entries_right-requires c =
 
 pub returns-then-not-entries_right : goal.returns-then-not-entries_right
 returns-then-not-entries_right c =
-    let counts-read : (counts_right c.args.image.now ≡ c.counts_right.result) =
+    let counts_read : (counts_right c.args.image.now ≡ c.counts_right.result) =
     sym (c.counts_right.ensures ∙ ap counts_in c.header-h.ensures) in
     let placed : (tables_of c.tables_for-at.result ≡ tables c.args.image.now) =
     tables_told c.args.image.now c.tables_for-at.result c.header-h.result c.tables_for-at.ensures c.header-h.ensures in
-    let offsets-read : (offsets_right c.args.image.now ≡ c.offsets_right.result) =
+    let offsets_read : (offsets_right c.args.image.now ≡ c.offsets_right.result) =
     let image = c.args.image.now in
     sym (c.offsets_right.ensures ∙ ap (offsets_in image) placed) in
     c.refuse-then-not-entries_right.ensures
-    ∙ sym (wrong_entry c.args.image.now c.if-image-lt40.false (counts-read ∙ c.if-not-counts_right.false)
-    (offsets-read ∙ c.if-not-offsets_right.false) (sym c.entries_right.ensures ∙ c.if-not-entries_right.true))
+    ∙ sym (wrong_entry c.args.image.now c.if-image-lt40.false (counts_read ∙ c.if-not-counts_right.false)
+    (offsets_read ∙ c.if-not-offsets_right.false) (sym c.entries_right.ensures ∙ c.if-not-entries_right.true))
 
 pub records_check-requires : goal.records_check-requires
 records_check-requires c =
@@ -73,13 +73,13 @@ records_check-requires c =
 
 pub returns : goal.returns
 returns c =
-    let counts-read : (counts_right c.args.image.now ≡ c.counts_right.result) =
+    let counts_read : (counts_right c.args.image.now ≡ c.counts_right.result) =
     sym (c.counts_right.ensures ∙ ap counts_in c.header-h.ensures) in
     let placed : (tables_of c.tables_for-at.result ≡ tables c.args.image.now) =
     tables_told c.args.image.now c.tables_for-at.result c.header-h.result c.tables_for-at.ensures c.header-h.ensures in
-    let offsets-read : (offsets_right c.args.image.now ≡ c.offsets_right.result) =
+    let offsets_read : (offsets_right c.args.image.now ≡ c.offsets_right.result) =
     let image = c.args.image.now in
     sym (c.offsets_right.ensures ∙ ap (offsets_in image) placed) in
     c.records_check.ensures
-    ∙ sym (all_but_records c.args.image.now c.if-image-lt40.false (counts-read ∙ c.if-not-counts_right.false)
-    (offsets-read ∙ c.if-not-offsets_right.false) (sym c.entries_right.ensures ∙ c.if-not-entries_right.false))
+    ∙ sym (all_but_records c.args.image.now c.if-image-lt40.false (counts_read ∙ c.if-not-counts_right.false)
+    (offsets_read ∙ c.if-not-offsets_right.false) (sym c.entries_right.ensures ∙ c.if-not-entries_right.false))

@@ -113,7 +113,7 @@ pub block_put : (entry after block : List ℕ) (m : Placed Component) (w : Writi
 block_put entry after block m w bits r long put is count behind area ms e room =
     let r₁ = room.blocks in
     let r₂ = room.offsets in
-    let r₃ = room.literal_block_lem in
+    let r₃ = room.literal_block in
     let whole : length entry ≡ length area = ap length e ∙ length-sets area (w.literals + w.offset) (packed (bits_of m.value)) in
     let l = length_literals m ms in
     let p = length_packed (bits_of m.value) in
@@ -145,7 +145,7 @@ close_room s area ms t c = go c.run c.holds c.room
     go none h room = absurd (true≢false (ap not (sym h.is_open) ∙ t))
     go (some b) h room =
         let r₁ = room.blocks in
-        let r₂ = room.literal_block_lem in
+        let r₂ = room.literal_block in
         let e = same_area c.base area s (some b) h in
         omega arith
 

@@ -58,7 +58,7 @@ rest_room d ms c area e h = go h.run (no_run h.base area c h.run h.holds e) h.ro
     go (some b) z room = let y : ◌≡◌ {A = ℕ} 0 1 = cc in absurd (omega arith)
     go none z room =
         let r₁ = room.blocks in
-        let r₂ = room.literal_block_lem in
+        let r₂ = room.literal_block in
         let l = same_area h.base area c h.run h.holds in
         omega arith
 
@@ -148,7 +148,7 @@ module _ (d : Placed Component) where
           go (some b) z held room = let y : ◌≡◌ {A = ℕ} 0 1 = cc in absurd (omega arith)
           go none z held room =
               let r₁ = room.blocks in
-              let r₂ = room.literal_block_lem in
+              let r₂ = room.literal_block in
               let r₃ = room.offsets in
               let l = same_area h.base entry s none held in
               let n = length_literals d ms in
@@ -164,7 +164,7 @@ module _ (d : Placed Component) where
           resting s r entry after e
           (λ base ms h bits room.
           let n = length_literals d ms in
-          let r₁ = room.literal_block_lem in
+          let r₁ = room.literal_block in
           let r₂ = room.offsets in
           let (held, w_is) = more base none d h bits b.few b.same (omega arith) (omega arith) in
           go base ms h room held w_is)
@@ -204,7 +204,7 @@ module _ (d : Placed Component) where
     static_step image words k r after t at more base o cs h bits room =
         let e : merge_from o (d ∷ cs) ≡ merge_from (some (longer o d)) cs = from_static o d cs t in
         let room₁ : Room base s.w (merge_from (some (longer o d)) cs) = subst (λ (ms : List (Placed Component)). Room base s.w ms) e room in
-        let f = room₁.literal_block_lem in
+        let f = room₁.literal_block in
         let g = room₁.offsets in
         let l = run_first (some (longer o d)) cs in
         let (held, w_is) = more base o d h bits at.few at.same (omega arith) (omega arith) in

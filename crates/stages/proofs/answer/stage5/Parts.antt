@@ -157,7 +157,7 @@ module _ (image words heads : List ℕ) (c base : ℕ) (o : Overall) (s : Start)
         let r = h.fitting.room in
         let t = total_few in
         let u = h.few in
-        record { blocks = omega arith; literal_block_lem = omega arith; offsets = omega arith }
+        record { blocks = omega arith; literal_block = omega arith; offsets = omega arith }
 
     count_is : length (comps_of ds) ≡ c
     count_is = length-map ds (λ (d : Concatenation). d.comps) ∙ h.judged.count

@@ -30,9 +30,9 @@ room_first area w a b r =
     let n = length-append a b in
     let l : length (literals_of (a ++ b)) ≡ length (literals_of a) + length (literals_of b) = ap length (literals_append a b) ∙ length-append (literals_of a) (literals_of b) in
     let p = r.blocks in
-    let q = r.literal_block_lem in
+    let q = r.literal_block in
     let s = r.offsets in
-    record { blocks = omega arith; literal_block_lem = omega arith; offsets = omega arith }
+    record { blocks = omega arith; literal_block = omega arith; offsets = omega arith }
 
 -- some, and then the others
 same_many : (area : List ℕ) (w : Writing) (a b : List (Placed Component)) → Room area w (a ++ b) → Same area w (a ++ b) (put_all area w a) (written_to w a) b

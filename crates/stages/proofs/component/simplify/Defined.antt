@@ -4,7 +4,7 @@ use Rattle.std.proofs.Common.{◌≡◌, ◌<◌, refl, subst, le_refl, le_of_lt
 use Rattle.definition.specs.Prelude.{ℕ, Bool, true, false, Option, none, some, List, [], length, ltb, ℤ, pos, negsuc, lt_z, le_z, non_neg}
 use Rattle.definition.specs.Basics.{ok, ◌>>=◌, is_empty, same_bytes}
 use Rattle.definition.specs.Numbers.{half128, narrow}
-use Rattle.definition.specs.Refusals.{need, start_above_width, end_above_width, range_above_width, end_zero_lem, open_start}
+use Rattle.definition.specs.Refusals.{need, start_above_width, end_above_width, range_above_width, end_zero, open_start}
 use Rattle.definition.specs.Ranges.{Usb, Usbr, static_val}
 use Rattle.definition.specs.Component.{Component, ComponentType, literal, variable, filler, simplify, simplify_range, simplify_literal, cut_literal, with_end, if_static, if_static_end, if_known, is_zero, has_end}
 use Rattle.laws.specs.Numbers.{difference}
@@ -39,8 +39,8 @@ stage_is c = bind_same (simplify_range c.range) (λ v. go v c.c_type)
 -- ---- a literal: its range, then the cut
 
 gate : (bits : List ℕ) (v : Usbr) (a b c d : Bool)
-    → (need a start_above_width >>= λ _. (need b end_above_width >>= λ _. (need c range_above_width >>= λ _. (need d end_zero_lem >>= λ _. ok (cut_literal bits v)))))
-    ≡ cut_all bits (need a start_above_width >>= λ _. (need b end_above_width >>= λ _. (need c range_above_width >>= λ _. (need d end_zero_lem >>= λ _. ok v))))
+    → (need a start_above_width >>= λ _. (need b end_above_width >>= λ _. (need c range_above_width >>= λ _. (need d end_zero >>= λ _. ok (cut_literal bits v)))))
+    ≡ cut_all bits (need a start_above_width >>= λ _. (need b end_above_width >>= λ _. (need c range_above_width >>= λ _. (need d end_zero >>= λ _. ok v))))
 gate bits v true true true true = refl
 gate bits v true true true false = refl
 gate bits v true true false d = refl
@@ -57,7 +57,7 @@ literal_is bits v =
 -- ---- what the tests leave
 
 passed : (v u : Usbr) (a b c d : Bool)
-    → (need a start_above_width >>= λ _. (need b end_above_width >>= λ _. (need c range_above_width >>= λ _. (need d end_zero_lem >>= λ _. ok v)))) ≡ ok u
+    → (need a start_above_width >>= λ _. (need b end_above_width >>= λ _. (need c range_above_width >>= λ _. (need d end_zero >>= λ _. ok v)))) ≡ ok u
     → (a ≡ true) × (b ≡ true) × (v ≡ u)
 passed v u true true true true h = (refl, refl, cc)
 passed v u true true true false h = never h

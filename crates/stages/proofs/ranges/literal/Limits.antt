@@ -4,7 +4,7 @@ use lib.Dec.{eqb-suc-zero}
 use borrow.Author.Tests.{lt-leb}
 use Rattle.definition.specs.Prelude.{ℕ, zero, suc, Option, none, some, List, ltb, leb, ℤ, pos, negsuc, lt_z, le_z, non_neg}
 use Rattle.definition.specs.Basics.{Result, ok, ◌>>=◌}
-use Rattle.definition.specs.Refusals.{need, end_above_width, range_above_width, end_zero_lem}
+use Rattle.definition.specs.Refusals.{need, end_above_width, range_above_width, end_zero}
 use Rattle.definition.specs.Ranges as D
 use Rattle.definition.specs.Ranges.{static_val, static_width}
 use Rattle.definition.specs.Component.{if_static_end, if_known, is_zero}
@@ -14,7 +14,7 @@ use Rattle.numbers.specs.declared.I128.{I128}
 use Rattle.numbers.specs.declared.OptionI128.{OptionI128}
 use Rattle.numbers.specs.declared.OptionI128.TheVariants as I
 use Rattle.stages.specs.ranges.Values.{Tree, usb_of, end_of, usbr_of, Measured, SimplifiedReads}
-use Rattle.stages.specs.ranges.Checks.{passes, end_val, end_zero, Positive, end_checked}
+use Rattle.stages.specs.ranges.Checks.{passes, end_val, ends_in_zero, Positive, end_checked}
 use Rattle.stages.specs.declared.ranges.types.Usb.{Usb}
 use Rattle.stages.specs.declared.ranges.types.Usbr.{Usbr}
 use Rattle.stages.specs.declared.ranges.types.OptionUsb.{OptionUsb}
@@ -47,11 +47,11 @@ above_none n w e = sym (ap (λ (n : OptionI128). not (passes (λ x. le_z x (pos 
 -- ---- an end that is 0
 
 module _ (image : List ℕ) (t : Tree) (base : ℕ) (e : OptionUsb) where
-  pub zero_some : (u : Usb) {b : Bool} → e ≡ O.Some u → b ≡ is_zero (usb_of image t base u) → b ≡ end_zero (end_of image t base e)
-  zero_some u p h = h ∙ sym (ap (λ (e : OptionUsb). end_zero (end_of image t base e)) p)
+  pub zero_some : (u : Usb) {b : Bool} → e ≡ O.Some u → b ≡ is_zero (usb_of image t base u) → b ≡ ends_in_zero (end_of image t base e)
+  zero_some u p h = h ∙ sym (ap (λ (e : OptionUsb). ends_in_zero (end_of image t base e)) p)
 
-  pub zero_none : e ≡ O.None → false ≡ end_zero (end_of image t base e)
-  zero_none p = sym (ap (λ (e : OptionUsb). end_zero (end_of image t base e)) p)
+  pub zero_none : e ≡ O.None → false ≡ ends_in_zero (end_of image t base e)
+  zero_none p = sym (ap (λ (e : OptionUsb). ends_in_zero (end_of image t base e)) p)
 
 not_zero : (o : Option ℤ) → passes non_neg o ≡ true → passes (lt_z (pos 0)) o ≡ not (zero_of o)
 not_zero none h = refl
@@ -60,14 +60,14 @@ not_zero (some (pos (suc n))) h = rw (lt-ltb 0 (suc n) (omega arith), eqb-suc-ze
 not_zero (some (negsuc n)) h = untrue h
 
 ends_zero : (s : D.Usb) (e : Option D.Usb) → let v : D.Usbr = record { start = s; «end» = e } in
-    if_static_end non_neg v ≡ true → if_static_end (lt_z (pos 0)) v ≡ not (end_zero e)
+    if_static_end non_neg v ≡ true → if_static_end (lt_z (pos 0)) v ≡ not (ends_in_zero e)
 ends_zero s none h = refl
 ends_zero s (some e) h = not_zero (static_val e) h
 
 -- ---- 25 to 27
 
 abbrev gate : D.Usbr → Bool → Bool → Bool → Result D.Usbr
-gate v a b c = need a end_above_width >>= λ _. (need b range_above_width >>= λ _. (need c end_zero_lem >>= λ _. ok v))
+gate v a b c = need a end_above_width >>= λ _. (need b range_above_width >>= λ _. (need c end_zero >>= λ _. ok v))
 
 flip : (x y : Bool) → x ≡ not y → y ≡ not x
 flip x true h = ap not (sym h)
@@ -109,7 +109,7 @@ module _ (image : List ℕ) (t : Tree) (base : ℕ) (r : Usbr) (w : ℕ) (x : Op
     pub range_over : b ≡ true → SimplifiedReads image t base (S.Refused 26) (end_checked w (usbr_of image t base r))
     range_over h = record { is = sym (second true h); held = tt }
 
-    module _ (hb : b ≡ false) (z : Bool) (ez : z ≡ end_zero (end_of image t base r.«end»)) where
+    module _ (hb : b ≡ false) (z : Bool) (ez : z ≡ ends_in_zero (end_of image t base r.«end»)) where
       third : (k : Bool) → z ≡ k → end_checked w (usbr_of image t base r) ≡ gate (usbr_of image t base r) true true (not k)
       third k h =
           let v = usbr_of image t base r in

@@ -6,7 +6,7 @@ use borrow.Author.Tests.{lt-leb}
 use Rattle.definition.specs.Prelude.{ℕ, Option, none, some, List, [], ltb, leb, ℤ, pos, negsuc, lt_z, le_z, non_neg}
 use Rattle.definition.specs.Basics.{Result, ok, ◌>>=◌, is_empty, same_bytes}
 use Rattle.definition.specs.Numbers.{half128, narrow}
-use Rattle.definition.specs.Refusals.{need, start_above_width, end_above_width, range_above_width, end_zero_lem, open_start}
+use Rattle.definition.specs.Refusals.{need, start_above_width, end_above_width, range_above_width, end_zero, open_start}
 use Rattle.definition.specs.Ranges as D
 use Rattle.definition.specs.Ranges.{val, static_val, static_width}
 use Rattle.definition.specs.Component.{if_static, if_static_end, if_known, is_zero, has_end, with_end}
@@ -63,7 +63,7 @@ less_is w (some (negsuc n)) h = refl
 
 abbrev gate : D.Usbr → Bool → Bool → Bool → Bool → Result D.Usbr
 gate v a b c d =
-    need a start_above_width >>= λ _. (need b end_above_width >>= λ _. (need c range_above_width >>= λ _. (need d end_zero_lem >>= λ _. ok v)))
+    need a start_above_width >>= λ _. (need b end_above_width >>= λ _. (need c range_above_width >>= λ _. (need d end_zero >>= λ _. ok v)))
 
 -- a range that has no end passes what follows
 module _ (w : ℕ) where

@@ -93,10 +93,10 @@ module _ (area : List ℕ) (w : Writing) (m : Placed Component) (ms : List (Plac
   room_one =
       let l = length_literals m ms in
       let r = room.blocks in
-      let s = room.literal_block_lem in
+      let s = room.literal_block in
       let t = room.offsets in
       let e : length (put_one area w m) ≡ length area = length-sets (sets area p L) w.at B ∙ length-sets area p L in
-      record { blocks = omega arith; literal_block_lem = omega arith; offsets = omega arith }
+      record { blocks = omega arith; literal_block = omega arith; offsets = omega arith }
 
   pub same_one : Same area w (m ∷ ms) (put_one area w m) (written_one w m) ms
   same_one = record { bytes = bytes_one; place = place_one; room = room_one }

@@ -23,7 +23,7 @@ written_to w ms = record { at = w.at + sizes.component * length ms; literals = w
 -- the blocks end before the literal block, and the literal block before the area; its bits are fewer than 2^32
 pub record Room (area : List ℕ) (w : Writing) (ms : List (Placed Component)) : Type 0 where
   pub blocks : w.at + sizes.component * length ms ≤ w.literals
-  pub literal_block_lem : w.literals + w.offset + length (literals_of ms) ≤ length area
+  pub literal_block : w.literals + w.offset + length (literals_of ms) ≤ length area
   pub offsets : w.offset + length (literals_of ms) < 2 ^ 29
 
 -- components that are kept, merged: where there is room for them, they stand in the area afterwards, and r is the place after them
