@@ -1,2 +1,3 @@
 -- What a refusal in code says of document 01.
+pub mod Reasons
 pub mod Refused

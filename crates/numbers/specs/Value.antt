@@ -1,11 +1,8 @@
 -- A number of 128 bits is two halves in two's complement; its value is an integer.
 use Rattle.definition.specs.Prelude.{ℕ, Option, none, some, [], map, ltb, ℤ, pos, negsuc}
-use Rattle.std.specs.Prelude.{◌≡◌, refl, ◌+◌, ◌*◌, ◌-◌, ◌^◌, ◌∷◌, if◌then◌else◌}
+use Rattle.std.specs.Prelude as Std
+use Rattle.std.specs.Prelude.{Some, None, ◌≡◌, refl, ◌+◌, ◌*◌, ◌-◌, ◌^◌, ◌∷◌, if◌then◌else◌}
 use Rattle.numbers.specs.declared.I128.{I128}
-use Rattle.numbers.specs.declared.OptionI128.{OptionI128}
-use Rattle.numbers.specs.declared.OptionI128.TheVariants as I
-use Rattle.numbers.specs.declared.OptionUsize.{OptionUsize}
-use Rattle.numbers.specs.declared.OptionUsize.TheVariants as U
 
 abbrev two : ℕ → ℕ → I128
 two h l = record { high = h; low = l }
@@ -24,11 +21,11 @@ unfolding value_of
 ends = refl
 
 -- Option<i128>
-abbrev pub option_of : OptionI128 → Option ℤ
-option_of (I.Some w) = some (value_of w)
-option_of I.None = none
+abbrev pub option_of : Std.Option I128 → Option ℤ
+option_of (Some w) = some (value_of w)
+option_of None = none
 
 -- Option<usize>
-abbrev pub option_usize : OptionUsize → Option ℕ
-option_usize (U.Some n) = some n
-option_usize U.None = none
+abbrev pub option_usize : Std.Option ℕ → Option ℕ
+option_usize (Some n) = some n
+option_usize None = none

@@ -10,8 +10,8 @@ ghost use Rattle.numbers.specs.parse.Halves.{number, number_of};
 ghost use Rattle.numbers.specs.parse.Parts.{capped, capped_option, negated, radix_option};
 
 use crate::digit::digit_worth;
-use crate::parse::halves::{OptionU128, U128, positive};
-use crate::{I128, OptionI128};
+use crate::I128;
+use crate::parse::halves::{U128, positive};
 
 // x * m + add, by halves of x.
 fn mul_small(x: u64, m: u64, add: u64) -> U128
@@ -27,48 +27,45 @@ fn mul_small(x: u64, m: u64, add: u64) -> U128
 }
 
 // v * radix + d, where it fits 128 bits.
-fn step(v: U128, radix: u64, d: u64) -> OptionU128
+fn step(v: U128, radix: u64, d: u64) -> Option<U128>
     requires { (radix ≤ 16) × (d < 256) }
     ensures { number_of result ≡ capped (number v * radix + d) }
 {
     let low = mul_small(v.low, radix, d);
     let high = mul_small(v.high, radix, low.high);
     if high.high == 0 {
-        OptionU128::Some(U128 {
+        Some(U128 {
             high: high.low,
             low: low.low,
         })
     } else {
-        OptionU128::None
+        None
     }
 }
 
 // The digits' value, where there is one and it fits 128 bits, by the table of worths that is lent.
-fn magnitude_by(worths: &[u8; 256], radix: u64, text: &[u8]) -> OptionU128
+fn magnitude_by(worths: &[u8; 256], radix: u64, text: &[u8]) -> Option<U128>
     requires { (1 ≤ radix) × (radix ≤ 16) × Worths worths.now }
     ensures { number_of result ≡ capped_option (digits radix text.now) }
 {
     if text.len() == 0 {
-        return OptionU128::None;
+        return None;
     }
     let mut v = U128 { high: 0, low: 0 };
     let mut i = 0;
     while i < text.len() {
         let d = digit_worth(worths, text[i]) as u64;
         if radix <= d {
-            return OptionU128::None;
+            return None;
         }
-        let OptionU128::Some(next) = step(v, radix, d) else {
-            return OptionU128::None;
-        };
-        v = next;
+        v = step(v, radix, d)?;
         i += 1;
     }
-    OptionU128::Some(v)
+    Some(v)
 }
 
 // The table is built where it is named: once for a number, and not for each digit.
-fn magnitude(radix: u64, text: &[u8]) -> OptionU128
+fn magnitude(radix: u64, text: &[u8]) -> Option<U128>
     requires { (1 ≤ radix) × (radix ≤ 16) }
     ensures { number_of result ≡ capped_option (digits radix text.now) }
 {
@@ -77,37 +74,36 @@ fn magnitude(radix: u64, text: &[u8]) -> OptionU128
 }
 
 // The number with a minus, where it is at most 2^127.
-fn negative(m: OptionU128) -> OptionI128
+fn negative(m: Option<U128>) -> Option<I128>
     ensures { option_of result ≡ signed_as negated (number_of m) }
 {
-    let OptionU128::Some(v) = m else {
-        return OptionI128::None;
-    };
+    let v = m?;
     if v.high < 0x8000_0000_0000_0000 {
-        return crate::sums::checked_neg(I128 {
+        let n = I128 {
             high: v.high,
             low: v.low,
-        });
+        };
+        return n.checked_neg();
     }
     if 0x8000_0000_0000_0000 < v.high {
-        return OptionI128::None;
+        return None;
     }
     if 0 < v.low {
-        return OptionI128::None;
+        return None;
     }
-    OptionI128::Some(I128 {
+    Some(I128 {
         high: 0x8000_0000_0000_0000,
         low: 0,
     })
 }
 
 // i128::from_str_radix: one sign of its own, then one digit or more.
-fn from_str_radix(radix: u64, s: &[u8]) -> OptionI128
+fn from_str_radix(radix: u64, s: &[u8]) -> Option<I128>
     requires { (1 ≤ radix) × (radix ≤ 16) }
     ensures { option_of result ≡ inner radix s.now }
 {
     if s.len() == 0 {
-        return OptionI128::None;
+        return None;
     }
     if s[0] == b'-' {
         return negative(magnitude(radix, &s[1..]));
@@ -135,7 +131,7 @@ fn radix_of(b: u8) -> u64
 }
 
 // A number without the outer minus: by its prefix, or decimal.
-fn unsigned_parse(s: &[u8]) -> OptionI128
+fn unsigned_parse(s: &[u8]) -> Option<I128>
     ensures { option_of result ≡ unsigned_parse s.now }
 {
     if s.len() <= 2 {
@@ -146,34 +142,31 @@ fn unsigned_parse(s: &[u8]) -> OptionI128
     }
     let radix = radix_of(s[1]);
     if radix == 0 {
-        return OptionI128::None;
+        return None;
     }
     from_str_radix(radix, &s[2..])
 }
 
 // A number with its outer minus, of any form.
-fn any_parse(s: &[u8]) -> OptionI128
+fn any_parse(s: &[u8]) -> Option<I128>
     ensures { option_of result ≡ try_parse s.now }
 {
     if s.len() == 0 {
-        return OptionI128::None;
+        return None;
     }
     if s[0] != b'-' {
         return unsigned_parse(s);
     }
-    let OptionI128::Some(z) = unsigned_parse(&s[1..]) else {
-        return OptionI128::None;
-    };
-    crate::sums::checked_neg(z)
+    unsigned_parse(&s[1..])?.checked_neg()
 }
 
 // Most numbers are short decimals, and need no table and no halves.
-pub fn i128_try_parse(s: &[u8]) -> OptionI128
+pub fn i128_try_parse(s: &[u8]) -> Option<I128>
     ensures { option_of result ≡ try_parse s.now }
 {
     let n = crate::parse::short::read(s);
     if n < 0x8000_0000_0000_0000 {
-        return OptionI128::Some(I128 { high: 0, low: n });
+        return Some(I128 { high: 0, low: n });
     }
     any_parse(s)
 }

@@ -4,7 +4,7 @@ ghost use Rattle.definition.specs.Numbers.{narrow};
 ghost use Rattle.numbers.specs.Steps.{Wraps, overflow};
 ghost use Rattle.numbers.specs.Value.{bits, value_of, option_of};
 
-use crate::{I128, OptionI128, is_negative};
+use crate::I128;
 
 // One half of a sum or a difference, and what it carries to or borrows from the next.
 #[derive(Clone, Copy)]
@@ -94,29 +94,35 @@ fn overflows(a: bool, b: bool, sum: bool) -> bool
     if a { b && !sum } else { !b && sum }
 }
 
-pub fn checked_add(a: I128, b: I128) -> OptionI128
-    ensures { option_of result ≡ narrow (value_of a +ℤ value_of b) }
-{
-    let sum = add_bits(a, b);
-    if overflows(is_negative(a), is_negative(b), is_negative(sum)) {
-        return OptionI128::None;
+impl I128 {
+    pub fn checked_add(self, other: I128) -> Option<I128>
+        ensures { option_of result ≡ narrow (value_of self +ℤ value_of other) }
+    {
+        let sum = add_bits(self, other);
+        if overflows(self.is_negative(), other.is_negative(), sum.is_negative()) {
+            return None;
+        }
+        Some(sum)
     }
-    OptionI128::Some(sum)
-}
 
-// a is the difference plus b, so the difference fits where that sum does not overflow.
-pub fn checked_sub(a: I128, b: I128) -> OptionI128
-    ensures { option_of result ≡ narrow (value_of a -ℤ value_of b) }
-{
-    let difference = sub_bits(a, b);
-    if overflows(is_negative(difference), is_negative(b), is_negative(a)) {
-        return OptionI128::None;
+    // self is the difference plus other, so the difference fits where that sum does not overflow.
+    pub fn checked_sub(self, other: I128) -> Option<I128>
+        ensures { option_of result ≡ narrow (value_of self -ℤ value_of other) }
+    {
+        let difference = sub_bits(self, other);
+        if overflows(
+            difference.is_negative(),
+            other.is_negative(),
+            self.is_negative(),
+        ) {
+            return None;
+        }
+        Some(difference)
     }
-    OptionI128::Some(difference)
-}
 
-pub(crate) fn checked_neg(a: I128) -> OptionI128
-    ensures { option_of result ≡ narrow (neg_ℤ (value_of a)) }
-{
-    checked_sub(I128 { high: 0, low: 0 }, a)
+    pub(crate) fn checked_neg(self) -> Option<I128>
+        ensures { option_of result ≡ narrow (neg_ℤ (value_of self)) }
+    {
+        I128::ZERO.checked_sub(self)
+    }
 }

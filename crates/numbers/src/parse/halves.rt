@@ -4,7 +4,7 @@ ghost use Rattle.definition.specs.Numbers.{signed_as};
 ghost use Rattle.numbers.specs.Value.{option_of};
 ghost use Rattle.numbers.specs.parse.Halves.{number_of};
 
-use crate::{I128, OptionI128};
+use crate::I128;
 
 // A number without a sign, in two halves.
 #[derive(Clone, Copy)]
@@ -13,26 +13,17 @@ pub struct U128 {
     pub low: u64,
 }
 
-// Option<u128>
-#[derive(Clone, Copy)]
-pub enum OptionU128 {
-    Some(U128),
-    None,
-}
-
 // The number as it stands, where it is below 2^127.
-pub(crate) fn positive(m: OptionU128) -> OptionI128
+pub(crate) fn positive(m: Option<U128>) -> Option<I128>
     ensures { option_of result ≡ signed_as pos (number_of m) }
 {
-    let OptionU128::Some(w) = m else {
-        return OptionI128::None;
-    };
+    let w = m?;
     if w.high < 0x8000_0000_0000_0000 {
-        OptionI128::Some(I128 {
+        Some(I128 {
             high: w.high,
             low: w.low,
         })
     } else {
-        OptionI128::None
+        None
     }
 }

@@ -4,8 +4,8 @@ use Rattle.std.proofs.Common.{neg_ℤ, ap, ◌∙◌}
 use lib.IntN.{+ℤ_idl}
 use Rattle.definition.specs.Numbers.{narrow}
 use Rattle.numbers.specs.Value.{value_of}
-use Rattle.numbers.proofs.sums.checked_neg.Goals as goal
+use Rattle.numbers.proofs.I128.checked_neg.Goals as goal
 
 pub returns : goal.returns
 unfolding value_of
-returns c = c.checked_sub.ensures ∙ ap narrow (+ℤ_idl (neg_ℤ (value_of c.args.a)))
+returns c = c.checked_sub.ensures ∙ ap narrow (+ℤ_idl (neg_ℤ (value_of c.args.self)))

@@ -2,7 +2,7 @@
 -- Assumes nothing.
 use Rattle.std.proofs.Common.{refl}
 use Rattle.numbers.proofs.Small.{small}
-use Rattle.numbers.proofs.usize_to_i128.Goals as goal
+use Rattle.numbers.proofs.I128FromUsize.from.Goals as goal
 
 pub returns : goal.returns
 returns c = small (record { high = 0; low = c.args.x }) refl

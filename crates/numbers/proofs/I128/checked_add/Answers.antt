@@ -7,12 +7,12 @@ use Rattle.definition.specs.Numbers.{narrow}
 use Rattle.numbers.specs.Value.{bits, value_of}
 use Rattle.numbers.proofs.Words.{word}
 use Rattle.numbers.proofs.sums.Sums.{add_told}
-use Rattle.numbers.proofs.sums.checked_add.Goals as goal
+use Rattle.numbers.proofs.I128.checked_add.Goals as goal
 
 pub returns-then-overflows : goal.returns-then-overflows
 returns-then-overflows c =
-    let a = c.args.a in
-    let b = c.args.b in
+    let a = c.args.self in
+    let b = c.args.other in
     let s = c.add_bits-sum.result in
     let told : narrow (value_of a +ℤ value_of b) ≡ (if c.overflows.result then none else some (value_of s)) =
     add_told (value_of a) (value_of b) (value_of s) (bits a) (bits b) (bits s)
@@ -24,8 +24,8 @@ returns-then-overflows c =
 
 pub returns : goal.returns
 returns c =
-    let a = c.args.a in
-    let b = c.args.b in
+    let a = c.args.self in
+    let b = c.args.other in
     let s = c.add_bits-sum.result in
     let told : narrow (value_of a +ℤ value_of b) ≡ (if c.overflows.result then none else some (value_of s)) =
     add_told (value_of a) (value_of b) (value_of s) (bits a) (bits b) (bits s)
