@@ -30,7 +30,7 @@ pub struct Tables {
 }
 
 // The byte n places on, whatever the two numbers.
-pub(crate) fn byte_on(s: &[u8], at: usize, n: usize) -> u8
+pub fn byte_on(s: &[u8], at: usize, n: usize) -> u8
     ensures { result ≡ get_or s.now (at + n) 0 }
 {
     if s.len() <= at {
