@@ -6,7 +6,7 @@ ghost use Rattle.definition.specs.Run.{under};
 ghost use Rattle.errors.specs.Refused.{result_of};
 ghost use Rattle.stages.specs.admission.Asked.{admitted_of};
 
-use errors::Checked;
+use errors::{Reason, Refusal};
 
 // Whether an area of this length has room for the answer of any image with these counts: 32 + 20·C + 72·N + B.
 fn enough(image: &[u8], area: usize) -> bool
@@ -19,18 +19,15 @@ fn enough(image: &[u8], area: usize) -> bool
 }
 
 // 1, the image check, 8.
-pub(crate) fn admitted(image: &[u8], mode: u32, area: usize) -> Checked
+pub(crate) fn admitted(image: &[u8], mode: u32, area: usize) -> Result<(), Refusal>
     ensures { result_of result ≡ admitted_of image.now (under mode) area }
 {
     if 2 < mode {
-        return Checked::Refused(errors::refuse(1));
+        return Err(Reason::ModeAbove2.into());
     }
-    let image_right = image::check::check_image(image);
-    let Checked::Passed = image_right else {
-        return image_right;
-    };
-    if enough(image, area) {
-        return Checked::Passed;
+    image::check::check_image(image)?;
+    if !enough(image, area) {
+        return Err(Reason::ShortArea.into());
     }
-    Checked::Refused(errors::refuse(8))
+    Ok(())
 }

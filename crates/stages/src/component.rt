@@ -1,5 +1,4 @@
-// A component (src/component.rs): stages 1 and 2, the starting value, and the words that it is kept in.
-mod keep;
+// A component (src/component.rs): stages 1 and 2, and the starting value.
 mod parse;
 mod read;
 mod simplify;
@@ -8,7 +7,6 @@ mod tests;
 mod types;
 mod walk;
 
-pub(crate) use keep::text_word;
-pub(crate) use read::is_refused;
-pub(crate) use start::{Start, StartResult, starting_value};
+pub(crate) use start::{Start, starting_value};
+pub use types::{Bits, Component, ComponentType};
 pub(crate) use walk::stage2;

@@ -1,13 +1,13 @@
 // The starting value in force (document 02, L1): the image's if the line has a prefix, even an empty one, else the lent default.
 ghost use Rattle.std.specs.Prelude.{◌≡◌};
-ghost use Rattle.errors.specs.Refused.{outcome_of};
+ghost use Rattle.errors.specs.Refused.{result_of};
 ghost use Rattle.stages.specs.in_force.InForce.{part_at, part_in, told_in, told_by};
 
-use errors::Outcome;
+use errors::Refusal;
 use image::token_tree::{text_place, u32_at};
 
 // Where it stands: a place and a length in the image, or the whole default; nothing after a refusal.
-#[derive(Clone, Copy)]
+#[derive(Clone, Copy, Debug, PartialEq, Eq)]
 pub enum InForce {
     Nothing,
     Image(usize, usize),
@@ -28,12 +28,12 @@ fn told_in(image: &[u8], answer: &[u8]) -> InForce
     InForce::Default
 }
 
-pub(crate) fn told_by(image: &[u8], answer: &[u8], o: Outcome) -> InForce
-    ensures { result ≡ told_by image.now answer.now (outcome_of o) }
+pub(crate) fn told_by(image: &[u8], answer: &[u8], outcome: Result<usize, Refusal>) -> InForce
+    ensures { result ≡ told_by image.now answer.now (result_of outcome) }
 {
-    match o {
-        Outcome::Accepted(_) => told_in(image, answer),
-        Outcome::Refused(_) => InForce::Nothing,
+    match outcome {
+        Ok(_) => told_in(image, answer),
+        Err(_) => InForce::Nothing,
     }
 }
 

@@ -11,4 +11,4 @@ mod usb;
 mod usbr;
 
 pub(crate) use range::{parse_range, single_bit};
-pub(crate) use types::{OptionRange, OptionUsb, RangeResult, Simplified, Usb, Usbr};
+pub(crate) use types::{Simplified, Usb, Usbr};

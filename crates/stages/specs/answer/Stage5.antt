@@ -1,4 +1,5 @@
 -- The answer of a run that refuses nothing, block by block.
+use Rattle.std.specs.Prelude as Std
 use Rattle.std.specs.Prelude.{◌≡◌, ◌<◌, ◌≤◌, ◌+◌, ◌*◌}
 use Rattle.std.proofs.lemmas.List.Edits.{sets}
 use Rattle.definition.specs.Prelude.{ℕ, List, map, length}
@@ -11,15 +12,15 @@ use Rattle.definition.specs.Answer.{Answer, components, concatenation_bytes, ans
 use Rattle.answer_facts.specs.fits.Fixed.{AllFixed}
 use Rattle.answer_facts.specs.fits.Statement.{literals_of}
 use Rattle.stages.specs.token_tree.Table.{tree_in}
-use Rattle.stages.specs.token_tree.Rows.{Sizes}
-use Rattle.stages.specs.component.Kept.{KeptFrom}
 use Rattle.stages.specs.component.Start.{start_of, TextFits}
-use Rattle.stages.specs.concatenation.Heads.{HeadsAre, AllChecked, Judged}
+use Rattle.stages.specs.concatenation.Heads.{HeadsAre}
 use Rattle.stages.specs.concatenation.Overall.{overall_of}
 use Rattle.stages.specs.answer.merging.Put.{put_all, written_to, Room}
 use Rattle.stages.specs.declared.answer.merging.Writing.{Writing}
 use Rattle.stages.specs.declared.concatenation.overall.Overall.{Overall}
+use Rattle.stages.specs.declared.component.types.Component.{Component as Now}
 use Rattle.stages.specs.declared.component.start.Start.{Start}
+use Rattle.stages.specs.declared.concatenation.stage3.Concatenation.{Concatenation as Head}
 
 -- the components of every concatenation after merging
 abbrev pub merged_all : List (List (Placed Component)) → List (Placed Component)
@@ -29,30 +30,26 @@ abbrev pub comps_of : List Concatenation → List (List (Placed Component))
 comps_of ds = map (λ (d : Concatenation). d.comps) ds
 
 -- the blocks of the concatenations, from the end of the head on
-abbrev pub PutHeadsIs : List ℕ → ℕ → List ℕ → List ℕ → Type 0
-PutHeadsIs heads c before after =
-    (ds : List Concatenation) → length ds ≡ c → HeadsAre heads ds → AllChecked ds
+abbrev pub PutHeadsIs : List Head → List ℕ → List ℕ → Type 0
+PutHeadsIs heads before after =
+    (image : List ℕ) (kept : List Now) (ds : List Concatenation) → HeadsAre image kept heads ds
     → after ≡ sets before sizes.head (joined (map concatenation_bytes (map merged ds)))
 
--- the components of so many concatenations from the place w on
-abbrev pub PutAllIs : List ℕ → List ℕ → ℕ → Writing → Writing → List ℕ → List ℕ → Type 0
-PutAllIs image words c w r before after =
-    (u : List (List (Placed Component))) → length u ≡ c → Sizes image 0 u → KeptFrom image words 0 (joined u) → AllFixed (joined u)
-    → Room before w (merged_all u) → (after ≡ put_all before w (merged_all u)) × (r ≡ written_to w (merged_all u))
+-- the components of these concatenations from the place w on
+abbrev pub PutAllIs : List ℕ → List Now → List Head → Writing → Writing → List ℕ → List ℕ → Type 0
+PutAllIs image kept heads w r before after =
+    (ds : List Concatenation) → HeadsAre image kept heads ds → AllFixed (joined (comps_of ds)) → Room before w (merged_all (comps_of ds))
+    → (after ≡ put_all before w (merged_all (comps_of ds))) × (r ≡ written_to w (merged_all (comps_of ds)))
 
 -- room for them
-pub record PutFits (image words : List ℕ) (c : ℕ) (w : Writing) (area : List ℕ) : Type 0 where
-  pub u : List (List (Placed Component))
-  pub count : length u ≡ c
-  pub sizes_are : Sizes image 0 u
-  pub table : 40 + 4 * c ≤ length image
-  pub few : length (joined u) ≤ 256
-  pub kept : KeptFrom image words 0 (joined u)
-  pub fixed : AllFixed (joined u)
-  pub room : Room area w (merged_all u)
+pub record PutFits (image : List ℕ) (kept : List Now) (heads : List Head) (w : Writing) (area : List ℕ) : Type 0 where
+  pub ds : List Concatenation
+  pub are : HeadsAre image kept heads ds
+  pub fixed : AllFixed (joined (comps_of ds))
+  pub room : Room area w (merged_all (comps_of ds))
 
 -- the answer of a tree with these concatenations, `base` the text start of its starting value's component
-abbrev pub answer_from : List ℕ → ℕ → Start → Overall → List Concatenation → Answer
+abbrev pub answer_from : List ℕ → ℕ → Std.Option Start → Overall → List Concatenation → Answer
 answer_from image base s o ds = record { init = start_of image (tree_in image) base s; overall = overall_of o; cc = map merged ds }
 
 -- an answer that fits an area, and whose counts are small
@@ -65,17 +62,16 @@ pub record Fitting (c area : ℕ) (a : Answer) : Type 0 where
   pub room : length (answer_bytes a) ≤ area
 
 -- what stage 5 is of: concatenations that stage 4 accepted, with room for their answer
-pub record Answers (image words heads : List ℕ) (c base : ℕ) (o : Overall) (s : Start) (area : ℕ) (ds : List Concatenation) : Type 0 where
-  pub judged : Judged image words heads c ds
+pub record Answers (image : List ℕ) (kept : List Now) (heads : List Head) (base : ℕ) (o : Overall) (s : Std.Option Start) (area : ℕ) (ds : List Concatenation) : Type 0 where
+  pub are : HeadsAre image kept heads ds
   pub fixed : AllFixed (joined (comps_of ds))
   pub start : TextFits image (tree_in image) base s
   pub small : base + length image < 4294967296
-  pub table : 40 + 4 * c ≤ length image
-  pub few : c ≤ 16
+  pub few : length heads ≤ 16
   pub few_components : length (joined (comps_of ds)) ≤ 256
-  pub fitting : Fitting c area (answer_from image base s o ds)
+  pub fitting : Fitting (length heads) area (answer_from image base s o ds)
 
-abbrev pub Stage5Is : List ℕ → List ℕ → List ℕ → ℕ → Overall → Start → ℕ → List ℕ → List ℕ → Type 0
-Stage5Is image words heads c o s r before after =
-    (base : ℕ) (ds : List Concatenation) → Answers image words heads c base o s (length before) ds
+abbrev pub Stage5Is : List ℕ → List Now → List Head → Overall → Std.Option Start → ℕ → List ℕ → List ℕ → Type 0
+Stage5Is image kept heads o s r before after =
+    (base : ℕ) (ds : List Concatenation) → Answers image kept heads base o s (length before) ds
     → (after ≡ sets before 0 (answer_bytes (answer_from image base s o ds))) × (r ≡ length (answer_bytes (answer_from image base s o ds)))

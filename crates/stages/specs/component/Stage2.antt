@@ -1,16 +1,15 @@
 -- Stage 2 of a component, step by step as the code goes.
-use Rattle.std.specs.Prelude.{◌≡◌, ◌<◌, ◌≤◌, ◌-◌, ◌^◌, ◌&&◌}
+use Rattle.std.specs.Prelude as Std
+use Rattle.std.specs.Prelude.{Some, ◌≡◌, ◌<◌, ◌≤◌, ◌-◌, ◌^◌, ◌&&◌}
 use Rattle.definition.specs.Prelude.{ℕ, true, List, pos, lt_z, le_z, non_neg}
 use Rattle.definition.specs.Basics.{Result, ok, ◌>>=◌}
 use Rattle.definition.specs.Ranges.{Usbr}
 use Rattle.definition.specs.Component.{Component, ComponentType, literal, variable, filler, cut_literal, simplify_literal, if_static, if_static_end, if_known, has_end}
 use Rattle.numbers.specs.declared.I128.{I128}
-use Rattle.numbers.specs.declared.OptionI128.{OptionI128}
 use Rattle.stages.specs.ranges.Values.{zero_by, val_by}
 use Rattle.stages.specs.ranges.Checks.{filler_range}
-use Rattle.stages.specs.component.Values.{literal_by}
-use Rattle.stages.specs.declared.ranges.types.OptionUsb.TheVariants as O
-use Rattle.stages.specs.declared.component.types.ComponentResult.{ComponentResult}
+use Rattle.stages.specs.declared.component.types.Component.{Component as Now}
+use Rattle.stages.specs.declared.component.types.ComponentType.TheVariants as T
 
 -- a range as 20 to 27 leave it: it has an end, and numbers that are places among w bits, in order
 pub record Within (w : ℕ) (v : Usbr) : Type 0 where
@@ -24,9 +23,13 @@ pub record CutFits (x y : I128) : Type 0 where
   pub order : x.low ≤ y.low
   pub small : y.low < 2 ^ 32
 
-abbrev pub cut_both_by : I128 → I128 → OptionI128 → ComponentResult
-cut_both_by x y width =
-    literal_by x.low y.low (record { start = zero_by; «end» = O.Some (val_by (record { high = 0; low = y.low - x.low })) }) width
+abbrev pub cut_both_by : ℕ → I128 → I128 → Std.Option I128 → Now
+cut_both_by at x y width =
+    record {
+      c_type = T.Literal (record { at = at; from = x.low; to = y.low });
+      range = record { start = zero_by; «end» = Some (val_by (record { high = 0; low = y.low - x.low })) };
+      width = width;
+    }
 
 -- a component with the range that is left
 abbrev pub with_type : ComponentType → Result Usbr → Result Component

@@ -1,22 +1,12 @@
 -- Tests of a component in code.
+use Rattle.std.specs.Prelude as Std
 use Rattle.std.specs.Prelude.{◌≡◌}
 use Rattle.definition.specs.Prelude.{ℕ, Bool, true, false, Option, none, some, List, eqb, nat_abs, non_neg}
 use Rattle.definition.specs.Ranges.{Usb, static_val}
 use Rattle.definition.specs.Component.{if_static_end}
 use Rattle.stages.specs.ranges.Values.{Tree, end_of, usbr_of}
-use Rattle.stages.specs.declared.ranges.types.OptionUsb.{OptionUsb}
-use Rattle.stages.specs.declared.ranges.types.OptionUsb.TheVariants as O
-use Rattle.stages.specs.declared.ranges.types.OptionRange.{OptionRange}
-use Rattle.stages.specs.declared.ranges.types.OptionRange.TheVariants as R
+use Rattle.stages.specs.declared.ranges.types.Usb.{Usb as Now}
 use Rattle.stages.specs.declared.component.types.Component.{Component}
-
-abbrev pub is_range : OptionRange → Bool
-is_range (R.Some x y) = true
-is_range R.None = false
-
-abbrev pub is_there : OptionUsb → Bool
-is_there (O.Some u) = true
-is_there O.None = false
 
 -- a literal of w bits ends at its width, or has no end
 abbrev pub full_end : Option Usb → ℕ → Bool
@@ -29,5 +19,5 @@ EndPositive image t base c = if_static_end non_neg (usbr_of image t base c.range
 abbrev EndNonNeg : Option Usb → Type 0
 EndNonNeg e = elim e [ none ↦ true | some u ↦ elim (static_val u) [ none ↦ true | some x ↦ non_neg x ] ] ≡ true
 
-abbrev pub EndsAt : OptionUsb → ℕ → Bool → Type 0
+abbrev pub EndsAt : Std.Option Now → ℕ → Bool → Type 0
 EndsAt e w b = (image : List ℕ) (t : Tree) (base : ℕ) → EndNonNeg (end_of image t base e) → b ≡ full_end (end_of image t base e) w

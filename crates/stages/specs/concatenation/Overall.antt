@@ -1,6 +1,7 @@
 -- What stage 4 reads of a concatenation, its answer in code, and its steps.
 use Rattle.definition.specs.Prelude.{ℕ, suc, Bool, true, false, not, Option, none, some, List, [], length, eqb}
-use Rattle.std.specs.Prelude.{◌≡◌, ◌≢◌, ◌&&◌, ◌||◌, ◌∷◌, if◌then◌else◌}
+use Rattle.std.specs.Prelude as Std
+use Rattle.std.specs.Prelude.{Some, None, Ok, Err, ◌≡◌, ◌&&◌, ◌||◌, ◌∷◌, if◌then◌else◌}
 use Rattle.definition.specs.Basics.{Result, ok, refused, refusal_of, ◌>>=◌, with_places}
 use Rattle.definition.specs.Refusals.{need, refuse, no_common_width, only_source, middle_filler, opposite_fillers}
 use Rattle.definition.specs.Image.{Placed}
@@ -9,24 +10,21 @@ use Rattle.definition.specs.Concatenation.{Concatenation, FillerAlign, is_align,
 use Rattle.definition.specs.Overall.{Overall, place_from, is_filler, join_align, join_width, check_source, middle_from, opposite_from, is_sided}
 use Rattle.numbers.specs.Value.{option_usize}
 use Rattle.errors.specs.Refused.{refused_as}
+use Rattle.errors.specs.declared.Refusal.{Refusal}
 use Rattle.stages.specs.concatenation.alignment.Align.{align_of}
 use Rattle.stages.specs.declared.concatenation.overall.Overall.{Overall as Now}
-use Rattle.stages.specs.declared.concatenation.overall.Summary.{Summary}
-use Rattle.stages.specs.declared.concatenation.overall.Place.{Place}
-use Rattle.stages.specs.declared.concatenation.overall.Place.TheVariants as P
-use Rattle.stages.specs.declared.concatenation.overall.OverallResult.{OverallResult}
-use Rattle.stages.specs.declared.concatenation.overall.OverallResult.TheVariants as R
+use Rattle.stages.specs.declared.concatenation.running_check.Running.{Running}
 
-abbrev pub place_of : Place → Option ℕ
-place_of (P.At k) = some k
-place_of P.None = none
+abbrev pub place_of : Std.Option ℕ → Option ℕ
+place_of (Some k) = some k
+place_of None = none
 
 abbrev pub overall_of : Now → Overall
 overall_of o = record { align = align_of o.align; width = option_usize o.width; known = o.known; deterministic = o.deterministic; nonzero = o.nonzero }
 
-abbrev pub answer_of : OverallResult → Result Overall
-answer_of (R.Ok o) = ok (overall_of o)
-answer_of (R.Refused e) = refused_as e
+abbrev pub answer_of : Std.Result Now Refusal → Result Overall
+answer_of (Ok o) = ok (overall_of o)
+answer_of (Err e) = refused_as e
 
 -- the component of the first filler, and of the first unbounded one
 abbrev pub filler_in : Concatenation → Option ℕ
@@ -35,21 +33,12 @@ filler_in c = place_from (λ (p : Placed Component). is_filler p.value) 0 c.comp
 abbrev pub unbounded_in : Concatenation → Option ℕ
 unbounded_in c = place_from (λ (p : Placed Component). is_unbounded_filler p.value) 0 c.comps
 
-pub record HasSummary (c : Concatenation) (s : Summary) : Type 0 where
+-- what stage 4 reads of a concatenation
+pub record HasSummary (c : Concatenation) (s : Running) : Type 0 where
   pub align_is : align_of s.align ≡ c.align
   pub width_is : option_usize s.width ≡ c.width
   pub deterministic_is : s.deterministic ≡ c.deterministic
   pub nonzero_is : s.nonzero ≡ c.nonzero
-
--- each concatenation has its summary, in order
-pub data Summarised : List Concatenation → List Summary → Type 0 where
-  none_left : Summarised [] []
-  one_more : {c : Concatenation} {s : Summary} {l : List Concatenation} {ss : List Summary} → HasSummary c s → Summarised l ss → Summarised (c ∷ l) (s ∷ ss)
-
--- a list of n, the first of which, if there is one, has this summary
-abbrev pub StartsAs : List Concatenation → ℕ → Summary → Type 0
-StartsAs [] n s = n ≡ 0
-StartsAs (c ∷ l) n s = HasSummary c s × (n ≢ 0)
 
 -- join_width where it refuses nothing, with this known width, of concatenation `at`
 abbrev pub joined : Concatenation → ℕ → Option ℕ → Overall → Overall

@@ -1,13 +1,13 @@
 -- Stage 2 of a range, step by step as the code goes, each a part of the definition's.
-use Rattle.std.specs.Prelude.{◌≡◌, ◌&&◌, ◌||◌, if◌then◌else◌}
+use Rattle.std.specs.Prelude as Std
+use Rattle.std.specs.Prelude.{Some, None, ◌≡◌, ◌&&◌, ◌||◌}
 use Rattle.definition.specs.Prelude.{ℕ, Bool, true, false, Option, none, some, ℤ, pos, lt_z, le_z, non_neg}
 use Rattle.definition.specs.Basics.{Result, ok, ◌>>=◌}
 use Rattle.definition.specs.Refusals.{need, negative_bound, reversed, zero_width, start_above_width, end_above_width, range_above_width, end_zero, open_start}
 use Rattle.definition.specs.Ranges.{Usb, Usbr, val, static_val}
 use Rattle.definition.specs.Component.{simplify_usb, simplify_end, if_static, if_static_end, if_known, is_zero, has_end, with_end}
 use Rattle.numbers.specs.Value.{value_of}
-use Rattle.stages.specs.declared.ranges.types.OptionRange.{OptionRange}
-use Rattle.stages.specs.declared.ranges.types.OptionRange.TheVariants as R
+use Rattle.numbers.specs.declared.I128.{I128}
 
 -- a test that what is not known passes
 abbrev pub passes : (ℤ → Bool) → Option ℤ → Bool
@@ -25,25 +25,23 @@ both_of none b = none
 both_of (some x) none = none
 both_of (some x) (some y) = some (x, y)
 
-abbrev pub range_of : OptionRange → Option (ℤ × ℤ)
-range_of (R.Some x y) = some (value_of x, value_of y)
-range_of R.None = none
+abbrev pub range_of : Std.Option (I128 × I128) → Option (ℤ × ℤ)
+range_of (Some p) = some (value_of p.0, value_of p.1)
+range_of None = none
 
--- 22, 23 or 0, of a width
-abbrev pub refused_width : Option ℤ → ℕ
-refused_width w = if passes non_neg w then (if passes (lt_z (pos 0)) w then 0 else 23) else 22
+-- 22, 23, of a width
+abbrev pub width_checked : Option ℤ → Result Unit
+width_checked w = do
+  _ ← need (passes non_neg w) reversed
+  need (passes (lt_z (pos 0)) w) zero_width
 
 -- ---- 20
 
--- the range from a start to an end that may be refused
-abbrev pub ended_with : Usb → Result Usb → Result (Option Usbr)
-ended_with s m = m >>= λ e. ok (some (record { start = s; «end» = some e }))
-
-abbrev pub end_simple : Usb → Option Usb → Result (Option Usbr)
-end_simple s e = simplify_end e >>= λ e'. ok (some (record { start = s; «end» = e' }))
-
-abbrev pub both_simple : Usbr → Result (Option Usbr)
-both_simple v = simplify_usb v.start >>= λ s. end_simple s v.«end»
+abbrev pub both_simple : Usbr → Result Usbr
+both_simple v = do
+  s ← simplify_usb v.start
+  e ← simplify_end v.«end»
+  ok (record { start = s; «end» = e })
 
 -- ---- 21 to 23, the end of simplify_range
 

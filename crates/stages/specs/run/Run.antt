@@ -1,5 +1,6 @@
 -- The whole run in code: the outcome and the lent area, as the definition's; and each function above the stages, by what is left to do.
-use Rattle.std.specs.Prelude.{◌≡◌, ◌≤◌, ◌*◌}
+use Rattle.std.specs.Prelude as Std
+use Rattle.std.specs.Prelude.{◌≡◌, ◌≤◌}
 use Rattle.definition.specs.Prelude.{ℕ, not, Option, List, length}
 use Rattle.definition.specs.Basics.{Result, ok, ◌>>=◌, is_empty, joined, area_after}
 use Rattle.definition.specs.Limits.{area_needed}
@@ -11,15 +12,16 @@ use Rattle.definition.specs.Concatenation.{Concatenation, stage3}
 use Rattle.definition.specs.Answer.{Answer, answer_bytes}
 use Rattle.definition.specs.Run.{Choices, stages, run}
 use Rattle.answer_facts.specs.stages.Statement.{later}
-use Rattle.errors.specs.Refused.{outcome_of}
-use Rattle.errors.specs.declared.Outcome.{Outcome}
-use Rattle.stages.specs.token_tree.Table.{tree_in, tables_in}
+use Rattle.errors.specs.Refused.{result_of}
+use Rattle.errors.specs.declared.Refusal.{Refusal}
+use Rattle.stages.specs.token_tree.Table.{tree_in}
 use Rattle.stages.specs.token_tree.Grown.{Grown}
 use Rattle.stages.specs.component.Kept.{KeptFrom}
-use Rattle.stages.specs.component.Start.{start_of, TextFits, scanned_base, AfterTree}
+use Rattle.stages.specs.component.Start.{start_of, TextFits, scanned_base}
 use Rattle.stages.specs.component.Read.{two_stages}
 use Rattle.stages.specs.concatenation.Heads.{HeadsAre}
-use Rattle.stages.specs.declared.token_tree.types.Tables.{Tables}
+use Rattle.stages.specs.declared.component.types.Component.{Component as Now}
+use Rattle.stages.specs.declared.concatenation.stage3.Concatenation.{Concatenation as Head}
 use Rattle.stages.specs.declared.component.start.Start.{Start}
 use Rattle.stages.specs.declared.run.Choices.{Choices as Told}
 
@@ -42,63 +44,49 @@ pub record RunFits (image : List ℕ) (area : ℕ) : Type 0 where
   pub room : area_needed (counts image).c (counts image).n (counts image).b ≤ area
 
 -- the outcome and the area are those of m
-abbrev pub Came : Result Answer → Outcome → List ℕ → List ℕ → Type 0
-Came m o before after = (outcome_of o, after) ≡ came_to before (bytes_of m)
+abbrev pub Came : Result Answer → Std.Result ℕ Refusal → List ℕ → List ℕ → Type 0
+Came m o before after = (result_of o, after) ≡ came_to before (bytes_of m)
 
-abbrev pub StagesAs : List ℕ → Told → Outcome → List ℕ → List ℕ → Type 0
+abbrev pub StagesAs : List ℕ → Told → Std.Result ℕ Refusal → List ℕ → List ℕ → Type 0
 StagesAs image told o before after = (how : Choices) → StandsFor told how → Came (stages how (tree_of image)) o before after
 
 -- the outcome and the area are those of the whole run
-abbrev pub AnsweredAs : List ℕ → Told → Outcome → List ℕ → List ℕ → Type 0
+abbrev pub AnsweredAs : List ℕ → Told → Std.Result ℕ Refusal → List ℕ → List ℕ → Type 0
 AnsweredAs image told o before after =
-    (how : Choices) → StandsFor told how → (outcome_of o, after) ≡ came_to before (run image how (length before))
+    (how : Choices) → StandsFor told how → (result_of o, after) ≡ came_to before (run image how (length before))
 
--- ---- behind the starting value
+-- ---- behind the starting value and stages 1 and 2
 
-abbrev pub init_of : List ℕ → Start → Option (Placed Part)
+abbrev pub init_of : List ℕ → Std.Option Start → Option (Placed Part)
 init_of image s = start_of image (tree_in image) (scanned_base image) s
 
-pub record StartFits (image : List ℕ) (t : Tables) (s : Start) : Type 0 where
-  pub tables_are : t ≡ tables_in image
-  pub after : (g : Grown image) → AfterTree image (tree_in image) s.after.0 0 0 g.tree
-  pub text : TextFits image (tree_in image) (scanned_base image) s
-  pub is : starting_value 0 (source (tree_of image)) ≡ ok (init_of image s)
-
--- stages 3 to 5 of these components, and stages 1 to 5, with this starting value
-abbrev pub later_of : List ℕ → Choices → Start → List (List (Placed Component)) → Result Answer
+-- stages 3 to 5 of these components, with this starting value
+abbrev pub later_of : List ℕ → Choices → Std.Option Start → List (List (Placed Component)) → Result Answer
 later_of image how s cc = later how (record { init = init_of image s; cc = cc })
 
-abbrev pub behind_start : List ℕ → Choices → Start → Result Answer
-behind_start image how s = two_stages (tree_of image) >>= later_of image how s
-
-abbrev pub StartedAs : List ℕ → Told → Start → Outcome → List ℕ → List ℕ → Type 0
-StartedAs image told s o before after = (how : Choices) → StandsFor told how → Came (behind_start image how s) o before after
-
--- ---- behind stages 1 and 2
-
-pub record ReadFits (image : List ℕ) (c : ℕ) (s : Start) (words : List ℕ) : Type 0 where
+pub record ReadFits (image : List ℕ) (c : ℕ) (s : Std.Option Start) (kept : List Now) : Type 0 where
   pub count : c ≡ (counts image).c
   pub text : TextFits image (tree_in image) (scanned_base image) s
   pub is : starting_value 0 (source (tree_of image)) ≡ ok (init_of image s)
   pub cc : List (List (Placed Component))
   pub read : two_stages (tree_of image) ≡ ok cc
-  pub kept : KeptFrom image words 0 (joined cc)
-  pub long : 11 * (counts image).n ≤ length words
+  pub are : KeptFrom image kept 0 (joined cc)
+  pub long : (counts image).n ≤ length kept
 
-abbrev pub ReadAs : List ℕ → Told → ℕ → Start → List ℕ → Outcome → List ℕ → List ℕ → Type 0
-ReadAs image told c s words o before after =
+abbrev pub ReadAs : List ℕ → Told → Std.Option Start → List Now → Std.Result ℕ Refusal → List ℕ → List ℕ → Type 0
+ReadAs image told s kept o before after =
     (how : Choices) → StandsFor told how → (cc : List (List (Placed Component))) → two_stages (tree_of image) ≡ ok cc → Came (later_of image how s cc) o before after
 
 -- ---- behind stage 3
 
-pub record JudgedFits (image : List ℕ) (c : ℕ) (s : Start) (heads words : List ℕ) : Type 0 where
-  pub read : ReadFits image c s words
+pub record JudgedFits (image : List ℕ) (s : Std.Option Start) (heads : List Head) (kept : List Now) : Type 0 where
+  pub c : ℕ
+  pub read : ReadFits image c s kept
   pub ds : List Concatenation
   pub checked : stage3 0 read.cc ≡ ok ds
-  pub heads_are : HeadsAre heads ds
-  pub heads_long : 2 * c ≤ length heads
+  pub are : HeadsAre image kept heads ds
 
-abbrev pub JudgedAs : List ℕ → Told → ℕ → Start → List ℕ → List ℕ → Outcome → List ℕ → List ℕ → Type 0
-JudgedAs image told c s heads words o before after =
+abbrev pub JudgedAs : List ℕ → Told → Std.Option Start → List Head → List Now → Std.Result ℕ Refusal → List ℕ → List ℕ → Type 0
+JudgedAs image told s heads kept o before after =
     (how : Choices) → StandsFor told how → (cc : List (List (Placed Component))) (ds : List Concatenation) → two_stages (tree_of image) ≡ ok cc → stage3 0 cc ≡ ok ds
     → Came (later_of image how s cc) o before after

@@ -7,17 +7,14 @@ ghost use Rattle.stages.specs.answer.merging.Literals.{AppendIs};
 pub(crate) fn bytes_for(bits: usize) -> usize
     ensures { (result ≡ bytes_for bits) × (result ≤ bits) }
 {
-    bits / 8 + (bits % 8 + 7) / 8
+    bits.div_ceil(8)
 }
 
 // Whether sums of these stay far within 64 bits.
 fn near(k: usize, n: usize) -> bool
     ensures { result ≡ (nat_lt k (2 ^ 36) && nat_lt n (2 ^ 36)) }
 {
-    if 0x10_0000_0000 <= k {
-        return false;
-    }
-    n < 0x10_0000_0000
+    (k < 0x10_0000_0000) & (n < 0x10_0000_0000)
 }
 
 // Whether the k bits, the place `from` and the n bits are whole bytes, and lie within an area and a slice so long.
@@ -37,11 +34,7 @@ fn copy_bytes(area: &mut [u8], at: usize, s: &[u8], from: usize, n: usize)
     requires { (at + n ≤ length area.old) × (from + n ≤ length s.now) }
     ensures { area.new ≡ sets area.old at (take n (drop from s.now)) }
 {
-    let mut i = 0;
-    while i < n {
-        area[at + i] = s[from + i];
-        i += 1;
-    }
+    area[at..at + n].copy_from_slice(&s[from..from + n]);
 }
 
 // n bits of s behind the k bits that stand packed at the area's front: whole bytes are copied, and otherwise the bytes that come new are

@@ -1,41 +1,53 @@
-// The 72 bytes of a component, from its kept words.
+// The 72 bytes of a component.
 ghost use Rattle.std.specs.Prelude.{◌≡◌, ◌+◌, ◌≤◌, ◌++◌, length};
 ghost use Rattle.std.proofs.lemmas.List.Edits.{sets};
-ghost use Rattle.stages.specs.answer.Blocks.{word_bytes, usb_block, range_block, head_block, literal_block, plain_block, open_block, fixed_block};
+ghost use Rattle.stages.specs.answer.Blocks.{word_bytes, text_block, usb_block, range_block, head_block, literal_block, plain_block, open_block, fixed_block};
 
 use super::area::{put_u32, put_u64};
+use crate::component::{Component, ComponentType};
+use crate::ranges::{Usb, Usbr};
+use crate::token_tree::{Part, no_text};
 
-// A bound's three words from word w on: 24 bytes.
-fn put_usb(area: &mut [u8], at: usize, words: &[u64], w: usize)
-    requires { (w + 3 ≤ length words.now) × (at + 24 ≤ length area.old) }
-    ensures { area.new ≡ sets area.old at (usb_block words.now w) }
+// A text's start and length: 8 bytes.
+pub(crate) fn put_text(area: &mut [u8], at: usize, s: Part)
+    requires { at + 8 ≤ length area.old }
+    ensures { area.new ≡ sets area.old at (text_block s) }
 {
-    put_u64(area, at, words[w]);
-    put_u64(area, at + 8, words[w + 1]);
-    put_u64(area, at + 16, words[w + 2]);
+    put_u32(area, at, s.at.0);
+    put_u32(area, at + 4, s.len);
 }
 
-// Start and end.
-fn put_range(area: &mut [u8], at: usize, words: &[u64], w: usize)
-    requires { (w + 6 ≤ length words.now) × (at + 48 ≤ length area.old) }
-    ensures { area.new ≡ sets area.old at (range_block words.now w) }
-{
-    put_usb(area, at, words, w);
-    put_usb(area, at + 24, words, w + 3);
-}
-
-// The first 24 bytes of a variable or a filler.
-fn put_type(area: &mut [u8], at: usize, flags: u64, content: u64)
+// A bound: 24 bytes.
+fn put_usb(area: &mut [u8], at: usize, u: Usb)
     requires { at + 24 ≤ length area.old }
-    ensures { area.new ≡ sets area.old at (head_block flags content) }
+    ensures { area.new ≡ sets area.old at (usb_block u) }
 {
-    put_u32(area, at, (flags % 4) as u32);
-    put_u64(area, at + 4, content);
-    put_u64(area, at + 12, 0);
-    put_u32(area, at + 20, (flags / 4 % 2) as u32);
+    put_text(area, at, u.s);
+    put_u64(area, at + 8, u.x.low);
+    put_u64(area, at + 16, u.x.high);
 }
 
-// The first 24 bytes of a literal; `present` is 1 where it has an end.
+// Start and end, zeros where there is none.
+fn put_range(area: &mut [u8], at: usize, r: Usbr)
+    requires { at + 48 ≤ length area.old }
+    ensures { area.new ≡ sets area.old at (range_block r) }
+{
+    put_usb(area, at, r.start);
+    put_usb(area, at + 24, r.end.unwrap_or(Usb::zero()));
+}
+
+// The first 24 bytes of a variable or a filler; `present` is 1 where it has an end.
+fn put_type(area: &mut [u8], at: usize, kind: u32, s: Part, present: u32)
+    requires { at + 24 ≤ length area.old }
+    ensures { area.new ≡ sets area.old at (head_block kind s present) }
+{
+    put_u32(area, at, kind);
+    put_text(area, at + 4, s);
+    put_u64(area, at + 12, 0);
+    put_u32(area, at + 20, present);
+}
+
+// The first 24 bytes of a literal.
 fn put_literal(area: &mut [u8], at: usize, bits: u32, offset: u32, present: u32)
     requires { at + 24 ≤ length area.old }
     ensures { area.new ≡ sets area.old at (literal_block bits offset present) }
@@ -47,22 +59,26 @@ fn put_literal(area: &mut [u8], at: usize, bits: u32, offset: u32, present: u32)
     put_u32(area, at + 20, present);
 }
 
-// A variable or a filler, whose words are from word w on.
-pub(crate) fn put_plain(area: &mut [u8], at: usize, words: &[u64], w: usize)
-    requires { (w + 11 ≤ length words.now) × (at + 72 ≤ length area.old) }
-    ensures { area.new ≡ sets area.old at (plain_block words.now w) }
+// A variable or a filler.
+pub(crate) fn put_plain(area: &mut [u8], at: usize, c: Component)
+    requires { at + 72 ≤ length area.old }
+    ensures { area.new ≡ sets area.old at (plain_block c) }
 {
-    put_type(area, at, words[w], words[w + 1]);
-    put_range(area, at + 24, words, w + 4);
+    let (kind, s) = match c.c_type {
+        ComponentType::Variable(s) => (2, s),
+        ComponentType::Literal(_) | ComponentType::Filler => (3, no_text()),
+    };
+    put_type(area, at, kind, s, c.range.end.is_some() as u32);
+    put_range(area, at + 24, c.range);
 }
 
 // A literal that is not static.
-pub(crate) fn put_open(area: &mut [u8], at: usize, words: &[u64], w: usize, bits: u32, offset: u32)
-    requires { (w + 11 ≤ length words.now) × (at + 72 ≤ length area.old) }
-    ensures { area.new ≡ sets area.old at (open_block words.now w bits offset) }
+pub(crate) fn put_open(area: &mut [u8], at: usize, r: Usbr, bits: u32, offset: u32)
+    requires { at + 72 ≤ length area.old }
+    ensures { area.new ≡ sets area.old at (open_block r bits offset) }
 {
-    put_literal(area, at, bits, offset, (words[w] / 4 % 2) as u32);
-    put_range(area, at + 24, words, w + 4);
+    put_literal(area, at, bits, offset, r.end.is_some() as u32);
+    put_range(area, at + 24, r);
 }
 
 // Three zero words but for the second.

@@ -8,7 +8,6 @@ ghost use Rattle.stages.specs.answer.literal_bits.Places.{window};
 
 use crate::answer::byte_bits::{byte_of, pair};
 use image::token_tree::byte_at;
-use numbers::least;
 
 // The bits from a place on, eight of them or more.
 fn bits_at(s: &[u8], from: usize) -> u16
@@ -43,7 +42,7 @@ fn put_in(dst: &mut [u8], at: usize, src: &[u8], from: usize, n: usize) -> usize
 {
     let q = at / 8;
     let lo = at % 8;
-    let w = least(n, 8 - lo);
+    let w = n.min(8 - lo);
     dst[q] = blend(dst[q], bits_at(src, from), lo, w);
     w
 }
@@ -54,10 +53,8 @@ fn put_whole(dst: &mut [u8], q: usize, src: &[u8], from: usize, m: usize)
     ensures { dst.new ≡ with_bits dst.old (8 * q) src.now from (8 * m) }
 {
     let k = from / 8;
-    let mut i = 0;
-    while i < m {
+    for i in 0..m {
         dst[q + i] = byte_of(src[k + i], src[k + i + 1], from);
-        i += 1;
     }
 }
 
@@ -72,7 +69,7 @@ fn whole(at: usize, n: usize, room: usize, from: usize, len: usize) -> usize
     if len <= k {
         return 0;
     }
-    least(least(n / 8, room), len - 1 - k)
+    (n / 8).min(room).min(len - 1 - k)
 }
 
 // The first of n bits, a byte's or those of all whole bytes: how many.
@@ -114,10 +111,6 @@ pub(crate) fn zero_bytes(dst: &mut [u8], at: usize, n: usize)
     if dst.len() <= at {
         return;
     }
-    let m = least(n, dst.len() - at);
-    let mut i = 0;
-    while i < m {
-        dst[at + i] = 0;
-        i += 1;
-    }
+    let m = n.min(dst.len() - at);
+    dst[at..at + m].fill(0);
 }

@@ -1,19 +1,20 @@
 // Merged components, one kept component after the other: the bits of a run of static literals are written as they come, its block when
 // it ends. "Every maximal run of literals with static ranges becomes one literal from 0 to its width, the sum of the run's widths, the
 // lowest component's bits lowest."
-ghost use Rattle.std.specs.Prelude.{◌≡◌, ℕ, ◌+◌, ◌*◌, ◌/◌, ◌%◌, ◌^◌, ◌<◌, ◌≤◌, false, List, ◌∷◌, length, slice_index};
+ghost use Rattle.std.specs.Prelude.{◌≡◌, ℕ, ◌+◌, ◌/◌, ◌^◌, ◌<◌, ◌≤◌, false, List, ◌∷◌, length};
 ghost use Rattle.definition.specs.Image.{Placed};
-ghost use Rattle.definition.specs.Component.{Component};
+ghost use Rattle.definition.specs.Component as Def;
 ghost use Rattle.definition.specs.Concatenation.{is_static_literal, merge};
 ghost use Rattle.answer_facts.specs.fits.Fixed.{Fixed, AllFixed};
-ghost use Rattle.stages.specs.component.Kept.{KeptFrom};
-ghost use Rattle.stages.specs.concatenation.Check.{Lies};
+ghost use Rattle.stages.specs.ranges.Values.{Tree as TreeIn};
+ghost use Rattle.stages.specs.component.Values.{BitsFit};
+ghost use Rattle.stages.specs.component.Kept.{Is, Are};
 ghost use Rattle.stages.specs.answer.merging.Put.{Room, PutIs};
-ghost use Rattle.stages.specs.answer.merging.State.{IsAt, LongerIs, CloseIs, OtherIs, StepIs, Writable, Closable, behind_by};
+ghost use Rattle.stages.specs.answer.merging.State.{LongerIs, CloseIs, OtherIs, StepIs, Writable, Closable, closed_at, behind_by};
 
 use super::bits::{append_bits, bytes_for};
 use super::blocks::{put_fixed, put_open, put_plain};
-use crate::concatenation::Concatenation;
+use crate::component::{Bits, Component, ComponentType};
 
 // Where the next component's block stands, where the literal block begins, and how many of its bytes are written.
 #[derive(Clone, Copy)]
@@ -23,146 +24,108 @@ pub struct Writing {
     pub offset: usize,
 }
 
-// Where to write, whether a run of static literals is open, and how many bits it has.
+// Where to write, and how many bits the open run of static literals has, if one is open.
 #[derive(Clone, Copy)]
 pub struct Merging {
     pub w: Writing,
-    pub running: bool,
-    pub bits: usize,
+    pub run: Option<usize>,
 }
 
-// The place behind a block whose literal has so many bits.
-fn behind(w: Writing, bits: usize) -> Merging
-    ensures { w.at + 72 < 2 ^ 64 → w.offset + (bits + 7) / 8 < 2 ^ 64 → result ≡ behind_by w bits }
-{
-    Merging {
-        w: Writing {
-            at: std::num::wrapping_add_usize(w.at, limits::COMPONENT_SIZE),
-            literals: w.literals,
-            offset: std::num::wrapping_add_usize(w.offset, bytes_for(bits)),
-        },
-        running: false,
-        bits: 0,
+impl Writing {
+    // The place behind a block whose literal has so many bits.
+    fn behind(self, bits: usize) -> Writing
+        ensures { self.at + 72 < 2 ^ 64 → self.offset + (bits + 7) / 8 < 2 ^ 64 → result ≡ behind_by self bits }
+    {
+        Writing {
+            at: self.at.wrapping_add(limits::COMPONENT_SIZE),
+            literals: self.literals,
+            offset: self.offset.wrapping_add(bytes_for(bits)),
+        }
     }
 }
 
-// The bits of a literal, from and to in one word, are the last of the run.
-fn lengthen(area: &mut [u8], image: &[u8], bits: u64, literal: u64, s: Merging) -> Merging
-    requires { (literal ≤ length image.now) × (bits % 2 ^ 32 ≤ bits / 2 ^ 32) }
-    ensures { LongerIs image.now literal (bits % 2 ^ 32) (bits / 2 ^ 32) s result area.old area.new }
+// The bits of a literal are the last of the run: how many it has then.
+fn lengthen(area: &mut [u8], image: &[u8], b: Bits, s: Merging) -> Merging
+    requires { BitsFit image.now b }
+    ensures { LongerIs image.now b s result area.old area.new }
 {
-    let from = (bits % 0x1_0000_0000) as usize;
-    let to = (bits / 0x1_0000_0000) as usize;
-    let k = literal as usize;
-    let t = &image[k..];
-    let w = s.w;
-    let n = to - from;
-    let at = std::num::wrapping_add_usize(w.literals, w.offset);
-    append_bits(area, at, s.bits, t, from, n);
+    let had = s.run.unwrap_or(0);
+    let n = (b.to - b.from) as usize;
+    let at = s.w.literals.wrapping_add(s.w.offset);
+    append_bits(area, at, had, &image[b.at as usize..], b.from as usize, n);
     Merging {
-        w,
-        running: true,
-        bits: std::num::wrapping_add_usize(s.bits, n),
+        w: s.w,
+        run: Some(had.wrapping_add(n)),
     }
 }
 
 // The open run becomes one literal.
-fn close(area: &mut [u8], s: Merging) -> Merging
-    requires { (ms : List (Placed Component)) × Closable area.old s ms }
+fn close(area: &mut [u8], s: Merging) -> Writing
+    requires { (ms : List (Placed Def.Component)) × Closable area.old s ms }
     ensures { CloseIs s result area.old area.new }
 {
-    if !s.running {
-        return s;
-    }
-    let w = s.w;
+    let Some(bits) = s.run else {
+        return s.w;
+    };
     put_fixed(
         area,
-        w.at,
-        (s.bits % 0x1_0000_0000) as u32,
-        (w.offset % 0x1_0000_0000) as u32,
+        s.w.at,
+        (bits % 0x1_0000_0000) as u32,
+        (s.w.offset % 0x1_0000_0000) as u32,
     );
-    behind(w, s.bits)
+    s.w.behind(bits)
 }
 
-// Component k, a literal that is not static: its bits are a run of its own. No run is open.
-fn put_open_literal(area: &mut [u8], image: &[u8], words: &[u64], k: usize, s: Merging) -> Merging
-    requires { (d : Placed Component) × (ms : List (Placed Component)) × IsAt image.now words.now k d × Fixed d × Closable area.old s (d ∷ ms)
-        × (is_static_literal d.value ≡ false) × (s.running ≡ false) × (slice_index words.now (11 * k) % 4 ≡ 1) }
-    ensures { s.running ≡ false → (d : Placed Component) → IsAt image.now words.now k d → Fixed d
-        → is_static_literal d.value ≡ false → slice_index words.now (11 * k) % 4 ≡ 1 → OtherIs d s result area.old area.new }
+// A component that is no static literal. No run is open.
+fn put_other(area: &mut [u8], image: &[u8], c: Component, w: Writing) -> Writing
+    requires { (t : TreeIn) × (d : Placed Def.Component) × (ms : List (Placed Def.Component)) × Is image.now t c d × Fixed d
+        × Closable area.old (closed_at w) (d ∷ ms) × (is_static_literal d.value ≡ false) }
+    ensures { (t : TreeIn) (d : Placed Def.Component) → Is image.now t c d → Fixed d → is_static_literal d.value ≡ false
+        → OtherIs d w result area.old area.new }
 {
-    let w = 11 * k;
-    let o = lengthen(area, image, words[w + 1], words[w + 10], s);
-    let to = o.w;
+    let ComponentType::Literal(b) = c.c_type else {
+        put_plain(area, w.at, c);
+        return w.behind(0);
+    };
+    // its bits are a run of its own
+    let o = lengthen(area, image, b, Merging { w, run: None });
+    let bits = o.run.unwrap_or(0);
     put_open(
         area,
-        to.at,
-        words,
-        w,
-        (o.bits % 0x1_0000_0000) as u32,
-        (to.offset % 0x1_0000_0000) as u32,
+        w.at,
+        c.range,
+        (bits % 0x1_0000_0000) as u32,
+        (w.offset % 0x1_0000_0000) as u32,
     );
-    behind(to, o.bits)
+    w.behind(bits)
 }
 
-// Component k, that is no static literal, behind a run that is closed.
-fn put_other(area: &mut [u8], image: &[u8], words: &[u64], k: usize, s: Merging) -> Merging
-    requires { (d : Placed Component) × (ms : List (Placed Component)) × IsAt image.now words.now k d × Fixed d × Closable area.old s (d ∷ ms)
-        × (is_static_literal d.value ≡ false) }
-    ensures { (d : Placed Component) → IsAt image.now words.now k d → Fixed d
-        → is_static_literal d.value ≡ false → OtherIs d s result area.old area.new }
+// One component.
+fn put(area: &mut [u8], image: &[u8], c: Component, s: Merging) -> Merging
+    requires { (t : TreeIn) × (d : Placed Def.Component) × (cs : List (Placed Def.Component)) × Is image.now t c d × Fixed d
+        × Writable area.old s (d ∷ cs) }
+    ensures { (t : TreeIn) (d : Placed Def.Component) → Is image.now t c d → Fixed d → StepIs d s result area.old area.new }
 {
-    let w = 11 * k;
-    let flags = words[w];
-    let c = close(area, s);
-    if flags % 4 == 1 {
-        return put_open_literal(area, image, words, k, c);
-    }
-    let to = c.w;
-    put_plain(area, to.at, words, w);
-    behind(to, 0)
-}
-
-// Component k.
-fn put(area: &mut [u8], image: &[u8], words: &[u64], k: usize, s: Merging) -> Merging
-    requires { (d : Placed Component) × (cs : List (Placed Component)) × IsAt image.now words.now k d × Fixed d × Writable area.old s (d ∷ cs) }
-    ensures { (d : Placed Component) → IsAt image.now words.now k d → Fixed d
-        → StepIs d s result area.old area.new }
-{
-    let w = 11 * k;
-    let flags = words[w];
-    let literal = flags / 32 % 2 == 1;
-    if literal {
-        return lengthen(area, image, words[w + 1], words[w + 10], s);
-    }
-    put_other(area, image, words, k, s)
-}
-
-impl Concatenation {
-    // Stage 5: neighbouring static literals become one, as they are written.
-    pub(crate) fn simplify(
-        self,
-        area: &mut [u8],
-        image: &[u8],
-        words: &[u64],
-        w: Writing,
-    ) -> Writing
-        requires { Lies self (length words.now) × ((cs : List (Placed Component)) × (length cs ≡ self.len)
-            × KeptFrom image.now words.now self.first.0 cs × AllFixed cs × Room area.old w (merge cs)) }
-        ensures { PutIs image.now words.now self.first.0 self.len w result area.old area.new }
+    if let ComponentType::Literal(b) = c.c_type
+        && c.is_static_literal()
     {
-        let k = self.first;
-        let mut s = Merging {
-            w,
-            running: false,
-            bits: 0,
-        };
-        let mut j = 0;
-        while j < self.len {
-            s = put(area, image, words, (k.0 + j) as usize, s);
-            j += 1;
-        }
-        let r = close(area, s);
-        r.w
+        return lengthen(area, image, b, s);
     }
+    let w = close(area, s);
+    Merging {
+        w: put_other(area, image, c, w),
+        run: None,
+    }
+}
+
+// Stage 5 of a concatenation's components: neighbouring static literals become one, as they are written.
+pub(crate) fn simplify(area: &mut [u8], image: &[u8], comps: &[Component], w: Writing) -> Writing
+    requires { (t : TreeIn) × (cs : List (Placed Def.Component)) × Are image.now t comps.now cs × AllFixed cs × Room area.old w (merge cs) }
+    ensures { PutIs image.now comps.now w result area.old area.new }
+{
+    let mut s = Merging { w, run: None };
+    for c in comps {
+        s = put(area, image, *c, s);
+    }
+    close(area, s)
 }

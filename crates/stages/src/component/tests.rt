@@ -1,71 +1,59 @@
-// Tests of a component that later stages make; each is kept as a flag of its own type.
+// Tests of a component that later stages make.
 ghost use Rattle.std.specs.Prelude.{◌≡◌, ℕ, List};
-ghost use Rattle.definition.specs.Concatenation.{is_static_literal, has_full_range};
+ghost use Rattle.definition.specs.Concatenation.{is_static_literal, has_full_range, is_unbounded_filler};
+ghost use Rattle.definition.specs.Overall.{is_filler};
 ghost use Rattle.stages.specs.ranges.Values.{Tree as TreeIn};
 ghost use Rattle.stages.specs.component.Values.{component_of, Ordered};
-ghost use Rattle.stages.specs.component.Tests.{is_range, is_there, EndsAt, EndPositive};
+ghost use Rattle.stages.specs.component.Tests.{EndsAt, EndPositive};
 
 use super::types::{Component, ComponentType};
-use crate::ranges::{OptionRange, OptionUsb};
-
-fn is_range(r: OptionRange) -> bool
-    ensures { result ≡ is_range r }
-{
-    match r {
-        OptionRange::Some(_, _) => true,
-        OptionRange::None => false,
-    }
-}
-
-pub(crate) fn has_end(end: OptionUsb) -> bool
-    ensures { result ≡ is_there «end» }
-{
-    match end {
-        OptionUsb::Some(_) => true,
-        OptionUsb::None => false,
-    }
-}
+use crate::ranges::Usb;
 
 // No end, or one at w.
-fn ends_at(end: OptionUsb, w: u32) -> bool
+fn ends_at(end: Option<Usb>, w: u32) -> bool
     ensures { EndsAt «end» w result }
 {
     match end {
-        OptionUsb::Some(u) => u.s.len == 0 && u.x.high == 0 && u.x.low == w as u64,
-        OptionUsb::None => true,
+        Some(u) => u.s.len == 0 && u.x.high == 0 && u.x.low == w as u64,
+        None => true,
     }
 }
 
 impl Component {
     pub(crate) fn is_static_literal(self) -> bool
-        ensures { (image : List ℕ) (t : TreeIn) (base at : ℕ) → result ≡ is_static_literal (component_of image t base at self) }
+        ensures { (image : List ℕ) (t : TreeIn) (base : ℕ) → result ≡ is_static_literal (component_of image t base self) }
     {
-        let c_type = self.c_type;
-        let range = self.range;
-        match c_type {
-            ComponentType::Literal(_) => is_range(range.static_range()),
-            ComponentType::Variable(_) => false,
-            ComponentType::Filler => false,
+        match self.c_type {
+            ComponentType::Literal(_) => self.range.static_range().is_some(),
+            ComponentType::Variable(_) | ComponentType::Filler => false,
         }
+    }
+
+    pub(crate) fn is_filler(self) -> bool
+        ensures { (image : List ℕ) (t : TreeIn) (base : ℕ) → result ≡ is_filler (component_of image t base self) }
+    {
+        matches!(self.c_type, ComponentType::Filler)
+    }
+
+    pub(crate) fn is_unbounded_filler(self) -> bool
+        ensures { (image : List ℕ) (t : TreeIn) (base : ℕ) → result ≡ is_unbounded_filler (component_of image t base self) }
+    {
+        self.is_filler() & self.range.end.is_none()
     }
 
     // "Unbounded fillers return false". Of an end that is no number below 0.
     pub(crate) fn has_full_range(self) -> bool
         requires { Ordered self.c_type }
-        ensures { (image : List ℕ) (t : TreeIn) (base at : ℕ) → EndPositive image t base self
-            → result ≡ has_full_range (component_of image t base at self) }
+        ensures { (image : List ℕ) (t : TreeIn) (base : ℕ) → EndPositive image t base self
+            → result ≡ has_full_range (component_of image t base self) }
     {
-        let c_type = self.c_type;
-        let range = self.range;
-        let start = range.start;
-        let end = range.end;
-        if !start.is_guaranteed_zero() {
+        if !self.range.start.is_guaranteed_zero() {
             return false;
         }
-        match c_type {
-            ComponentType::Literal(b) => ends_at(end, b.to - b.from),
-            ComponentType::Variable(_) => !has_end(end),
-            ComponentType::Filler => has_end(end),
+        match self.c_type {
+            ComponentType::Literal(b) => ends_at(self.range.end, b.to - b.from),
+            ComponentType::Variable(_) => self.range.end.is_none(),
+            ComponentType::Filler => self.range.end.is_some(),
         }
     }
 }

@@ -1,11 +1,12 @@
 // A component as a value.
-use crate::ranges::Usbr;
-use crate::token_tree::Part;
-use numbers::OptionI128;
+use crate::ranges::{Usb, Usbr};
+use crate::token_tree::{PText, Part};
+use numbers::I128;
 
-// Bits from .. to of the component's literal.
+// Bits from .. to of the literal that stands at byte `at` of the image.
 #[derive(Clone, Copy)]
 pub struct Bits {
+    pub at: u32,
     pub from: u32,
     pub to: u32,
 }
@@ -22,12 +23,26 @@ pub enum ComponentType {
 pub struct Component {
     pub c_type: ComponentType,
     pub range: Usbr,
-    pub width: OptionI128,
+    pub width: Option<I128>,
 }
 
-// Result<Component, _>: a refusal by its number.
-#[derive(Clone, Copy)]
-pub enum ComponentResult {
-    Ok(Component),
-    Refused(u32),
+impl Component {
+    // What stands in a place that keeps none yet.
+    pub const NONE: Component = Component {
+        c_type: ComponentType::Filler,
+        range: Usbr {
+            start: Usb {
+                s: Part {
+                    at: PText(0),
+                    len: 0,
+                },
+                x: I128::ZERO,
+            },
+            end: None,
+        },
+        width: None,
+    };
 }
+
+// A run keeps up to 256 of them on its stack.
+const _: () = prove!(size_of::<Component>() == 96);

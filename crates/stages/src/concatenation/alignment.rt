@@ -2,4 +2,4 @@
 mod align;
 
 pub use align::FillerAlign;
-pub(crate) use align::{align_number, filler_align, is_align, is_opposite, join_align};
+pub(crate) use align::{align_number, filler_align, is_opposite, join_align};

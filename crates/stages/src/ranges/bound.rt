@@ -7,40 +7,49 @@ ghost use Rattle.stages.specs.ranges.Values.{UsbReads};
 
 use super::sides::sides;
 use super::signs::cut_in;
-use super::types::{Usb, UsbResult};
+use super::types::Usb;
 use crate::token_tree::{PBind, PText, Tree, part_of, record, single, start_of};
+use errors::Reason;
 
 // What stands in a `(` group, its text from s to `end`.
-fn group(image: &[u8], tree: Tree, r: PBind, stop: PBind, s: PText, end: PText) -> UsbResult
-    requires { (1 ≤ r.0) × Runs image.now tree stop.0 «end».0 r.0 s.0 }
+fn group(
+    image: &[u8],
+    tree: Tree,
+    r: PBind,
+    stop: PBind,
+    s: PText,
+    end: PText,
+) -> Result<Usb, Reason>
+    requires { Runs image.now tree stop.0 «end».0 r.0 s.0 }
     ensures { (base : ℕ) (is : List Item) → base ≤ s.0 → Laid image.now tree base stop.0 «end».0 r.0 s.0 is
         → UsbReads image.now tree base result (read_bound is) }
 {
-    let c = cut_in(image, tree, r, stop, end);
-    if c.0 == 0 {
-        return UsbResult::Ok(Usb::new_s(part_of(s, end)));
+    match cut_in(image, tree, r, stop, end) {
+        Some(sign) => sides(image, tree, start_of(image, tree, sign), s, end),
+        None => Ok(Usb::new_s(part_of(s, end))),
     }
-    sides(image, tree, start_of(image, tree, c), s, end)
 }
 
 // A lone token, its text from s to `end`. A sign alone is 0.
-fn token(image: &[u8], tree: Tree, s: PText, end: PText) -> UsbResult
+fn token(image: &[u8], tree: Tree, s: PText, end: PText) -> Usb
     requires { (s.0 < «end».0) × (tree.text + «end».0 ≤ length image.now) }
     ensures { (base stop r : ℕ) (i : Item) → Laid image.now tree base stop «end».0 r s.0 (i ∷ [])
-        → UsbReads image.now tree base result (read_bound (i ∷ [])) }
+        → UsbReads image.now tree base (Ok result) (read_bound (i ∷ [])) }
 {
-    let b = single(image, tree, s, end);
-    if b == b'+' {
-        return UsbResult::Ok(Usb::zero());
+    match single(image, tree, s, end) {
+        b'+' | b'-' => Usb::zero(),
+        _ => Usb::new_s(part_of(s, end)),
     }
-    if b == b'-' {
-        return UsbResult::Ok(Usb::zero());
-    }
-    UsbResult::Ok(Usb::new_s(part_of(s, end)))
 }
 
-// One item or more: 15, 16.
-pub(crate) fn parse_usb(image: &[u8], tree: Tree, r: PBind, stop: PBind, end: PText) -> UsbResult
+// One item or more: 15, 16. A record's kind is the image's number: 0 a word, 2 a `(` group.
+pub(crate) fn parse_usb(
+    image: &[u8],
+    tree: Tree,
+    r: PBind,
+    stop: PBind,
+    end: PText,
+) -> Result<Usb, Reason>
     requires { (r.0 < stop.0) × ((s : ℕ) × Runs image.now tree stop.0 «end».0 r.0 s) }
     ensures { (base s : ℕ) (is : List Item) → Laid image.now tree base stop.0 «end».0 r.0 s is
         → UsbReads image.now tree base result (parse_usb is) }
@@ -48,20 +57,18 @@ pub(crate) fn parse_usb(image: &[u8], tree: Tree, r: PBind, stop: PBind, end: PT
     let e = record(image, tree, r);
     let s = e.start;
     if r.0 + e.skip != stop.0 {
-        return UsbResult::Refused(15);
+        return Err(Reason::NotOneToken);
     }
-    if e.kind == 0 {
-        return token(image, tree, s, end);
+    match e.kind {
+        0 => Ok(token(image, tree, s, end)),
+        2 => group(
+            image,
+            tree,
+            PBind(r.0 + 1),
+            PBind(stop.0 - 1),
+            PText(s.0 + 1),
+            PText(end.0 - 1),
+        ),
+        _ => Err(Reason::NotOneToken),
     }
-    if e.kind != 2 {
-        return UsbResult::Refused(15);
-    }
-    group(
-        image,
-        tree,
-        PBind(r.0 + 1),
-        PBind(stop.0 - 1),
-        PText(s.0 + 1),
-        PText(end.0 - 1),
-    )
 }

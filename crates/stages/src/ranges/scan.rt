@@ -1,96 +1,74 @@
 // The scan for `..` and `..=` at the top level of a range: "each character a token; a `..` counts when the next token is no dot".
 ghost use Rattle.std.specs.Prelude.{◌≡◌, ℕ, ◌≤◌, List};
 ghost use Rattle.definition.specs.Text.{Item};
+ghost use Rattle.errors.specs.Refused.{reasoned};
 ghost use Rattle.stages.specs.token_tree.Laid.{Laid, Runs};
-ghost use Rattle.stages.specs.ranges.Dots.{refused_dots, found_by, dotted_by, undotted_by, scanned_by, ended_by, dots_in};
+ghost use Rattle.stages.specs.ranges.Dots.{found_by, dotted_by, undotted_by, scanned_by, ended_by, dots_in};
 
 use crate::token_tree::{PBind, PText, Tree, behind, single, start_or};
+use errors::Reason;
 
-// The scan's state: the dots that stand before, the first of them; the dots found, from record lo up to hi; or the number of a refusal.
+// Where a range is cut: the dots are the records from lo up to hi.
+#[derive(Clone, Copy)]
+pub struct Cut {
+    pub lo: PBind,
+    pub hi: PBind,
+    pub inclusive: bool,
+}
+
+// The scan's state: how many dots stand just before, the first of them, and the dots that were found.
 #[derive(Clone, Copy)]
 pub struct Dots {
     pub dots: u32,
     pub first: PBind,
-    pub found: bool,
-    pub lo: PBind,
-    pub hi: PBind,
-    pub inclusive: bool,
-    pub number: u32,
-}
-
-fn refuse(number: u32) -> Dots
-    ensures { result ≡ refused_dots number }
-{
-    Dots {
-        dots: 0,
-        first: PBind(0),
-        found: false,
-        lo: PBind(0),
-        hi: PBind(0),
-        inclusive: false,
-        number,
-    }
+    pub cut: Option<Cut>,
 }
 
 // 13: a second `..`.
-fn found(d: Dots, hi: PBind, inclusive: bool) -> Dots
+fn found(d: Dots, hi: PBind, inclusive: bool) -> Result<Dots, Reason>
     ensures { result ≡ found_by d hi.0 inclusive }
 {
-    let lo = d.first;
-    if d.found {
-        return refuse(13);
+    if d.cut.is_some() {
+        return Err(Reason::SecondDots);
     }
-    Dots {
+    Ok(Dots {
         dots: 0,
         first: PBind(0),
-        found: true,
-        lo,
-        hi,
-        inclusive,
-        number: 0,
-    }
+        cut: Some(Cut {
+            lo: d.first,
+            hi,
+            inclusive,
+        }),
+    })
 }
 
 // One more dot at record r: 14 for a third.
-fn dotted(d: Dots, r: PBind) -> Dots
+fn dotted(d: Dots, r: PBind) -> Result<Dots, Reason>
     requires { d.dots ≤ 2 }
     ensures { result ≡ dotted_by d r.0 }
 {
-    let first = d.first;
-    let lo = d.lo;
-    let hi = d.hi;
     if d.dots == 2 {
-        return refuse(14);
+        return Err(Reason::ThreeDots);
     }
-    Dots {
+    Ok(Dots {
         dots: d.dots + 1,
-        first: if d.dots == 0 { r } else { first },
-        found: d.found,
-        lo,
-        hi,
-        inclusive: d.inclusive,
-        number: 0,
-    }
+        first: if d.dots == 0 { r } else { d.first },
+        cut: d.cut,
+    })
 }
 
 fn undotted(d: Dots) -> Dots
     ensures { result ≡ undotted_by d }
 {
-    let lo = d.lo;
-    let hi = d.hi;
     Dots {
         dots: 0,
         first: PBind(0),
-        found: d.found,
-        lo,
-        hi,
-        inclusive: d.inclusive,
-        number: 0,
+        cut: d.cut,
     }
 }
 
 // An item from record r up to `next`: its byte, where it is a token of one.
-fn scanned(d: Dots, r: PBind, next: PBind, b: u8) -> Dots
+fn scanned(d: Dots, r: PBind, next: PBind, b: u8) -> Result<Dots, Reason>
     requires { d.dots ≤ 2 }
     ensures { result ≡ scanned_by d r.0 next.0 b }
 {
@@ -98,7 +76,7 @@ fn scanned(d: Dots, r: PBind, next: PBind, b: u8) -> Dots
         return dotted(d, r);
     }
     if d.dots != 2 {
-        return undotted(d);
+        return Ok(undotted(d));
     }
     if b == b'=' {
         return found(d, next, true);
@@ -106,32 +84,40 @@ fn scanned(d: Dots, r: PBind, next: PBind, b: u8) -> Dots
     found(d, r, false)
 }
 
-fn at_stop(d: Dots, stop: PBind) -> Dots
+fn at_stop(d: Dots, stop: PBind) -> Result<Dots, Reason>
     ensures { result ≡ ended_by d stop.0 }
 {
     if d.dots == 2 {
         return found(d, stop, false);
     }
-    d
+    Ok(d)
 }
 
-pub(crate) fn dots_in(image: &[u8], tree: Tree, r: PBind, stop: PBind, end: PText) -> Dots
+// 13, 14; none without dots.
+pub(crate) fn dots_in(
+    image: &[u8],
+    tree: Tree,
+    r: PBind,
+    stop: PBind,
+    end: PText,
+) -> Result<Option<Cut>, Reason>
     requires { (s : ℕ) × Runs image.now tree stop.0 «end».0 r.0 s }
     ensures { (base s : ℕ) (is : List Item) → Laid image.now tree base stop.0 «end».0 r.0 s is
-        → result ≡ dots_in image.now tree r.0 is }
+        → reasoned result ≡ dots_in image.now tree r.0 is }
 {
-    let mut d = refuse(0);
+    let mut d = Dots {
+        dots: 0,
+        first: PBind(0),
+        cut: None,
+    };
     let mut at = r;
     let mut s = start_or(image, tree, r, stop, end);
-    while at.0 < stop.0 {
+    while at < stop {
         let next = behind(image, tree, at);
         let t = start_or(image, tree, next, stop, end);
-        d = scanned(d, at, next, single(image, tree, s, t));
-        if d.number != 0 {
-            return d;
-        }
+        d = scanned(d, at, next, single(image, tree, s, t))?;
         at = next;
         s = t;
     }
-    at_stop(d, stop)
+    Ok(at_stop(d, stop)?.cut)
 }

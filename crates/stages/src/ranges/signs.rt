@@ -4,70 +4,59 @@ ghost use Rattle.std.specs.Prelude.{◌≡◌, ℕ, ◌^◌, ◌<◌, ◌≤◌,
 ghost use Rattle.definition.specs.Text.{Item};
 ghost use Rattle.definition.specs.Ranges.{cut_bound};
 ghost use Rattle.stages.specs.token_tree.Laid.{Laid, Runs};
-ghost use Rattle.stages.specs.ranges.Signs.{paired_by, signed_by, cut_of, cut_place, signs_in};
+ghost use Rattle.stages.specs.ranges.Signs.{Early, paired_by, signed_by, cut_of, cut_place, signs_in};
 
 use crate::token_tree::{PBind, PText, Tree, behind, single, start_or};
 
-// Records of signs; 0 for none, since a group's opener stands before them.
+// The records of signs: the last plus, the first of the leftmost pair of minuses, the last minus.
 #[derive(Clone, Copy)]
 pub struct Signs {
-    pub plus: PBind,
-    pub pair: PBind,
-    pub minus: PBind,
+    pub plus: Option<PBind>,
+    pub pair: Option<PBind>,
+    pub minus: Option<PBind>,
 }
 
 // The first of the leftmost pair of minuses, with a minus at record r.
-fn paired(pair: PBind, minus: PBind, r: PBind) -> PBind
-    requires { minus.0 < 2 ^ 31 }
-    ensures { result.0 ≡ paired_by pair.0 minus.0 r.0 }
+fn paired(pair: Option<PBind>, minus: Option<PBind>, r: PBind) -> Option<PBind>
+    requires { Early minus }
+    ensures { result ≡ paired_by pair minus r.0 }
 {
-    if pair.0 != 0 {
+    if pair.is_some() {
         return pair;
     }
-    if minus.0 + 1 == r.0 {
-        return minus;
-    }
-    PBind(0)
+    let before = minus?;
+    if before.0 + 1 == r.0 { minus } else { None }
 }
 
 // An item at record r: its byte, where it is a token of one.
 fn signed(g: Signs, r: PBind, b: u8) -> Signs
-    requires { g.minus.0 < 2 ^ 31 }
+    requires { Early g.minus }
     ensures { result ≡ signed_by g r.0 b }
 {
-    let plus = g.plus;
-    let pair = g.pair;
-    let minus = g.minus;
-    if b == b'+' {
-        return Signs {
-            plus: r,
-            pair,
-            minus,
-        };
-    }
-    if b != b'-' {
-        return g;
-    }
-    Signs {
-        plus,
-        pair: paired(pair, minus, r),
-        minus: r,
+    match b {
+        b'+' => Signs { plus: Some(r), ..g },
+        b'-' => Signs {
+            plus: g.plus,
+            pair: paired(g.pair, g.minus, r),
+            minus: Some(r),
+        },
+        _ => g,
     }
 }
 
 fn signs_in(image: &[u8], tree: Tree, r: PBind, stop: PBind, end: PText) -> Signs
-    requires { (1 ≤ r.0) × ((s : ℕ) × Runs image.now tree stop.0 «end».0 r.0 s) }
+    requires { (s : ℕ) × Runs image.now tree stop.0 «end».0 r.0 s }
     ensures { (base s : ℕ) (is : List Item) → Laid image.now tree base stop.0 «end».0 r.0 s is
         → result ≡ signs_in image.now tree r.0 is }
 {
     let mut g = Signs {
-        plus: PBind(0),
-        pair: PBind(0),
-        minus: PBind(0),
+        plus: None,
+        pair: None,
+        minus: None,
     };
     let mut at = r;
     let mut s = start_or(image, tree, r, stop, end);
-    while at.0 < stop.0 {
+    while at < stop {
         let next = behind(image, tree, at);
         let t = start_or(image, tree, next, stop, end);
         g = signed(g, at, single(image, tree, s, t));
@@ -77,26 +66,12 @@ fn signs_in(image: &[u8], tree: Tree, r: PBind, stop: PBind, end: PText) -> Sign
     g
 }
 
-fn cut_of(g: Signs) -> PBind
-    ensures { result.0 ≡ cut_of g }
-{
-    let plus = g.plus;
-    let pair = g.pair;
-    let minus = g.minus;
-    if plus.0 != 0 {
-        return plus;
-    }
-    if pair.0 != 0 {
-        return pair;
-    }
-    minus
-}
-
-// The record of the sign that a bound is cut at, 0 for none.
-pub(crate) fn cut_in(image: &[u8], tree: Tree, r: PBind, stop: PBind, end: PText) -> PBind
-    requires { (1 ≤ r.0) × ((s : ℕ) × Runs image.now tree stop.0 «end».0 r.0 s) }
+// The record of the sign that a bound is cut at.
+pub(crate) fn cut_in(image: &[u8], tree: Tree, r: PBind, stop: PBind, end: PText) -> Option<PBind>
+    requires { (s : ℕ) × Runs image.now tree stop.0 «end».0 r.0 s }
     ensures { (base s : ℕ) (is : List Item) → Laid image.now tree base stop.0 «end».0 r.0 s is
-        → result.0 ≡ cut_place image.now tree r.0 (cut_bound is) }
+        → result ≡ cut_place image.now tree r.0 (cut_bound is) }
 {
-    cut_of(signs_in(image, tree, r, stop, end))
+    let g = signs_in(image, tree, r, stop, end);
+    g.plus.or(g.pair).or(g.minus)
 }

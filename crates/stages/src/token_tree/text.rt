@@ -55,14 +55,7 @@ fn same_bytes(image: &[u8], p: usize, q: usize, n: usize) -> bool
     requires { (p + n ≤ length image.now) × (q + n ≤ length image.now) }
     ensures { result ≡ same_bytes (bytes_at image.now p n) (bytes_at image.now q n) }
 {
-    let mut i = 0;
-    while i < n {
-        if image[p + i] != image[q + i] {
-            return false;
-        }
-        i += 1;
-    }
-    true
+    image[p..p + n] == image[q..q + n]
 }
 
 pub(crate) fn same_text(image: &[u8], tree: Tree, a: Part, b: Part) -> bool

@@ -1,13 +1,13 @@
 // Places of texts and records.
 
 // A text place, a record number and a component number, kept apart as the crate keeps its pointers.
-#[derive(Clone, Copy)]
+#[derive(Clone, Copy, PartialEq, Eq, PartialOrd, Ord)]
 pub struct PText(pub u32);
 
-#[derive(Clone, Copy)]
+#[derive(Clone, Copy, PartialEq, Eq, PartialOrd, Ord)]
 pub struct PBind(pub u32);
 
-#[derive(Clone, Copy)]
+#[derive(Clone, Copy, PartialEq, Eq, PartialOrd, Ord)]
 pub struct PVal(pub u32);
 
 // A part of the text table; an empty one starts at 0.

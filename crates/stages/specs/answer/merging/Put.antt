@@ -9,7 +9,9 @@ use Rattle.definition.specs.Concatenation.{merge}
 use Rattle.definition.specs.Answer.{components_bytes}
 use Rattle.answer_facts.specs.fits.Fixed.{AllFixed}
 use Rattle.answer_facts.specs.fits.Statement.{literals_of}
-use Rattle.stages.specs.component.Kept.{KeptFrom}
+use Rattle.stages.specs.ranges.Values.{Tree}
+use Rattle.stages.specs.component.Kept.{Are}
+use Rattle.stages.specs.declared.component.types.Component.{Component as Now}
 use Rattle.stages.specs.declared.answer.merging.Writing.{Writing}
 
 -- components written from the place w on
@@ -27,7 +29,7 @@ pub record Room (area : List ℕ) (w : Writing) (ms : List (Placed Component)) :
   pub offsets : w.offset + length (literals_of ms) < 2 ^ 29
 
 -- components that are kept, merged: where there is room for them, they stand in the area afterwards, and r is the place after them
-abbrev pub PutIs : List ℕ → List ℕ → ℕ → ℕ → Writing → Writing → List ℕ → List ℕ → Type 0
-PutIs image words k n w r before after =
-    (cs : List (Placed Component)) → length cs ≡ n → KeptFrom image words k cs → AllFixed cs → Room before w (merge cs)
+abbrev pub PutIs : List ℕ → List Now → Writing → Writing → List ℕ → List ℕ → Type 0
+PutIs image comps w r before after =
+    (t : Tree) (cs : List (Placed Component)) → Are image t comps cs → AllFixed cs → Room before w (merge cs)
     → (after ≡ put_all before w (merge cs)) × (r ≡ written_to w (merge cs))

@@ -1,35 +1,40 @@
 -- What the code holds between two components: where the next block stands, and an open run whose bits stand in the literal block.
-use Rattle.std.specs.Prelude.{◌≡◌, ◌<◌, ◌≤◌, ◌+◌, ◌-◌, ◌^◌, ◌∷◌}
+use Rattle.std.specs.Prelude as Std
+use Rattle.std.specs.Prelude.{Some, None, ◌≡◌, ◌<◌, ◌≤◌, ◌+◌, ◌^◌, ◌∷◌}
 use Rattle.std.proofs.lemmas.List.Edits.{sets}
-use Rattle.definition.specs.Prelude.{ℕ, Bool, true, false, none, some, List, [], length, drop}
+use Rattle.definition.specs.Prelude.{ℕ, none, some, List, length}
 use Rattle.definition.specs.Image.{Placed, bytes_for}
 use Rattle.definition.specs.Tree.{packed}
 use Rattle.definition.specs.Component.{Component}
 use Rattle.definition.specs.Concatenation.{bits_of}
 use Rattle.prepared.specs.Bits as Prepared
 use Rattle.answer_facts.specs.merge.Runs.{Run, run_bits, longer, closed, merge_from}
-use Rattle.stages.specs.answer.literal_bits.Put.{bits_from}
+use Rattle.stages.specs.component.Values as Values
 use Rattle.stages.specs.answer.merging.Put.{Room}
 use Rattle.stages.specs.answer.merging.Blocks.{put_one, written_one, Same}
-use Rattle.stages.specs.component.Kept.{KeptFrom}
+use Rattle.stages.specs.declared.component.types.Bits.{Bits}
 use Rattle.stages.specs.declared.answer.merging.Writing.{Writing}
 use Rattle.stages.specs.declared.answer.merging.Merging.{Merging}
 
-abbrev pub is_open_run : Run → Bool
-is_open_run o = elim o [ none ↦ false | some b ↦ true ]
+-- how many bits an open run has
+abbrev pub run_by : Run → Std.Option ℕ
+run_by o = elim o [ none ↦ None | some b ↦ Some (length (run_bits o)) ]
 
 -- `base` is the area without the open run's bits
 pub record Holds (base area : List ℕ) (s : Merging) (o : Run) : Type 0 where
-  pub is_open : s.running ≡ is_open_run o
-  pub count : s.bits ≡ length (run_bits o)
+  pub run_is : s.run ≡ run_by o
   pub are_bits : Prepared.Bits (run_bits o)
   pub written : area ≡ sets base (s.w.literals + s.w.offset) (packed (run_bits o))
 
--- the bits from .. to behind the image's byte `at` are a component's: they are the open run's last
-abbrev pub LongerIs : List ℕ → ℕ → ℕ → ℕ → Merging → Merging → List ℕ → List ℕ → Type 0
-LongerIs image at from to s r before after =
-    (base : List ℕ) (o : Run) (d : Placed Component) → Holds base before s o → Prepared.Bits (bits_of d.value) → to < 2 ^ 32
-    → bits_of d.value ≡ bits_from (drop at image) from (to - from)
+-- no run is open at w
+abbrev pub closed_at : Writing → Merging
+closed_at w = record { w = w; run = None }
+
+-- the image's bits b are a component's: they are the open run's last
+abbrev pub LongerIs : List ℕ → Bits → Merging → Merging → List ℕ → List ℕ → Type 0
+LongerIs image b s r before after =
+    (base : List ℕ) (o : Run) (d : Placed Component) → Holds base before s o → Prepared.Bits (bits_of d.value)
+    → bits_of d.value ≡ Values.bits_of image b
     → s.w.literals + s.w.offset + length (packed (longer o d).value) ≤ length base
     → length (packed (longer o d).value) < 2 ^ 32
     → Holds base after r (some (longer o d)) × (r.w ≡ s.w)
@@ -41,12 +46,12 @@ BlockIs m w r before after =
     → Room base w (m ∷ ms) → (after ≡ put_one base w m) × (r ≡ written_one w m)
 
 -- an open run becomes a literal
-pub record Closes (base : List ℕ) (w : Writing) (os ms : List (Placed Component)) (after : List ℕ) (r : Merging) : Type 0 where
+pub record Closes (base : List ℕ) (w : Writing) (os ms : List (Placed Component)) (after : List ℕ) (r : Writing) : Type 0 where
   pub area : List ℕ
-  pub holds : Holds area after r none
-  pub same : Same base w os area r.w ms
+  pub holds : Holds area after (closed_at r) none
+  pub same : Same base w os area r ms
 
-abbrev pub CloseIs : Merging → Merging → List ℕ → List ℕ → Type 0
+abbrev pub CloseIs : Merging → Writing → List ℕ → List ℕ → Type 0
 CloseIs s r before after =
     (base : List ℕ) (o : Run) (ms : List (Placed Component)) → Holds base before s o → Room base s.w (closed o ms)
     → Closes base s.w (closed o ms) ms after r
@@ -65,11 +70,11 @@ pub record Closable (area : List ℕ) (s : Merging) (ms : List (Placed Component
   pub holds : Holds base area s run
   pub room : Room base s.w (closed run ms)
 
--- a component that is no static literal
-abbrev pub OtherIs : Placed Component → Merging → Merging → List ℕ → List ℕ → Type 0
-OtherIs d s r before after =
-    (base : List ℕ) (o : Run) (ms : List (Placed Component)) → Holds base before s o → Prepared.Bits (bits_of d.value)
-    → Room base s.w (closed o (d ∷ ms)) → Closes base s.w (closed o (d ∷ ms)) ms after r
+-- a component that is no static literal, where no run is open
+abbrev pub OtherIs : Placed Component → Writing → Writing → List ℕ → List ℕ → Type 0
+OtherIs d w r before after =
+    (base : List ℕ) (ms : List (Placed Component)) → Holds base before (closed_at w) none → Prepared.Bits (bits_of d.value)
+    → Room base w (d ∷ ms) → Closes base w (d ∷ ms) ms after r
 
 -- what is to be written of ms from one place is what is to be written of cs, behind a run, from the place that is reached
 pub record Goes (base : List ℕ) (w : Writing) (ms cs : List (Placed Component)) (after : List ℕ) (r : Merging) : Type 0 where
@@ -83,10 +88,6 @@ StepIs d s r before after =
     (base : List ℕ) (o : Run) (cs : List (Placed Component)) → Holds base before s o → Prepared.Bits (bits_of d.value)
     → Room base s.w (merge_from o (d ∷ cs)) → Goes base s.w (merge_from o (d ∷ cs)) cs after r
 
--- component k of the store
-abbrev pub IsAt : List ℕ → List ℕ → ℕ → Placed Component → Type 0
-IsAt image words k d = KeptFrom image words k (d ∷ [])
-
 -- behind a block whose literal has so many bits
-abbrev pub behind_by : Writing → ℕ → Merging
-behind_by w bits = record { w = record { at = w.at + 72; literals = w.literals; offset = w.offset + bytes_for bits }; running = false; bits = 0 }
+abbrev pub behind_by : Writing → ℕ → Writing
+behind_by w bits = record { at = w.at + 72; literals = w.literals; offset = w.offset + bytes_for bits }
