@@ -1,5 +1,5 @@
 // The rules of document 01's image check that look at one record's or one entry's numbers: what was read is handed in.
-ghost use Rattle.std.specs.Prelude.{◌≡◌};
+ghost use Rattle.std.specs.Prelude.{◌≡◌, ◌≤◌, true};
 ghost use Rattle.definition.specs.Basics.{within};
 ghost use Rattle.definition.specs.Image.{delimiter};
 ghost use Rattle.definition.specs.Check.{text_right, delimiter_right, word_right, close_right};
@@ -71,7 +71,8 @@ impl Numbers {
 
     // Whether it opens a group that stays in the `left` records from it on.
     pub(crate) fn skip_right(self, left: u32) -> bool
-        ensures { result ≡ skip_right (entry_with self 0) left }
+        ensures answer { result ≡ skip_right (entry_with self 0) left }
+        ensures room { result ≡ true → (2 ≤ self.skip) × (self.skip ≤ left) }
     {
         between(1, 4, self.kind) & (2 <= self.skip) & (self.skip <= left)
     }
