@@ -56,10 +56,6 @@ pub record Fits (image : List ℕ) (records text all : ℕ) : Type 0 where
 abbrev pub entry_from : List ℕ → ℕ → Numbers → Entry
 entry_from image text e = entry_with e (get_or image (text + e.start) 0)
 
--- an answer as a number: 0 passed, any other refuses
-abbrev pub answer_of : ℕ → Result Unit
-answer_of n = if eqb n 0 then ok tt else refused (refusal_of n 0 0)
-
 -- x is the answer of the check of `count` records from record `from` on, whatever fuel is enough
 abbrev pub Says : ℕ → (ℕ → Entry) → ℕ → ℕ → ℕ → Result Unit → Type 0
 Says t g depth from count x = (f : ℕ) → count ≤ f → x ≡ check_in t f (tab g from count) depth
