@@ -7,9 +7,10 @@ use Rattle.std.specs.declared.cmp.Ordering.TheVariants.{Less, Equal, Greater}
 use Rattle.std.proofs.Common.{◌≡◌, ℕ, ◌+◌, ◌*◌, ◌^◌, ◌<◌, ℤ, pos, negsuc, ◌<ℤ◌, refl, ap, ◌∙◌, arith}
 use Rattle.std.proofs.lemmas.Int.{ints}
 use Rattle.numbers.specs.declared.I128.{I128}
+use Rattle.numbers.specs.Steps.{negative}
 use Rattle.numbers.specs.Value.{bits, value_of}
 use Rattle.numbers.proofs.Halves.{above}
-use Rattle.numbers.proofs.Words.{Word, negative, word}
+use Rattle.numbers.proofs.Words.{Word, word}
 
 halves : (B a b x y : ℕ) → x < B → y < B → ordering_then (nat_cmp a b) (nat_cmp x y) ≡ nat_cmp (a * B + x) (b * B + y)
 halves B a b x y hx hy =

@@ -5,7 +5,7 @@ pub mod digit;
 pub mod parse;
 pub mod sums;
 
-ghost use Rattle.std.specs.Prelude.{◌≡◌, not, pos, ◌==◌, int_lt, unsigned_abs};
+ghost use Rattle.std.specs.Prelude.{◌≡◌, not, pos, ◌==◌, unsigned_abs};
 ghost use Rattle.std.proofs.Common.{rules};
 ghost use Rattle.std.specs.Int.Signed.{non_neg};
 ghost use Rattle.std.specs.Cmp.{partial_order_from_own_ties};
@@ -43,7 +43,7 @@ impl I128 {
     }
 }
 
-// By the signs; of one sign by the bits.
+// By the signs; of one sign by the bits. By value: of numbers behind a reference no range is known.
 fn compare(a: I128, b: I128) -> Ordering
     ensures { result ≡ int_cmp (value_of a) (value_of b) }
 {
@@ -99,10 +99,4 @@ impl From<usize> for I128 {
     fn from(x: usize) -> I128 {
         I128::from(x as u64)
     }
-}
-
-fn tried(a: I128, b: I128) -> bool
-    ensures { result ≡ int_lt (value_of a) (value_of b) }
-{
-    a < b
 }

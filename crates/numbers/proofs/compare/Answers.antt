@@ -1,6 +1,6 @@
 -- `compare` meets its contract: of one sign by the bits, else by the signs.
 -- Assumes nothing.
-use Rattle.std.proofs.Common.{arith, rules}
+use Rattle.std.proofs.Common.{arith}
 use Rattle.numbers.proofs.Order.{order}
 use Rattle.numbers.proofs.compare.Goals as goal
 

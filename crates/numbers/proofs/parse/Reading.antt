@@ -1,5 +1,5 @@
 -- A number's signs and prefix: what each way through the code gives.
-use Rattle.std.proofs.Common.{◌≡◌, ℕ, ◌-◌, ◌<◌, ◌≤◌, List, [], ◌∷◌, length, get_or, take, drop, ℤ, pos, neg_ℤ, refl, le_refl, arith, length-drop, take_all, le-ltb, lt-ltb, eq-eqb, ne_eqb, ltb, ltb-true}
+use Rattle.std.proofs.Common.{◌≡◌, ℕ, ◌-◌, ◌<◌, ◌≤◌, List, [], ◌∷◌, length, get_or, take, drop, ℤ, pos, neg_ℤ, refl, le_refl, arith, length-drop, take_all, lt-ltb, eq-eqb, ne_eqb, ltb, ltb-true}
 use mathlib.Core.Option.{Option, none, some}
 use Rattle.definition.specs.Numbers.{narrow, signed_as, digits, radix_of, inner, unsigned_parse, try_parse}
 use Rattle.numbers.specs.parse.Parts.{capped_option, negated}

@@ -1,10 +1,8 @@
 -- A number of at most 18 decimal digits without a sign: its value fits 64 bits, and is what the definition reads.
-use Rattle.std.proofs.Common.{◌≡◌, ℕ, ◌+◌, ◌-◌, ◌*◌, ◌^◌, ◌<◌, ◌≤◌, List, [], ◌∷◌, length, get_or, drop, pos, sym, refl, ap, ◌∙◌, lt_of_lt_of_le, pow-suc, zero-add, zero-mul, add-one, arith, lit<, lt-ltb, drop_of_length-le, le-leb}
+use Rattle.std.proofs.Common.{◌≡◌, ℕ, ◌+◌, ◌-◌, ◌*◌, ◌^◌, ◌<◌, ◌≤◌, List, [], ◌∷◌, length, get_or, drop, pos, sym, refl, ap, ◌∙◌, lt_of_lt_of_le, pow-suc, add-one, arith, lit<, lt-ltb, drop_of_length-le, le-leb}
 use mathlib.Core.Option.{none, some}
 use native.Mathlib.Nat.{pow-le-pow_right}
-use Rattle.definition.specs.Numbers.{digit_worth, digit_in, digits_from, digits, half128, narrow, signed_as, inner, unsigned_parse, try_parse}
-use Rattle.numbers.specs.Value.{value_of}
-use Rattle.numbers.specs.digit.Worth.{worth_byte}
+use Rattle.definition.specs.Numbers.{digit_worth, digit_in, digits_from, digits, half128, narrow, signed_as, try_parse}
 use Rattle.numbers.proofs.parse.Digits.{some_digit, goes_on}
 use Rattle.numbers.proofs.parse.Reading.{inner_bare, decimal, try_plain}
 use Rattle.numbers.proofs.parse.Signs.{positive_capped}

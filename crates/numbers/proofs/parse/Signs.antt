@@ -1,6 +1,6 @@
 -- A number without a sign, in two halves, as a number with one: what each way through the code gives.
 use Rattle.std.specs.Prelude.{if◌then◌else◌}
-use Rattle.std.proofs.Common.{◌≡◌, ℕ, zero, suc, ◌+◌, ◌*◌, ◌^◌, ◌<◌, ◌≤◌, Bool, true, false, ltb, ℤ, pos, neg_ℤ, refl, ◌⊎◌, inl, inr, mul-le-mul_right, suc-mul, arith, lit<, ltb-false, le-ltb, lt-ltb}
+use Rattle.std.proofs.Common.{◌≡◌, ℕ, zero, suc, ◌+◌, ◌*◌, ◌^◌, ◌<◌, ◌≤◌, Bool, true, false, ltb, ℤ, pos, refl, ◌⊎◌, inl, inr, mul-le-mul_right, arith, lit<, ltb-false, le-ltb, lt-ltb}
 use mathlib.Core.Option.{Option, none, some}
 use Rattle.definition.specs.Numbers.{half128, narrow, signed_as}
 use Rattle.numbers.specs.Value.{value_of}

@@ -1,6 +1,6 @@
 use Rattle.std.proofs.Common.{refl, sym, rules}
-use borrow.Author.Tests.{eqb-true, eqb-false}
-use Rattle.numbers.proofs.parse.Digits.{nothing, finished, ended, passed, again}
+use borrow.Author.Tests.{eqb-false}
+use Rattle.numbers.proofs.parse.Digits.{finished, ended, passed, again}
 use Rattle.numbers.proofs.parse.Product.{halves_fit}
 use Rattle.numbers.proofs.parse.magnitude_by.Goals as goal
 

@@ -1,4 +1,4 @@
-use Rattle.std.proofs.Common.{arith, rules}
+use Rattle.std.proofs.Common.{arith}
 use Rattle.numbers.proofs.parse.ShortDecimal.{room, one_more, all_read}
 use Rattle.numbers.proofs.parse.short.value.Goals as goal
 

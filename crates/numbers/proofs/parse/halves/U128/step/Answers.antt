@@ -1,5 +1,5 @@
 -- `U128::step` meets its contract: the product by halves, and whether anything is over.
-use Rattle.std.proofs.Common.{arith, rules}
+use Rattle.std.proofs.Common.{rules}
 use Rattle.numbers.proofs.parse.Product.{step_fits, step_past}
 use Rattle.numbers.proofs.parse.halves.U128.step.Goals as goal
 
