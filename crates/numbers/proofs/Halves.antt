@@ -1,21 +1,10 @@
--- Two halves in a base B: carry, borrow and order are shown for one half, and cited for the low and for the high one.
+-- Two halves in a base B: carry and borrow are shown for one half, and cited for the low and for the high one.
 -- Assumes nothing.
-use Rattle.std.proofs.Common.{◌≡◌, ℕ, zero, suc, ◌+◌, ◌*◌, ◌^◌, ◌<◌, ◌≤◌, Bool, true, false, eqb, ltb, ◌⊎◌, sym, refl, ap, ◌∙◌, inl, inr, mul-le-mul_right, mul_assoc, suc-mul, add-mul, arith, ltb-false, ltb-true, le-ltb, lt-ltb, eqb-true}
-use borrow.Author.Tests.{eqb-false}
-use Rattle.numbers.specs.Steps.{order_of}
+use Rattle.std.proofs.Common.{◌≡◌, ℕ, zero, suc, ◌+◌, ◌*◌, ◌^◌, ◌<◌, ◌≤◌, Bool, true, false, ◌⊎◌, refl, ap, inl, inr, mul-le-mul_right, mul_assoc, suc-mul, add-mul, arith}
 
 pub by_test : {G : Type 0} (t : Bool) → (t ≡ true → G) → (t ≡ false → G) → G
 by_test true f g = f refl
 by_test false f g = g refl
-
--- two tests that say the same
-pub same_test : (a b c d : ℕ) → (a < b → c < d) → (c < d → a < b) → ltb a b ≡ ltb c d
-same_test a b c d f g =
-    by_test (ltb c d) (λ e. lt-ltb a b (g (ltb-true c d e)) ∙ sym e)
-    (λ e. let h : d ≤ c = ltb-false c d e in by_test (ltb a b) (λ u. absurd (clash (f (ltb-true a b u)) h)) (λ u. u ∙ sym e))
-  where
-    clash : c < d → d ≤ c → ⊥
-    clash p q = omega arith
 
 -- a multiple of B that is below 2B
 bit : (B n x : ℕ) → n * B ≤ x → x < B + B → n ≤ 1
@@ -69,17 +58,3 @@ above B a b h =
     let k : suc a * B ≤ b * B = mul-le-mul_right B h in
     let e : suc a * B ≡ a * B + B = suc-mul a B in
     omega arith
-
-pub order : (B a b x y : ℕ) → x < B → y < B → order_of a b (ltb x y) ≡ ltb (a * B + x) (b * B + y)
-order B a b x y hx hy = by_test (eqb a b) (λ e. equal e (eqb-true a b e)) (λ e. apart e (eqb-false a b e))
-  where
-    equal : eqb a b ≡ true → a ≡ b → order_of a b (ltb x y) ≡ ltb (a * B + x) (b * B + y)
-    equal e p =
-        let m : a * B ≡ b * B = ap (λ (n : ℕ). n * B) p in
-        rw e (same_test x y (a * B + x) (b * B + y) (omega arith) (omega arith))
-
-    apart : eqb a b ≡ false → (a ≡ b → ⊥) → order_of a b (ltb x y) ≡ ltb (a * B + x) (b * B + y)
-    apart e p =
-        rw e
-        (by_test (ltb a b) (λ t. let m = above B a b (ltb-true a b t) in t ∙ sym (lt-ltb (a * B + x) (b * B + y) (omega arith)))
-        (λ t. let m = above B b a (let h : b ≤ a = ltb-false a b t in omega arith) in t ∙ sym (le-ltb (a * B + x) (b * B + y) (omega arith))))

@@ -1,17 +1,13 @@
 -- What two halves mean: their bits as a number, less 2^128 where the highest bit is set.
 -- Assumes nothing.
-use Rattle.std.proofs.Common.{◌≡◌, ℕ, suc, ◌+◌, ◌-◌, ◌*◌, ◌^◌, ◌<◌, ◌≤◌, Bool, true, false, not, ltb, leb, ◌⊎◌, ℤ, pos, negsuc, sym, refl, ap, ◌∙◌, subst, mul-le-mul_right, add-mul, arith, ltb-false, ltb-true, le-leb}
-use lib.Signed.{non_neg, lt_z}
+use Rattle.std.proofs.Common.{◌≡◌, ℕ, suc, ◌+◌, ◌-◌, ◌*◌, ◌^◌, ◌<◌, ◌≤◌, Bool, true, false, ltb, leb, ◌⊎◌, ℤ, pos, negsuc, sym, refl, ap, ◌∙◌, subst, mul-le-mul_right, add-mul, arith, ltb-false, ltb-true, le-leb}
 use borrow.Author.Tests.{lt-leb}
 use Rattle.definition.specs.Numbers.{half128, fits128}
 use Rattle.numbers.specs.declared.I128.{I128}
-use Rattle.numbers.specs.Steps.{Wraps}
+use Rattle.numbers.specs.Steps.{Wraps, negative}
 use Rattle.numbers.specs.Value.{bits, value_of}
-use Rattle.numbers.proofs.Halves.{by_test, same_test, above}
+use Rattle.numbers.proofs.Halves.{by_test, above}
 use Rattle.numbers.proofs.Difference.{Is, within_fits}
-
-abbrev pub negative : ℤ → Bool
-negative z = not (non_neg z)
 
 -- the sign of a number below 2H, and what is taken off for it
 abbrev pub Signed : ℕ → Bool → ℕ → ℕ → Type 0
@@ -75,19 +71,6 @@ negative_bit w =
 pub word_fits : (z : ℤ) (x : ℕ) → Word z x → fits128 z ≡ true
 word_fits (pos a) x w = within_fits (pos a) x w.off w.is (omega arith) (omega arith)
 word_fits (negsuc a) x w = within_fits (negsuc a) x w.off w.is (omega arith) (omega arith)
-
--- order: of one sign by the bits, else by the signs
-pub less_same : (z v : ℤ) (x y : ℕ) → Word z x → Word v y → negative z ≡ negative v → ltb x y ≡ lt_z z v
-less_same (pos a) (pos b) x y h k e = same_test x y a b (omega arith) (omega arith)
-less_same (pos a) (negsuc b) x y h k e = cc
-less_same (negsuc a) (pos b) x y h k e = cc
-less_same (negsuc a) (negsuc b) x y h k e = same_test x y b a (omega arith) (omega arith)
-
-pub less_apart : (z v : ℤ) (s : Bool) → negative z ≡ s → negative v ≡ not s → s ≡ lt_z z v
-less_apart (pos a) (pos b) s e f = cc
-less_apart (pos a) (negsuc b) s e f = sym e
-less_apart (negsuc a) (pos b) s e f = sym e
-less_apart (negsuc a) (negsuc b) s e f = cc
 
 -- a sum cut by 2^64 squared is cut to 128 bits
 pub wraps : {t s : ℕ} → (t ≡ s) ⊎ (t + 2 ^ 64 * 2 ^ 64 ≡ s) → Wraps t s

@@ -1,6 +1,8 @@
 // What a byte is worth as a digit.
-ghost use Rattle.std.specs.Prelude.{◌≡◌};
-ghost use Rattle.numbers.specs.digit.Worth.{worth_byte, Worths};
+ghost use Rattle.std.specs.Prelude.{◌≡◌, ◌≤◌};
+ghost use Rattle.definition.specs.Numbers.{digit_in};
+ghost use Rattle.numbers.specs.Value.{option_usize};
+ghost use Rattle.numbers.specs.digit.Worth.{Worths};
 
 // For each byte its worth as a digit, 0 to 15, and 255 where it is none.
 pub(crate) const WORTH: [u8; 256] = [
@@ -20,11 +22,12 @@ pub(crate) const WORTH: [u8; 256] = [
     255, 255, 255,
 ];
 
-// A byte's worth as a digit, by the table of them, which is lent: a constant array is built anew where it is named.
-pub(crate) fn digit_worth(worths: &[u8; 256], b: u8) -> u8
-    requires { Worths worths.now }
-    ensures { result ≡ worth_byte b }
+// The byte's worth where it is a digit of the radix, by the table of worths, which is lent: a constant array is built anew where it is
+// named.
+pub(crate) fn digit_in(worths: &[u8; 256], radix: u64, b: u8) -> Option<u64>
+    requires { (radix ≤ 16) × Worths worths.now }
+    ensures { option_usize result ≡ digit_in radix b }
 {
-    let i = b as usize;
-    worths[i]
+    let d = worths[b as usize] as u64;
+    if d < radix { Some(d) } else { None }
 }

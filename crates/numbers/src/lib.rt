@@ -5,34 +5,30 @@ pub mod digit;
 pub mod parse;
 pub mod sums;
 
-ghost use Rattle.std.specs.Prelude.{◌≡◌, not, pos, ◌==◌, int_lt, nat_lt, unsigned_abs};
+ghost use Rattle.std.specs.Prelude.{◌≡◌, not, pos, ◌==◌, unsigned_abs};
+ghost use Rattle.std.proofs.Common.{rules};
 ghost use Rattle.std.specs.Int.Signed.{non_neg};
-ghost use Rattle.numbers.specs.Steps.{order_of};
-ghost use Rattle.numbers.specs.Value.{bits, value_of};
+ghost use Rattle.std.specs.Cmp.{partial_order_from_own_ties};
+ghost use Rattle.std.specs.Cmp.Rules.{comparing};
+ghost use Rattle.std.specs.Ordering.{int_cmp, int_eq, on, as_partial_cmp};
+ghost use Rattle.numbers.specs.Value.{value_of};
+
+use std::cmp::Ordering;
 
 // Two halves, in two's complement.
-#[derive(Clone, Copy, Debug, PartialEq, Eq)]
+#[derive(Clone, Copy, Debug)]
 pub struct I128 {
     pub high: u64,
     pub low: u64,
 }
 
-// The order where these are the halves that count most, and `rest` is the order of what is below them.
-fn below_half(a: u64, b: u64, rest: bool) -> bool
-    ensures { result ≡ order_of a b rest }
-{
-    if a == b { rest } else { a < b }
-}
-
-// The order of the bits as numbers without a sign.
-fn below(a: I128, b: I128) -> bool
-    ensures { result ≡ nat_lt (bits a) (bits b) }
-{
-    below_half(a.high, b.high, below_half(a.low, b.low, false))
-}
-
 impl I128 {
     pub const ZERO: I128 = I128 { high: 0, low: 0 };
+    pub const ONE: I128 = I128 { high: 0, low: 1 };
+    pub const MIN: I128 = I128 {
+        high: 0x8000_0000_0000_0000,
+        low: 0,
+    };
 
     pub fn is_negative(self) -> bool
         ensures { result ≡ not (non_neg (value_of self)) }
@@ -45,18 +41,55 @@ impl I128 {
     {
         self.high == 0 && self.low == 0
     }
+}
 
-    // self < other
-    pub fn less(self, other: I128) -> bool
-        ensures { result ≡ int_lt (value_of self) (value_of other) }
-    {
-        if self.is_negative() {
-            if other.is_negative() { below(self, other) } else { true }
-        } else if other.is_negative() {
-            false
-        } else {
-            below(self, other)
-        }
+// By the signs; of one sign by the bits. By value: of numbers behind a reference no range is known.
+fn compare(a: I128, b: I128) -> Ordering
+    ensures { result ≡ int_cmp (value_of a) (value_of b) }
+{
+    let signs = b.is_negative().cmp(&a.is_negative());
+    signs.then(a.high.cmp(&b.high).then(a.low.cmp(&b.low)))
+}
+
+// The comparisons are those of the values. No derive: `==` goes with `<`, whose laws hold of halves that fit no u64, too.
+impl PartialEq for I128 {
+    ghost eq = { on value_of int_eq };
+    ghost laws = { Prim.search (comparing, rules) };
+
+    fn eq(&self, other: &I128) -> bool {
+        self.cmp(other).is_eq()
+    }
+}
+
+impl Eq for I128 {
+    ghost laws = { Prim.search (comparing, rules) };
+}
+
+impl PartialOrd for I128 {
+    ghost partial_cmp = { as_partial_cmp (on value_of int_cmp) };
+    ghost laws = { partial_order_from_own_ties (Prim.search (comparing, rules)) (Prim.search (comparing, rules)) };
+
+    fn partial_cmp(&self, other: &I128) -> Option<Ordering> {
+        Some(self.cmp(other))
+    }
+}
+
+impl Ord for I128 {
+    ghost cmp = { on value_of int_cmp };
+    ghost total = { Prim.search (comparing, rules) };
+    ghost matches_partial_cmp = { Prim.search (comparing, rules) };
+    ghost matches_eq = { Prim.search (comparing, rules) };
+
+    fn cmp(&self, other: &I128) -> Ordering {
+        compare(*self, *other)
+    }
+}
+
+impl From<u64> for I128 {
+    ghost from_gives = { λ x made. value_of made ≡ pos x };
+
+    fn from(x: u64) -> I128 {
+        I128 { high: 0, low: x }
     }
 }
 
@@ -64,9 +97,6 @@ impl From<usize> for I128 {
     ghost from_gives = { λ x made. value_of made ≡ pos x };
 
     fn from(x: usize) -> I128 {
-        I128 {
-            high: 0,
-            low: x as u64,
-        }
+        I128::from(x as u64)
     }
 }

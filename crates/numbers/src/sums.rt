@@ -1,7 +1,7 @@
 // Sums, differences and negations of numbers of 128 bits (i128::checked_add, checked_sub, checked_neg).
 ghost use Rattle.std.specs.Prelude.{◌≡◌, ◌+◌, ◌*◌, ◌^◌, ◌≤◌, ◌+ℤ◌, ◌-ℤ◌, neg_ℤ};
 ghost use Rattle.definition.specs.Numbers.{narrow};
-ghost use Rattle.numbers.specs.Steps.{Wraps, overflow};
+ghost use Rattle.numbers.specs.Steps.{Wraps, negative, overflow};
 ghost use Rattle.numbers.specs.Value.{bits, value_of, option_of};
 
 use crate::I128;
@@ -17,11 +17,10 @@ struct Half {
 fn add_half(a: u64, b: u64) -> Half
     ensures { (result.value + result.carry * 2 ^ 64 ≡ a + b) × (result.carry ≤ 1) }
 {
-    let s = std::num::wrapping_add_u64(a, b);
-    if s < a {
-        Half { value: s, carry: 1 }
-    } else {
-        Half { value: s, carry: 0 }
+    let s = a.wrapping_add(b);
+    Half {
+        value: s,
+        carry: (s < a) as u64,
     }
 }
 
@@ -42,11 +41,10 @@ fn add_carry(a: u64, b: u64, carry: u64) -> Half
 fn sub_half(a: u64, b: u64) -> Half
     ensures { (result.value + b ≡ a + result.carry * 2 ^ 64) × (result.carry ≤ 1) }
 {
-    let s = std::num::wrapping_sub_u64(a, b);
-    if a < s {
-        Half { value: s, carry: 1 }
-    } else {
-        Half { value: s, carry: 0 }
+    let s = a.wrapping_sub(b);
+    Half {
+        value: s,
+        carry: (a < s) as u64,
     }
 }
 
@@ -88,10 +86,11 @@ fn sub_bits(a: I128, b: I128) -> I128
 }
 
 // A sum of two numbers overflows where both have one sign and the sum has the other.
-fn overflows(a: bool, b: bool, sum: bool) -> bool
-    ensures { result ≡ overflow a b sum }
+fn overflows(a: I128, b: I128, sum: I128) -> bool
+    ensures { result ≡ overflow (negative (value_of a)) (negative (value_of b)) (negative (value_of sum)) }
 {
-    if a { b && !sum } else { !b && sum }
+    let sign = a.is_negative();
+    sign == b.is_negative() && sign != sum.is_negative()
 }
 
 impl I128 {
@@ -99,10 +98,7 @@ impl I128 {
         ensures { option_of result ≡ narrow (value_of self +ℤ value_of other) }
     {
         let sum = add_bits(self, other);
-        if overflows(self.is_negative(), other.is_negative(), sum.is_negative()) {
-            return None;
-        }
-        Some(sum)
+        if overflows(self, other, sum) { None } else { Some(sum) }
     }
 
     // self is the difference plus other, so the difference fits where that sum does not overflow.
@@ -110,14 +106,7 @@ impl I128 {
         ensures { option_of result ≡ narrow (value_of self -ℤ value_of other) }
     {
         let difference = sub_bits(self, other);
-        if overflows(
-            difference.is_negative(),
-            other.is_negative(),
-            self.is_negative(),
-        ) {
-            return None;
-        }
-        Some(difference)
+        if overflows(difference, other, self) { None } else { Some(difference) }
     }
 
     pub(crate) fn checked_neg(self) -> Option<I128>

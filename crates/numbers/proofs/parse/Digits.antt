@@ -3,7 +3,7 @@ use Rattle.std.specs.Prelude.{if◌then◌else◌}
 use Rattle.std.proofs.Common.{◌≡◌, ℕ, ◌+◌, ◌*◌, ◌<◌, ◌≤◌, Bool, true, false, ltb, ◌⊎◌, List, [], ◌∷◌, length, get_or, drop, sym, refl, inl, inr, mul-le-mul_left, add-one, arith, drop_of_length-le, drop-cons, ltb-false, le-ltb, lt-ltb}
 use mathlib.Core.Option.{Option, none, some}
 use Rattle.definition.specs.Numbers.{digit_worth, digit_in, digits_from, digits}
-use Rattle.numbers.specs.digit.Worth.{worth_byte}
+use Rattle.numbers.specs.digit.Worth.{worth_byte, Worths}
 use Rattle.numbers.specs.parse.Parts.{capped, capped_option, full128}
 
 -- each byte has its worth, or is no digit
@@ -18,20 +18,21 @@ byte_worth b = go (digit_worth b)
     go none = inr (refl, refl)
     go (some d) = inl refl
 
--- so it is a digit of the radix where its worth is below that
-is_digit : (radix b : ℕ) → radix ≤ 16 → worth_byte b < radix → digit_in radix b ≡ some (worth_byte b)
-is_digit radix b small h = go (byte_worth b)
-  where
-    go : Worth b → digit_in radix b ≡ some (worth_byte b)
-    go (inl e) = rw (e, digit_in) (rw (lt-ltb (worth_byte b) radix h))
-    go (inr w) = absurd (omega (arith, w.1))
+-- what the table says of a byte: a digit of the radix where its worth is below that
+module _ (worths : List ℕ) (told : Worths worths) (radix b : ℕ) (small : radix ≤ 16) (byte : b < 256) where
+  pub is_digit : get_or worths b 0 < radix → some (get_or worths b 0) ≡ digit_in radix b
+  is_digit h = rw (told b byte) (go (rw (told b byte) at h) (byte_worth b))
+    where
+      go : worth_byte b < radix → Worth b → some (worth_byte b) ≡ digit_in radix b
+      go h (inl e) = rw (e, digit_in) (rw (lt-ltb (worth_byte b) radix h))
+      go h (inr w) = absurd (omega (arith, w.1))
 
-no_digit : (radix b : ℕ) → radix ≤ worth_byte b → digit_in radix b ≡ none
-no_digit radix b h = go (byte_worth b)
-  where
-    go : Worth b → digit_in radix b ≡ none
-    go (inl e) = rw (e, digit_in) (rw (le-ltb (worth_byte b) radix h))
-    go (inr w) = rw (w.0, digit_in)
+  pub no_digit : radix ≤ get_or worths b 0 → none ≡ digit_in radix b
+  no_digit h = go (rw (told b byte) at h) (byte_worth b)
+    where
+      go : radix ≤ worth_byte b → Worth b → none ≡ digit_in radix b
+      go h (inl e) = rw (e, digit_in) (rw (le-ltb (worth_byte b) radix h))
+      go h (inr w) = rw (w.0, digit_in)
 
 -- a number past 128 bits stays past them
 past : (n : ℕ) → capped n ≡ none → full128 ≤ n
@@ -75,28 +76,25 @@ module _ (radix n i : ℕ) (s : List ℕ) (so_far : digits_from radix n (drop i 
   unfolding digits_from
   finished long h fits = rw (some_digit radix s long, ← so_far, drop_of_length-le s {i = i} h) (sym fits)
 
-  -- d is the worth of the byte at i
-  module _ (d : ℕ) (worth : d ≡ worth_byte (get_or s i 0)) (inside : i < length s) where
-    -- it is no digit
-    pub ended : (length s ≡ 0 → ⊥) → radix ≤ d → none ≡ capped_option (digits radix s)
+  module _ (inside : i < length s) where
+    -- the byte at i is no digit
+    pub ended : (length s ≡ 0 → ⊥) → none ≡ digit_in radix (get_or s i 0) → none ≡ capped_option (digits radix s)
     unfolding digits_from
-    ended long h =
-        rw (some_digit radix s long, ← so_far, drop-cons s i 0 inside, no_digit radix (get_or s i 0) (rw worth at h), digits_from)
+    ended long e = rw (some_digit radix s long, ← so_far, drop-cons s i 0 inside, ← e, digits_from)
 
-    pub goes_on : radix ≤ 16 → d < radix → digits_from radix (n * radix + d) (drop (i + 1) s) ≡ digits_from radix 0 s
-    unfolding digits_from
-    goes_on small h =
-        rw (← so_far, add-one, drop-cons s i 0 inside, is_digit radix (get_or s i 0) small (rw worth at h), ← worth, digits_from)
+    -- it is the digit d
+    module _ (d : ℕ) (digit : some d ≡ digit_in radix (get_or s i 0)) where
+      pub goes_on : digits_from radix (n * radix + d) (drop (i + 1) s) ≡ digits_from radix 0 s
+      unfolding digits_from
+      goes_on = rw (← so_far, add-one, drop-cons s i 0 inside, ← digit, digits_from)
 
-    -- the number passes 128 bits with it
-    pub passed : (length s ≡ 0 → ⊥) → 1 ≤ radix → radix ≤ 16 → d < radix → none ≡ capped (n * radix + d) → none ≡ capped_option (digits radix s)
-    passed long r small h over =
-        rw (some_digit radix s long, ← goes_on small h)
-        (sym (still_past radix (n * radix + d) (drop (i + 1) s) r (past (n * radix + d) (sym over))))
+      -- the number passes 128 bits with it
+      pub passed : (length s ≡ 0 → ⊥) → 1 ≤ radix → none ≡ capped (n * radix + d) → none ≡ capped_option (digits radix s)
+      passed long r over =
+          rw (some_digit radix s long, ← goes_on)
+          (sym (still_past radix (n * radix + d) (drop (i + 1) s) r (past (n * radix + d) (sym over))))
 
-    -- the reading goes on with m
-    pub again : (m : ℕ) → radix ≤ 16 → d < radix → some m ≡ capped (n * radix + d)
-        → (i + 1 ≤ length s) × (capped m ≡ some m) × (digits_from radix m (drop (i + 1) s) ≡ digits_from radix 0 s)
-    again m small h fits =
-        let same : m ≡ n * radix + d = kept m (n * radix + d) fits in
-        (omega arith, rw same (rw same at (sym fits)), rw same (goes_on small h))
+      -- the reading goes on with m
+      pub again : (m : ℕ) → some m ≡ capped (n * radix + d)
+          → (capped m ≡ some m) × (digits_from radix m (drop (i + 1) s) ≡ digits_from radix 0 s)
+      again m fits = let same = kept m (n * radix + d) fits in (rw same (rw same at (sym fits)), rw same goes_on)

@@ -1,43 +1,41 @@
 -- A number of at most 18 decimal digits without a sign: its value fits 64 bits, and is what the definition reads.
-use Rattle.std.proofs.Common.{◌≡◌, ℕ, ◌+◌, ◌-◌, ◌*◌, ◌^◌, ◌<◌, ◌≤◌, List, [], ◌∷◌, length, get_or, drop, pos, sym, refl, ap, ◌∙◌, lt_of_lt_of_le, pow-suc, zero-add, zero-mul, add-one, arith, lit<, drop_of_length-le, le-leb}
+use Rattle.std.proofs.Common.{◌≡◌, ℕ, ◌+◌, ◌-◌, ◌*◌, ◌^◌, ◌<◌, ◌≤◌, List, [], ◌∷◌, length, get_or, drop, pos, sym, refl, ap, ◌∙◌, lt_of_lt_of_le, pow-suc, add-one, arith, lit<, lt-ltb, drop_of_length-le, le-leb}
 use mathlib.Core.Option.{none, some}
 use native.Mathlib.Nat.{pow-le-pow_right}
-use Rattle.definition.specs.Numbers.{digit_worth, digit_in, digits_from, digits, narrow, signed_as, inner, unsigned_parse, try_parse}
-use Rattle.numbers.specs.Value.{value_of}
-use Rattle.numbers.specs.digit.Worth.{worth_byte}
+use Rattle.definition.specs.Numbers.{digit_worth, digit_in, digits_from, digits, half128, narrow, signed_as, try_parse}
 use Rattle.numbers.proofs.parse.Digits.{some_digit, goes_on}
-use Rattle.numbers.proofs.parse.Reading.{inner_bare, short_decimal, try_plain}
-use Rattle.numbers.proofs.parse.Signs.{positive_capped, positive_fits}
+use Rattle.numbers.proofs.parse.Reading.{inner_bare, decimal, try_plain}
+use Rattle.numbers.proofs.parse.Signs.{positive_capped}
 
--- a value of 17 digits at most has room for one more
-pub room : (n i : ℕ) → n < 10 ^ i → i < 18 → n < 10 ^ 17
-room n i h k = lt_of_lt_of_le h (pow-le-pow_right (lit< tt) {i = i} {j = 17} (omega arith))
+-- a value of k digits at most
+pub room : (n i k : ℕ) → n < 10 ^ i → i ≤ k → n < 10 ^ k
+room n i k h below = lt_of_lt_of_le h (pow-le-pow_right (lit< tt) {i = i} {j = k} below)
 
-decimal_digit : (b : ℕ) → 48 ≤ b → b ≤ 57 → digit_worth b ≡ some (b - 48)
+decimal_digit : (b : ℕ) → 48 ≤ b → b ≤ 57 → some (b - 48) ≡ digit_in 10 b
 unfolding digit_worth
-decimal_digit b h k = rw (le-leb 48 b h, le-leb b 57 k)
-
-decimal_worth : (b : ℕ) → 48 ≤ b → b ≤ 57 → b - 48 ≡ worth_byte b
-unfolding worth_byte
-decimal_worth b h k = rw (decimal_digit b h k, worth_byte)
+decimal_digit b h k = rw (le-leb 48 b h, le-leb b 57 k, digit_in) (rw (lt-ltb (b - 48) 10 (omega arith)))
 
 -- at place i, with n read so far
 module _ (n i : ℕ) (s : List ℕ) (so_far : digits_from 10 n (drop i s) ≡ digits_from 10 0 s) where
   -- one more digit
   pub one_more : i < length s → n < 10 ^ i → 48 ≤ get_or s i 0 → get_or s i 0 ≤ 57
-      → (i + 1 ≤ length s) × (n * 10 + (get_or s i 0 - 48) < 10 ^ (i + 1)) × (digits_from 10 (n * 10 + (get_or s i 0 - 48)) (drop (i + 1) s) ≡ digits_from 10 0 s)
+      → (n * 10 + (get_or s i 0 - 48) < 10 ^ (i + 1)) × (digits_from 10 (n * 10 + (get_or s i 0 - 48)) (drop (i + 1) s) ≡ digits_from 10 0 s)
   one_more inside small h k =
-      (omega arith, rw (add-one, pow-suc) (omega arith), goes_on 10 n i s so_far (get_or s i 0 - 48) (decimal_worth (get_or s i 0) h k) inside (omega arith) (omega arith))
+      (rw (add-one, pow-suc) (omega arith), goes_on 10 n i s so_far inside (get_or s i 0 - 48) (decimal_digit (get_or s i 0) h k))
 
   -- every byte is read
   pub all_read : length s ≤ i → digits_from 10 0 s ≡ some n
   unfolding digits_from
   all_read h = rw (← so_far, drop_of_length-le s {i = i} h)
 
+kept : (n : ℕ) → n < 2 ^ 64 → some (pos n) ≡ narrow (pos n)
+unfolding half128
+kept n h = rw (lt-ltb n (2 ^ 127) (omega arith))
+
 -- a text of digits has no sign before them
-unsigned : (b n : ℕ) (s : List ℕ) → digit_in 10 b ≡ none → digits_from 10 0 s ≡ some n → (length s ≡ 0 → ⊥) → get_or s 0 0 ≡ b → ⊥
+unsigned : (b n : ℕ) (s : List ℕ) → digit_in 10 b ≡ none → digits_from 10 0 s ≡ some n → 1 ≤ length s → get_or s 0 0 ≡ b → ⊥
 unfolding digits_from
-unsigned b n [] f e long same = long refl
+unsigned b n [] f e long same = absurd (omega arith)
 unsigned b n (a ∷ rest) f e long same = let z : ◌≡◌ {A = ℕ} 0 1 = cc in absurd (omega arith)
 
 no_minus : digit_in 10 45 ≡ none
@@ -49,18 +47,16 @@ unfolding digit_worth
 no_plus = refl
 
 -- so it is read as it stands, where it has no prefix
-pub as_it_stands : (n : ℕ) (s : List ℕ) → (length s ≡ 0 → ⊥) → inner 10 s ≡ unsigned_parse s → digits_from 10 0 s ≡ some n → narrow (pos n) ≡ try_parse s
-as_it_stands n s long plain e =
+pub as_it_stands : (n : ℕ) (s : List ℕ) → n < 2 ^ 64 → 1 ≤ length s → (2 < length s → get_or s 0 0 ≡ 48 → ⊥) → digits_from 10 0 s ≡ some n
+    → some (pos n) ≡ try_parse s
+as_it_stands n s small long plain e =
     let minus : get_or s 0 0 ≡ 45 → ⊥ = unsigned 45 n s no_minus e long in
     let plus : get_or s 0 0 ≡ 43 → ⊥ = unsigned 43 n s no_plus e long in
-    sym (ap (signed_as pos) (some_digit 10 s long ∙ e))
-    ∙ (sym (positive_capped (digits 10 s)) ∙ (inner_bare 10 s long minus plus ∙ (plain ∙ try_plain s long minus)))
-
--- a value that the low half holds alone
-pub low_alone : (n : ℕ) → n < 2 ^ 64 → some (value_of (record { high = 0; low = n })) ≡ narrow (pos n)
-low_alone n h = rw (zero-mul (2 ^ 64), zero-add n) at (positive_fits 0 n (lit< tt) h)
+    kept n small
+    ∙ sym (ap (signed_as pos) (some_digit 10 s (omega arith) ∙ e))
+    ∙ (sym (positive_capped (digits 10 s)) ∙ (inner_bare 10 s (λ _. (minus, plus)) ∙ (decimal s plain ∙ try_plain s long minus)))
 
 -- `07` is read as it stands
-witness : narrow (pos 7) ≡ try_parse (48 ∷ 55 ∷ [])
+witness : some (pos 7) ≡ try_parse (48 ∷ 55 ∷ [])
 unfolding digits_from digit_worth
-witness = as_it_stands 7 (48 ∷ 55 ∷ []) (λ e. absurd (omega arith)) (short_decimal (48 ∷ 55 ∷ []) (omega arith)) refl
+witness = as_it_stands 7 (48 ∷ 55 ∷ []) (lit< tt) (omega arith) (λ h. absurd (omega arith)) refl

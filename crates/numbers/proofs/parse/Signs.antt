@@ -1,6 +1,6 @@
 -- A number without a sign, in two halves, as a number with one: what each way through the code gives.
 use Rattle.std.specs.Prelude.{if◌then◌else◌}
-use Rattle.std.proofs.Common.{◌≡◌, ℕ, zero, suc, ◌+◌, ◌*◌, ◌^◌, ◌<◌, ◌≤◌, Bool, true, false, ltb, ℤ, pos, neg_ℤ, refl, mul-le-mul_right, suc-mul, arith, lit<, ltb-false, le-ltb, lt-ltb}
+use Rattle.std.proofs.Common.{◌≡◌, ℕ, zero, suc, ◌+◌, ◌*◌, ◌^◌, ◌<◌, ◌≤◌, Bool, true, false, ltb, ℤ, pos, refl, ◌⊎◌, inl, inr, mul-le-mul_right, arith, lit<, ltb-false, le-ltb, lt-ltb}
 use mathlib.Core.Option.{Option, none, some}
 use Rattle.definition.specs.Numbers.{half128, narrow, signed_as}
 use Rattle.numbers.specs.Value.{value_of}
@@ -14,6 +14,14 @@ pos_past n h = rw (le-ltb n half128 h)
 neg_past : (n : ℕ) → half128 < n → none ≡ narrow (negated n)
 neg_past zero h = absurd (omega arith)
 neg_past (suc k) h = let past : half128 ≤ k = omega arith in rw (le-ltb k half128 past)
+
+-- a number that does not fit
+from_half : (n : ℕ) → none ≡ narrow (pos n) → half128 ≤ n
+from_half n = go (ltb n half128) refl
+  where
+    go : (t : Bool) → ltb n half128 ≡ t → none ≡ (if t then some (pos n) else none) → half128 ≤ n
+    go true e h = let z : ◌≡◌ {A = ℕ} 0 1 = cc in absurd (omega arith)
+    go false e h = ltb-false n half128 e
 
 half_below_full : half128 < full128
 unfolding half128 full128
@@ -32,12 +40,6 @@ module _ (H B h l : ℕ) where
   half_past : H ≤ h → H * B ≤ h * B + l
   half_past p = omega (arith, mul-le-mul_right B p)
 
-  high_past : 0 < B → H < h → H * B < h * B + l
-  high_past b p = omega (arith, mul-le-mul_right B p, suc-mul H B)
-
-  low_past : H ≤ h → 0 < l → H * B < h * B + l
-  low_past p q = omega (arith, mul-le-mul_right B p)
-
 module _ (h l : ℕ) where
   value_below : h < 2 ^ 63 → value_of (record { high = h; low = l }) ≡ pos (h * 2 ^ 64 + l)
   unfolding value_of
@@ -51,23 +53,19 @@ module _ (h l : ℕ) where
   unfolding half128
   positive_past p = pos_past (h * 2 ^ 64 + l) (half_past (2 ^ 63) (2 ^ 64) h l p)
 
-  pub negative_fits : h < 2 ^ 63 → narrow (neg_ℤ (value_of (record { high = h; low = l }))) ≡ narrow (negated (h * 2 ^ 64 + l))
-  negative_fits p = rw (value_below p)
-
-  pub negative_high : 2 ^ 63 < h → none ≡ narrow (negated (h * 2 ^ 64 + l))
-  unfolding half128
-  negative_high p = neg_past (h * 2 ^ 64 + l) (high_past (2 ^ 63) (2 ^ 64) h l (lit< tt) p)
-
-  pub negative_low : 2 ^ 63 ≤ h → 0 < l → none ≡ narrow (negated (h * 2 ^ 64 + l))
-  unfolding half128
-  negative_low p q = neg_past (h * 2 ^ 64 + l) (low_past (2 ^ 63) (2 ^ 64) h l p q)
-
-  pub negative_least : 2 ^ 63 ≤ h → h ≤ 2 ^ 63 → l ≤ 0 → some (value_of (record { high = 2 ^ 63; low = 0 })) ≡ narrow (negated (h * 2 ^ 64 + l))
+  -- with a minus, 2^127 fits too
+  pub negative_least : h ≡ 2 ^ 63 → l ≡ 0 → some (value_of (record { high = 2 ^ 63; low = 0 })) ≡ narrow (negated (h * 2 ^ 64 + l))
   unfolding half128 value_of
-  negative_least p q r =
-      let eh : h ≡ 2 ^ 63 = omega arith in
-      let el : l ≡ 0 = omega arith in
-      rw (eh, el)
+  negative_least p q = rw (p, q)
+
+  -- past that there is none
+  pub negative_past : l < 2 ^ 64 → none ≡ narrow (pos (h * 2 ^ 64 + l)) → ((h ≡ 2 ^ 63) × (l ≡ 0 → ⊥)) ⊎ (h ≡ 2 ^ 63 → ⊥) → none ≡ narrow (negated (h * 2 ^ 64 + l))
+  unfolding half128
+  negative_past small past apart = neg_past (h * 2 ^ 64 + l) (above apart (from_half (h * 2 ^ 64 + l) past))
+    where
+      above : ((h ≡ 2 ^ 63) × (l ≡ 0 → ⊥)) ⊎ (h ≡ 2 ^ 63 → ⊥) → 2 ^ 127 ≤ h * 2 ^ 64 + l → 2 ^ 127 < h * 2 ^ 64 + l
+      above (inl (a, b)) p = omega arith
+      above (inr f) p = omega arith
 
 pub positive_capped : (o : Option ℕ) → signed_as pos (capped_option o) ≡ signed_as pos o
 positive_capped = signed_capped (λ n. pos n) (λ n h. pos_past n (omega arith))

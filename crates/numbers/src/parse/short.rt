@@ -1,48 +1,33 @@
 // A number of 1 to 18 decimal digits without a sign, as nearly every number of a layout is.
-ghost use Rattle.std.specs.Prelude.{◌≡◌, ◌^◌, ◌<◌, ◌≤◌, length, pos};
+ghost use Rattle.std.specs.Prelude.{◌≡◌, ◌^◌, ◌<◌, ◌≤◌, length, IfSome, pos};
 ghost use Rattle.std.proofs.Math.Option.{some};
-ghost use Rattle.definition.specs.Numbers.{digits_from, narrow, try_parse};
-
-// Stands for no such number: 18 digits stay below it.
-const NONE: u64 = 0xffff_ffff_ffff_ffff;
+ghost use Rattle.definition.specs.Numbers.{digits_from, try_parse};
 
 // The digits' value, where every byte is a digit.
-fn value(s: &[u8]) -> u64
+fn value(s: &[u8]) -> Option<u64>
     requires { length s.now ≤ 18 }
-    ensures { result < 2 ^ 63 → digits_from 10 0 s.now ≡ some result }
+    ensures { IfSome result (λ n. (n < 10 ^ 18) × (digits_from 10 0 s.now ≡ some n)) }
 {
     let mut n: u64 = 0;
-    let mut i = 0;
-    while i < s.len() {
-        let b = s[i];
-        if b < b'0' {
-            return NONE;
-        }
-        if b'9' < b {
-            return NONE;
+    for &b in s {
+        if !b.is_ascii_digit() {
+            return None;
         }
         n = n * 10 + (b - b'0') as u64;
-        i += 1;
     }
-    n
+    Some(n)
 }
 
 // The number, where it is as short and has no prefix: "if more than two characters remain and the first is `0`, the second must be `x`,
 // `o` or `b`".
-pub(crate) fn read(s: &[u8]) -> u64
-    ensures { result < 2 ^ 63 → narrow (pos result) ≡ try_parse s.now }
+pub(crate) fn read(s: &[u8]) -> Option<u64>
+    ensures { IfSome result (λ n. some (pos n) ≡ try_parse s.now) }
 {
-    if s.len() == 0 {
-        return NONE;
+    if s.is_empty() || 18 < s.len() {
+        return None;
     }
-    if 18 < s.len() {
-        return NONE;
-    }
-    if 2 < s.len() {
-        let zero = s[0] == b'0';
-        if zero {
-            return NONE;
-        }
+    if 2 < s.len() && s[0] == b'0' {
+        return None;
     }
     value(s)
 }

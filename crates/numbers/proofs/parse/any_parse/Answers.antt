@@ -1,18 +1,18 @@
--- `numbers::parse::any_parse` meets its contract: a law for each way through it.
-use Rattle.std.proofs.Common.{sym, ap, ◌∙◌}
-use Rattle.numbers.specs.Value.{option_of}
-use Rattle.numbers.specs.declared.OptionI128.{OptionI128}
+-- `any_parse` meets its contract: a law for each way through it.
+use Rattle.std.proofs.Common.{ap, ◌∙◌, arith}
 use Rattle.numbers.proofs.parse.Reading.{turned, try_empty, try_plain, try_minus}
 use Rattle.numbers.proofs.parse.any_parse.Goals as goal
 
-pub returns-then-s-eq0 : goal.returns-then-s-eq0
-returns-then-s-eq0 c = try_empty c.args.s.now c.if-s-eq0.true
+pub returns-in-empty : goal.returns-in-empty
+returns-in-empty c = try_empty c.args.s.now c.in-empty.len_below
 
-pub returns-then-s-ne45 : goal.returns-then-s-ne45
-returns-then-s-ne45 c = c.unsigned_parse.ensures ∙ try_plain c.args.s.now c.if-s-eq0.false c.if-s-ne45.true
+pub returns-in_err-unsigned_parse-in-45 : goal.returns-in_err-unsigned_parse-in-45
+returns-in_err-unsigned_parse-in-45 c =
+    rw c.from_residual.ensures (ap turned c.in_err-unsigned_parse-in-45.ensures ∙ try_minus _ c.in-45.len_at_least (omega arith))
+
+pub returns-in_ok-unsigned_parse-in-45 : goal.returns-in_ok-unsigned_parse-in-45
+returns-in_ok-unsigned_parse-in-45 c =
+    c.checked_neg.ensures ∙ (ap turned c.in_ok-unsigned_parse-in-45.ensures ∙ try_minus _ c.in-45.len_at_least (omega arith))
 
 pub returns-in_default : goal.returns-in_default
-returns-in_default c = sym (ap (λ (o : OptionI128). turned (option_of o)) c.in_default.is) ∙ (ap turned c.unsigned_parse-2.ensures ∙ try_minus c.args.s.now c.if-s-eq0.false c.if-s-ne45.false)
-
-pub returns : goal.returns
-returns c = c.checked_neg.ensures ∙ (sym (ap (λ (o : OptionI128). turned (option_of o)) c.in-Some.is) ∙ (ap turned c.unsigned_parse-2.ensures ∙ try_minus c.args.s.now c.if-s-eq0.false c.if-s-ne45.false))
+returns-in_default c = c.unsigned_parse-in_default.ensures ∙ try_plain _ c.in_default.len_at_least (omega arith)

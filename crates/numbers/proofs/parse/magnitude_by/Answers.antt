@@ -1,25 +1,23 @@
-use Rattle.std.proofs.Common.{sym, refl, ap, ◌∙◌, rules}
-use Rattle.numbers.specs.parse.Halves.{number_of}
+use Rattle.std.proofs.Common.{refl, sym, rules}
+use borrow.Author.Tests.{eqb-false}
+use Rattle.numbers.proofs.parse.Digits.{finished, ended, passed, again}
 use Rattle.numbers.proofs.parse.Product.{halves_fit}
-use Rattle.numbers.proofs.parse.Digits.{nothing, finished, ended, passed, again}
 use Rattle.numbers.proofs.parse.magnitude_by.Goals as goal
 
-pub returns-then-text-eq0 : goal.returns-then-text-eq0
-returns-then-text-eq0 c = nothing c.args.radix c.args.text.now c.if-text-eq0.true
+pub loop-b-init : goal.loop-b-init
+loop-b-init c = (halves_fit 0 0 (search rules) (search rules), refl)
 
-pub loop-i-init : goal.loop-i-init
-loop-i-init c = (search rules, halves_fit 0 0 (search rules) (search rules), refl)
+pub returns-in_err-d : goal.returns-in_err-d
+returns-in_err-d c =
+    rw c.from_residual.ensures (ended _ _ _ _ c.loop-b.invariant.1 c.loop-b-test.true (eqb-false _ _ (sym c.if-is_empty.ensures)) c.in_err-d.ensures)
 
-pub returns-then-radix-d : goal.returns-then-radix-d
-returns-then-radix-d c = ended _ _ _ _ c.loop-i.invariant.2 _ c.digit_worth-d.ensures c.loop-i-test.true c.if-text-eq0.false c.if-radix-d.true
+pub returns-in_err-v : goal.returns-in_err-v
+returns-in_err-v c =
+    rw c.from_residual-in_err-v.ensures
+    (passed _ _ _ _ c.loop-b.invariant.1 c.loop-b-test.true _ c.in_ok-d.ensures (eqb-false _ _ (sym c.if-is_empty.ensures)) c.requires.0 c.in_err-v.ensures)
 
-pub returns-in_default : goal.returns-in_default
-returns-in_default c =
-    passed _ _ _ _ c.loop-i.invariant.2 _ c.digit_worth-d.ensures c.loop-i-test.true c.if-text-eq0.false (search rules) (search rules) c.if-radix-d.false (sym (ap number_of c.in_default.is) ∙ c.step.ensures)
-
-pub loop-i-preserved : goal.loop-i-preserved
-loop-i-preserved c =
-    again _ _ _ _ c.loop-i.invariant.2 _ c.digit_worth-d.ensures c.loop-i-test.true _ (search rules) c.if-radix-d.false (sym (ap number_of c.in-Some.is) ∙ c.step.ensures)
+pub loop-b-preserved : goal.loop-b-preserved
+loop-b-preserved c = again _ _ _ _ c.loop-b.invariant.1 c.loop-b-test.true _ c.in_ok-d.ensures _ c.in_ok-v.ensures
 
 pub returns : goal.returns
-returns c = finished _ _ _ _ c.loop-i.invariant.2 c.if-text-eq0.false c.loop-i-test.false c.loop-i.invariant.1
+returns c = finished _ _ _ _ c.loop-b.invariant.1 (eqb-false _ _ (sym c.if-is_empty.ensures)) c.loop-b-test.false c.loop-b.invariant.0

@@ -1,25 +1,17 @@
-use Rattle.std.proofs.Common.{refl, arith, rules}
+use Rattle.std.proofs.Common.{arith}
 use Rattle.numbers.proofs.parse.ShortDecimal.{room, one_more, all_read}
 use Rattle.numbers.proofs.parse.short.value.Goals as goal
 
-pub loop-i-init : goal.loop-i-init
-loop-i-init c = (search rules, omega arith, refl)
-
-pub returns-then-b-lt48 : goal.returns-then-b-lt48
-returns-then-b-lt48 c h = absurd (omega arith)
-
-pub returns-then-b-gt57 : goal.returns-then-b-gt57
-returns-then-b-gt57 c h = absurd (omega arith)
-
 pub overflow_mul-n : goal.overflow_mul-n
-overflow_mul-n c = omega (arith, room _ _ c.loop-i.invariant.1 (omega arith))
+overflow_mul-n c = omega (arith, room _ _ 17 c.loop-b.invariant.0 (omega arith))
 
 pub overflow_add-n : goal.overflow_add-n
-overflow_add-n c = omega (arith, room _ _ c.loop-i.invariant.1 (omega arith))
+overflow_add-n c = omega (arith, room _ _ 17 c.loop-b.invariant.0 (omega arith))
 
-pub loop-i-preserved : goal.loop-i-preserved
-loop-i-preserved c =
-    one_more _ _ _ c.loop-i.invariant.2 c.loop-i-test.true c.loop-i.invariant.1 c.if-b-lt48.false c.if-b-gt57.false
+pub loop-b-preserved : goal.loop-b-preserved
+loop-b-preserved c =
+    let digit = c.if-not-is_ascii_digit.ensures.cases in
+    one_more _ _ _ c.loop-b.invariant.1 c.loop-b-test.true c.loop-b.invariant.0 digit.0 digit.1
 
 pub returns : goal.returns
-returns c h = all_read _ _ _ c.loop-i.invariant.2 c.loop-i-test.false
+returns c = (omega (arith, room _ _ 18 c.loop-b.invariant.0 (omega arith)), all_read _ _ _ c.loop-b.invariant.1 c.loop-b-test.false)

@@ -1,7 +1,7 @@
--- `numbers::parse::mul_small` meets its contract: sums and products by parts of 32 bits.
+-- `mul_small` meets its contract: sums and products by parts of 32 bits.
 use Rattle.std.proofs.Common.{◌/◌, ◌%◌, ◌^◌, mul-le-mul_left, arith}
 use Rattle.numbers.proofs.parse.Product.{by_parts}
-use Rattle.numbers.proofs.parse.mul_small.Goals as goal
+use Rattle.numbers.proofs.parse.halves.mul_small.Goals as goal
 
 pub overflow_mul-lower : goal.overflow_mul-lower
 overflow_mul-lower c = omega (arith, mul-le-mul_left (c.args.x % 2 ^ 32) c.requires.0)
