@@ -51,11 +51,7 @@ pub(crate) fn put_concatenations(area: &mut [u8], heads: &[Concatenation])
     ensures { PutHeadsIs heads.now area.old area.new }
 {
     for (i, x) in heads.iter().enumerate() {
-        put_concatenation(
-            area,
-            limits::HEAD_SIZE + limits::CONCATENATION_SIZE * i,
-            *x,
-        );
+        put_concatenation(area, limits::HEAD_SIZE + limits::CONCATENATION_SIZE * i, *x);
     }
 }
 

@@ -112,20 +112,12 @@ impl Running {
     }
 
     // One component: 34, 30, 31, 32.
-    fn step(
-        self,
-        i: u32,
-        k: u32,
-        first: bool,
-        last: bool,
-        c: Component,
-    ) -> Result<Running, Refusal>
+    fn step(self, i: u32, k: u32, first: bool, last: bool, c: Component) -> Result<Running, Refusal>
         requires { Ordered c.c_type }
         ensures { (image : List ℕ) (t : TreeIn) (p : Placed Def.Component) → Is image t c p
             → stepped_of result ≡ step_of i k first last p.value (running_of self) }
     {
-        self.add_width(i, c.width)?
-            .check_type(i, k, first, last, c)
+        self.add_width(i, c.width)?.check_type(i, k, first, last, c)
     }
 
     // The check is altered by one component, and stays as it was where that is refused.

@@ -51,7 +51,7 @@ pub(crate) fn stage3(
     image: &[u8],
     c: u32,
 ) -> Result<(), Refusal>
-    requires { (cc : List (List (Placed Def.Component))) × CountsFit image.now cc c kept.now (length heads.old) }
+    requires { (ccs : List (List (Placed Def.Component))) × CountsFit image.now ccs c kept.now (length heads.old) }
     ensures { Stage3Is image.now kept.now c result heads.new }
 {
     let mut k = PVal(0);

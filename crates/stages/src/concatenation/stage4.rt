@@ -29,11 +29,7 @@ fn check_source(bare: bool, i: u32, x: Concatenation, kept: &[Component]) -> Res
 }
 
 // 41, 40.
-fn overall_of(
-    bare: bool,
-    heads: &[Concatenation],
-    kept: &[Component],
-) -> Result<Overall, Refusal>
+fn overall_of(bare: bool, heads: &[Concatenation], kept: &[Component]) -> Result<Overall, Refusal>
     requires { HeadsFit kept.now heads.now }
     ensures { (image : List ℕ) (ds : List Def.Concatenation) → HeadsAre image kept.now heads.now ds
         → answer_of result ≡ overall_from bare 0 ds (overall_start ds) }

@@ -16,7 +16,7 @@ fn above(n: Option<I128>, w: u32) -> bool
     ensures { result ≡ not (passes (λ x. int_le x (pos w)) (option_of n)) }
 {
     match n {
-        Some(x) => I128::from(w as usize).less(x),
+        Some(x) => I128::from(w as usize) < x,
         None => false,
     }
 }

@@ -45,13 +45,7 @@ fn with_x(s: Part, n: Option<I128>) -> Result<Usb, Reason>
 }
 
 // With a number on the right; l is the left side's, whose text is from s to p.
-fn number_right(
-    negative: bool,
-    p: PText,
-    s: PText,
-    l: Option<I128>,
-    r: I128,
-) -> Result<Usb, Reason>
+fn number_right(negative: bool, p: PText, s: PText, l: Option<I128>, r: I128) -> Result<Usb, Reason>
     requires { s.0 ≤ p.0 }
     ensures { (image : List ℕ) (t : TreeIn) (base : ℕ) → Between image t base s.0 p.0
         → option_of l ≡ number_in (text_in image t base s.0 p.0)
@@ -81,13 +75,7 @@ fn text_right(negative: bool, p: PText, s: PText, t: PText, l: Option<I128>) -> 
 }
 
 // Cut at the sign at p: the left side's text from s to p, the right side's from p + 1 to t.
-pub(crate) fn sides(
-    image: &[u8],
-    tree: Tree,
-    p: PText,
-    s: PText,
-    t: PText,
-) -> Result<Usb, Reason>
+pub(crate) fn sides(image: &[u8], tree: Tree, p: PText, s: PText, t: PText) -> Result<Usb, Reason>
     requires { (s.0 ≤ p.0) × (p.0 < t.0) × (tree.text + t.0 ≤ length image.now) }
     ensures { (base : ℕ) → base ≤ s.0 → UsbReads image.now tree base result (sides_in image.now tree base p.0 s.0 t.0) }
 {

@@ -4,7 +4,7 @@ ghost use Rattle.std.specs.Prelude.{◌≡◌, ℕ, ◌^◌, ◌<◌, ◌≤◌,
 ghost use Rattle.definition.specs.Text.{Item};
 ghost use Rattle.definition.specs.Ranges.{cut_bound};
 ghost use Rattle.stages.specs.token_tree.Laid.{Laid, Runs};
-ghost use Rattle.stages.specs.ranges.Signs.{Early, paired_by, signed_by, cut_of, cut_place, signs_in};
+ghost use Rattle.stages.specs.ranges.Signs.{Early, paired_by, signed_by, cut_place, signs_in};
 
 use crate::token_tree::{PBind, PText, Tree, behind, single, start_or};
 

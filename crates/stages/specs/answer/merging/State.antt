@@ -18,7 +18,8 @@ use Rattle.stages.specs.declared.answer.merging.Merging.{Merging}
 
 -- how many bits an open run has
 abbrev pub run_by : Run → Std.Option ℕ
-run_by o = elim o [ none ↦ None | some b ↦ Some (length (run_bits o)) ]
+run_by none = None
+run_by (some b) = Some (length (run_bits (some b)))
 
 -- `base` is the area without the open run's bits
 pub record Holds (base area : List ℕ) (s : Merging) (o : Run) : Type 0 where

@@ -1,3 +1,0 @@
--- Laws of the words of a component.
-pub mod Rowing
-pub mod Saving
