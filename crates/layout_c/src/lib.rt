@@ -10,16 +10,13 @@ ghost use Rattle.definition.specs.Run.{under, with_default};
 ghost use Rattle.layout_c.specs.Code.{coded_on, coded_with, tokens_coded, listed_in};
 ghost use Rattle.errors.specs.Refused.{number_in};
 
-use listing::Written;
-
 // The whole run, without a default: the answer's length, or, from 2^32 on, a refusal. The area at exit is the definition's.
 #[unsafe(no_mangle)]
 pub extern "C" fn layout_run(image: &[u8], mode: u32, area: &mut [u8]) -> u64
     ensures { (result, area.new) ≡ coded_on image.now (under mode) area.old }
 {
     let ran = stages::run::run(image, mode, b"", area);
-    let outcome = ran.outcome;
-    crate::outcome::coded(outcome)
+    crate::outcome::coded(ran.outcome)
 }
 
 // The same under a default, and where the starting value in force stands, as one number.
@@ -34,10 +31,8 @@ pub extern "C" fn layout_run_with(
     ensures { (result, area.new, told.new) ≡ coded_with image.now (with_default mode default.now) area.old }
 {
     let ran = stages::run::run(image, mode, default, area);
-    let start = ran.start;
-    let outcome = ran.outcome;
-    *told = crate::start::told(image, start);
-    crate::outcome::coded(outcome)
+    *told = crate::start::told(image, ran.start);
+    crate::outcome::coded(ran.outcome)
 }
 
 // The text that the program `layout` prints for an input, one mode byte and an image: its length, or 0 where it is longer than the
@@ -46,10 +41,7 @@ pub extern "C" fn layout_run_with(
 pub extern "C" fn layout_listing(input: &[u8], out: &mut [u8]) -> usize
     ensures { (result, out.new) ≡ listed_in input.now out.old }
 {
-    match output::answer(input, out) {
-        Written::Whole(n) => n,
-        Written::Cut => 0,
-    }
+    output::answer(input, out).unwrap_or(0)
 }
 
 // The layout editor's tokens as an image: its length, or, from 2^32 on, a refusal. The area at exit is the definition's.
