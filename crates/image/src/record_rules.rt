@@ -3,7 +3,7 @@ ghost use Rattle.std.specs.Prelude.{◌≡◌, ◌≤◌, true};
 ghost use Rattle.definition.specs.Basics.{within};
 ghost use Rattle.definition.specs.Image.{delimiter};
 ghost use Rattle.definition.specs.Check.{text_right, delimiter_right, word_right, close_right};
-ghost use Rattle.image.specs.record_rules.Rules.{entry_with, delimiter_of, skip_right, opener_right, spare_bits};
+ghost use Rattle.image.specs.record_rules.Rules.{entry_with, delimiter_of, skip_right, opener_right};
 
 // A record's numbers: its kind, where its text starts and stops, and its skip.
 #[derive(Clone, Copy)]
@@ -24,16 +24,6 @@ pub(crate) fn between(lo: u32, hi: u32, n: u32) -> bool
     ensures { result ≡ within lo hi n }
 {
     (lo..=hi).contains(&n)
-}
-
-// Whether the bits of a literal's last byte above the width are zero.
-pub(crate) fn spare_zero(last: u8, w: u32) -> bool
-    ensures { result ≡ spare_bits last w }
-{
-    if w % 8 == 0 {
-        return true;
-    }
-    (last as u32) < (1u32 << (w % 8))
 }
 
 // The delimiters of a group of this kind.

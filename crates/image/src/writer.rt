@@ -52,18 +52,22 @@ fn put_numbers(area: &mut [u8], at: usize, numbers: &[u32])
     }
 }
 
-// The row of a record.
+// The row of a record, made whole first: one test then says whether it fits.
 pub fn put_record(area: &mut [u8], at: usize, kind: u32, start: u32, skip: u32)
     ensures { area.new ≡ sets area.old at (record_row kind start skip) }
 {
-    put_numbers(area, at, &[kind, start, skip]);
+    let mut row = [0; 12];
+    put_numbers(&mut row, 0, &[kind, start, skip]);
+    put(area, at, &row);
 }
 
 // The row of a component: its number of records, and its literal's width.
 pub fn put_component(area: &mut [u8], at: usize, records: u32, width: u32)
     ensures { area.new ≡ sets area.old at (component_row records width) }
 {
-    put_numbers(area, at, &[records, width]);
+    let mut row = [0; 8];
+    put_numbers(&mut row, 0, &[records, width]);
+    put(area, at, &row);
 }
 
 // Bytes that may not all be there; a byte that is missing counts as 0.

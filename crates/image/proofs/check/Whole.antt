@@ -1,15 +1,14 @@
 -- Component after component, the places in an image that passed 2 to 4, and the whole check in its parts.
-use Rattle.std.specs.Prelude.{◌+◌, ◌&&◌}
+use Rattle.std.specs.Prelude.{◌+◌}
 use mathlib.Core.Path.{◌≡◌, refl, sym, ap, ◌∙◌}
 use Prim.Native.Nat.{◌<◌, ◌≤◌, ◌-◌}
 use native.Mathlib.Omega.{arith}
 use borrow.Author.Tests.{lt-leb, le-leb, ne_eqb}
-use Rattle.definition.specs.Prelude.{ℕ, Bool, true, false, List, map, length, leb, eqb}
-use Rattle.definition.specs.Basics.{Result, ok, refused, Refusal, refusal_of, sum, all, tab}
+use Rattle.definition.specs.Prelude.{ℕ, Bool, true, false, List, length, leb, eqb}
+use Rattle.definition.specs.Basics.{Result, ok, refused, Refusal, sum, tab}
 use Rattle.definition.specs.Refusals.{need, refuse, short_image, bad_count, bad_offset, bad_entry, bad_record}
-use Rattle.definition.specs.Image.{u32_at, bytes_for, counts, tables_for, tables, component_count, record_count, literal_width, start_at, entry_at}
-use Rattle.definition.specs.Check.{counts_right, offsets_right, spares_zero, entries_right, check_in, check_components, check_image}
-use Rattle.laws.specs.Tests.{tested}
+use Rattle.definition.specs.Image.{u32_at, counts, tables_for, record_count, start_at, entry_at}
+use Rattle.definition.specs.Check.{counts_right, offsets_right, entries_right, check_in, check_components, check_image}
 use Rattle.image.specs.declared.token_tree.Counts.{Counts}
 use Rattle.image.specs.declared.token_tree.Tables.{Tables}
 use Rattle.image.specs.token_tree.Tables.{counts_of, tables_of, tables_told, entry_in}

@@ -1,7 +1,7 @@
 -- Runs of bytes written into a list: over the part from a place on, whole or as far as it fits; at a place that is past the end; and
 -- numbers one next to the other.
-use Rattle.std.specs.Prelude.{◌≡◌, refl, ◌+◌, ◌-◌, ◌*◌, ◌≤◌, ◌<◌, ◌∷◌, ◌++◌, min}
-use Rattle.std.proofs.Common.{sym, ap, ◌∙◌, arith, length-take, append_assoc, append-nil, take-append-drop}
+use Rattle.std.specs.Prelude.{◌≡◌, refl, ◌+◌, ◌*◌, ◌≤◌, ◌<◌, ◌∷◌, ◌++◌, min}
+use Rattle.std.proofs.Common.{sym, ap, ◌∙◌, arith, length-take, append_assoc, take-append-drop}
 use Rattle.std.proofs.Math.Seq.{length-sets}
 use Rattle.std.proofs.lemmas.List.{take_more, map-append}
 use Rattle.std.proofs.lemmas.List.Edits.{sets, sets-eq}

@@ -1,7 +1,7 @@
 -- The parts of the image check, over numbers that were read already. Each is the definition's own where it is given what the image says.
-use Rattle.std.specs.Prelude.{◌≡◌, ◌≤◌, ◌+◌, ◌*◌, ◌/◌, ◌^◌, ◌&&◌, if◌then◌else◌}
+use Rattle.std.specs.Prelude.{◌≡◌, ◌≤◌, ◌+◌, ◌*◌, ◌/◌, ◌^◌, ◌&&◌}
 use Rattle.definition.specs.Prelude.{ℕ, Bool, List, map, length, get_or, leb, eqb}
-use Rattle.definition.specs.Basics.{Result, ok, refused, refusal_of, ◌>>=◌, within, sum, all, tab}
+use Rattle.definition.specs.Basics.{Result, ◌>>=◌, within, sum, all, tab}
 use Rattle.definition.specs.Limits.{limits}
 use Rattle.definition.specs.Refusals.{need, bad_record}
 use Rattle.definition.specs.Image.{u32_at, bytes_for, counts, tables, record_count, start_at, Entry}

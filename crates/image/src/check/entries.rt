@@ -6,7 +6,7 @@ ghost use Rattle.definition.specs.Check.{entries_right};
 ghost use Rattle.image.specs.check.Parts.{Laid, sizes_right, widths_right, spare_zero};
 
 use crate::token_tree::{Counts, Tables};
-use crate::words::four_at;
+use crate::words::{byte_at, four_at};
 
 // Whether n numbers, `step` bytes apart, are each at least 1 and have this sum.
 fn sizes_right(image: &[u8], from: usize, step: usize, n: u32, total: u32) -> bool
@@ -23,7 +23,7 @@ fn sizes_right(image: &[u8], from: usize, step: usize, n: u32, total: u32) -> bo
     right & (sum == (total as u64))
 }
 
-// Whether the bits of a last byte above the width are zero. A width of whole bytes has none, and no byte is read.
+// Whether the bits of a literal's last byte above the width are zero. A width of whole bytes has none, and no byte is read.
 fn spare_right(image: &[u8], at: usize, w: u32) -> bool
     requires { at ≤ 2 ^ 62 }
     ensures { result ≡ spare_zero image.now at w }
@@ -31,9 +31,11 @@ fn spare_right(image: &[u8], at: usize, w: u32) -> bool
     if w % 8 == 0 {
         return true;
     }
-    crate::record_rules::spare_zero(crate::token_tree::byte_at(image, at + (w as usize) / 8), w)
+    let last = byte_at(image, at + (w as usize) / 8);
+    (last as u32) < (1u32 << (w % 8))
 }
 
+// Whether the literals of n components have a right width, zero spare bits, and together this many bytes.
 fn widths_right(image: &[u8], components: usize, literals: usize, n: u32, total: u32) -> bool
     requires { (literals ≡ (tables image.now).literals) × (components + 8 * n ≤ length image.now) × (literals ≤ 2 ^ 40) }
     ensures { result ≡ widths_right image.now 0 (tab (λ i. u32_at image.now (components + 8 * i + 4)) 0 n) total }

@@ -1,5 +1,5 @@
 -- Test after test: the first that fails refuses.
-use Rattle.std.proofs.Common.{sym, ◌∙◌}
+use Rattle.std.proofs.Common.{◌∙◌}
 use Rattle.image.proofs.check.Whole.{too_short, miscounted, misplaced, wrong_entry, all_but_records}
 use Rattle.image.proofs.check.checked.Goals as goal
 

@@ -1,5 +1,5 @@
 -- What is past the end is left out.
-use Rattle.std.proofs.Common.{◌≡◌, sym, ap, ◌∙◌, arith, rules}
+use Rattle.std.proofs.Common.{sym, arith}
 use Rattle.laws.specs.Sets.{sets_past}
 use Rattle.image.proofs.writer.Runs.{run_whole, run_cut}
 use Rattle.image.proofs.writer.put.Goals as goal

@@ -1,6 +1,8 @@
+use Rattle.std.proofs.Common.{ap, ◌∙◌}
+use Rattle.std.proofs.lemmas.List.Edits.{sets}
 use Rattle.definition.specs.Basics.{joined}
 use Rattle.image.proofs.writer.put_component.Goals as goal
 
 pub returns : goal.returns
 unfolding joined
-returns c = c.put_numbers.ensures
+returns c = let a = c.args in c.put.ensures ∙ ap (sets a.area.now a.at) c.put_numbers.ensures

@@ -12,8 +12,7 @@ unfolding joined
 returns c =
     let l = c.args.area.now in
     let counts = counts_bytes (counts_of c.args.h) in
-    let told = c.tables_for-p.ensures in
-    (
+    let told = c.tables_for-p.ensures in (
       told,
       and_then l 0 20 counts (offsets_bytes (tables_of c.tables_for-p.result)) c.put_numbers.ensures refl
           (c.put_numbers-2.ensures ∙ (λ i. sets c.put_numbers.new.area 20

@@ -1,5 +1,5 @@
 -- The record checker: each way through the loop, by the laws of proofs/check/Groups.
-use Rattle.std.proofs.Common.{◌≡◌, Err, ℕ, ◌+◌, ◌<◌, Bool, List, get_or, sym, ap, ◌∙◌, arith, rules}
+use Rattle.std.proofs.Common.{◌≡◌, Err, ℕ, ◌+◌, Bool, List, get_or, sym, ap, ◌∙◌, arith}
 use Rattle.definition.specs.Check.{close_right}
 use Rattle.image.specs.declared.record_rules.Numbers.{Numbers}
 use Rattle.image.specs.token_tree.Tables.{entry_in}

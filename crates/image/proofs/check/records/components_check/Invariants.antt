@@ -1,6 +1,6 @@
 -- The loop's invariant: what the components that are left say, from record `from` on, all of them say.
 use mathlib.Core.Path.{◌≡◌}
-use Prim.Native.Nat.{◌+◌, ◌-◌, ◌≤◌}
+use Prim.Native.Nat.{◌+◌, ◌-◌}
 use Rattle.definition.specs.Basics.{sum, tab}
 use Rattle.definition.specs.Image.{record_count}
 use Rattle.definition.specs.Check.{check_components}
