@@ -1,6 +1,6 @@
 -- Lines, of the parts that are written one after the other.
-use Rattle.std.specs.Prelude.{◌≡◌, ◌+◌, ◌*◌, ◌∷◌, ◌++◌}
-use Rattle.std.proofs.Common.{refl, sym, ap, ◌∙◌, append_assoc}
+use Rattle.std.specs.Prelude.{◌≡◌, ◌∷◌, ◌++◌}
+use Rattle.std.proofs.Common.{sym, ap, ◌∙◌}
 use Rattle.definition.specs.Prelude.{ℕ, List, []}
 use Rattle.definition.specs.Basics.{ascii}
 use Rattle.definition.specs.Listing.{decimal, line, listing}

@@ -1,6 +1,6 @@
 -- The whole listing, written from the buffer's front on: what the buffer holds then, and whether all of it fitted.
 use Rattle.std.specs.Prelude.{◌≡◌, ◌≤◌, ◌<◌, ◌^◌, Some, None}
-use Rattle.std.proofs.Common.{refl, arith, ◌∙◌}
+use Rattle.std.proofs.Common.{arith, ◌∙◌}
 use Rattle.definition.specs.Prelude.{ℕ, List, length}
 use Rattle.listing.specs.writer.Put.{capped, Put, put_front, put_whole, put_cut, put_length}
 use Rattle.listing.specs.Outcomes.{filled, written_as}

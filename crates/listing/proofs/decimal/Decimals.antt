@@ -1,13 +1,12 @@
 -- The digits that are left to write.
-use Rattle.std.specs.Prelude.{◌+◌, ◌*◌, ◌-◌, ◌/◌, ◌%◌, ◌^◌, ◌∷◌, ◌++◌}
-use mathlib.Core.Path.{◌≡◌, refl, sym, ap, ◌∙◌}
+use Rattle.std.specs.Prelude.{◌+◌, ◌-◌, ◌/◌, ◌%◌, ◌^◌, ◌∷◌, ◌++◌}
+use mathlib.Core.Path.{◌≡◌, refl, sym, ◌∙◌}
 use mathlib.Core.List.{append_assoc}
 use Prim.Native.Nat.{◌≤◌, ◌<◌}
-use native.Mathlib.Nat.{div-add-mod'}
 use native.Mathlib.Omega.{arith}
-use borrow.Author.Tests.{le-ltb, ltb-true}
+use borrow.Author.Tests.{ltb-true}
 use Rattle.laws.specs.Tests.{by_test}
-use Rattle.definition.specs.Prelude.{ℕ, zero, suc, Bool, true, false, List, [], length, ltb}
+use Rattle.definition.specs.Prelude.{ℕ, zero, suc, true, false, List, [], length, ltb}
 use Rattle.definition.specs.Listing.{decimal_onto}
 use Rattle.listing.specs.writer.Writes.{Writes, ◌⨾◌, read_as, writes_none}
 use Rattle.listing.specs.declared.writer.Writer.{Writer}

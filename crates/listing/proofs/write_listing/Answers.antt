@@ -4,7 +4,7 @@ use Rattle.listing.proofs.Whole.{wrote_whole, wrote_cut}
 use Rattle.listing.proofs.write_listing.Goals as goal
 
 pub returns-then-w : goal.returns-then-w
-returns-then-w c = wrote_whole c.put_listing.ensures.put (search rules) c.if-w.true (omega arith)
+returns-then-w c = wrote_whole c.put_listing.ensures.put (search rules) (omega arith) (omega arith)
 
 pub returns-else-w : goal.returns-else-w
-returns-else-w c = wrote_cut c.put_listing.ensures.put (search rules) c.if-w.false
+returns-else-w c = wrote_cut c.put_listing.ensures.put (search rules) (omega arith)

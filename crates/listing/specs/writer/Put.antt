@@ -1,11 +1,12 @@
 -- Writing at a place of a buffer: as much as fits is written, and the place after it is counted up to 2^64 - 1, the greatest usize.
 use Rattle.std.specs.Prelude.{◌≡◌, refl, ◌≤◌, ◌<◌, min, set, ◌+◌, ◌-◌, ◌^◌, ◌∷◌, ◌++◌}
-use Rattle.std.proofs.Common.{sym, ap, ◌∙◌, append_assoc, append-nil, le_refl, zero-add, add-zero, add-suc, suc-add, add_assoc, arith, length-append, take-append-drop, drop_of_length-le, add-one, length-take-le, take_all, take-suc, le-leb, leb-true, leb-false}
-use Rattle.std.proofs.lemmas.List.Edits.{sets, sets-eq}
+use Rattle.std.proofs.Common.{sym, ap, ◌∙◌, append-nil, le_refl, add_assoc, arith, length-append, take-append-drop, drop_of_length-le, length-take-le, take_all, le-leb, leb-true, leb-false}
+use Rattle.std.proofs.lemmas.List.Edits.{sets}
 use Rattle.std.proofs.Math.Seq.{length-sets, set_out}
 use Rattle.std.proofs.lemmas.Bool.{lt-leb}
+use Rattle.laws.specs.Sets.{sets_append, sets_past, sets_front}
 use Rattle.laws.specs.Tests.{by_test}
-use Rattle.definition.specs.Prelude.{ℕ, true, false, suc, List, [], length, get_or, take, drop, leb}
+use Rattle.definition.specs.Prelude.{ℕ, true, false, List, [], length, take, drop, leb}
 
 -- a place, or the greatest usize where it is beyond
 abbrev pub capped : ℕ → ℕ
@@ -37,18 +38,6 @@ capped_within n m h =
 
 -- ---- the bytes
 
-pub sets_append : (l : List ℕ) (at : ℕ) (a b : List ℕ) → sets l at (a ++ b) ≡ sets (sets l at a) (at + length a) b
-sets_append l at [] b = rw add-zero
-sets_append l at (x ∷ a) b = rw (sets_append (set l at x) (suc at) a b, suc-add, add-suc)
-
-pub sets_out : (l : List ℕ) (at : ℕ) (bs : List ℕ) → length l ≤ at → sets l at bs ≡ l
-sets_out l at [] h = refl
-sets_out l at (x ∷ bs) h = rw (set_out l at x h) (sets_out l (suc at) bs (omega arith))
-
--- from the front, where they fit
-pub sets_front : (l bs : List ℕ) → length bs ≤ length l → sets l 0 bs ≡ bs ++ drop (length bs) l
-sets_front l bs h = sets-eq bs l 0 (omega arith) ∙ rw zero-add
-
 -- from the front, whether they fit or not
 pub sets_whole : (l bs : List ℕ) → sets l 0 bs ≡ take (length l) bs ++ drop (length bs) l
 sets_whole l bs =
@@ -64,15 +53,15 @@ sets_whole l bs =
         let front : sets l 0 (take n bs) ≡ take n bs =
         sets_front l (take n bs) (omega arith) ∙ rw (full, drop_of_length-le l (le_refl n), append-nil) in
         ap (sets l 0) (sym (take-append-drop n bs))
-        ∙ (sets_append l 0 (take n bs) (drop n bs)
-        ∙ (sets_out (sets l 0 (take n bs)) (0 + length (take n bs)) (drop n bs) (rw (length-sets, full) (omega arith))
+        ∙ (sym (sets_append l 0 (take n bs) (drop n bs))
+        ∙ (sets_past (sets l 0 (take n bs)) (0 + length (take n bs)) (drop n bs) (rw (length-sets, full) (omega arith))
         ∙ (front ∙ rw (drop_of_length-le l {i = length bs} (omega arith), append-nil))))
 
 sets_capped : (l : List ℕ) (at : ℕ) (bs : List ℕ) → length l < 2 ^ 63 → sets l (capped at) bs ≡ sets l at bs
 sets_capped l at bs h =
     by_test (leb at (2 ^ 64 - 1)) (λ t. let e : capped at ≡ at = omega (arith, leb-true at (2 ^ 64 - 1) t) in rw e) λ t.
     let q : 2 ^ 64 - 1 < at = omega (arith, leb-false at (2 ^ 64 - 1) t) in
-    sets_out l (capped at) bs (omega arith) ∙ sym (sets_out l at bs (omega arith))
+    sets_past l (capped at) bs (omega arith) ∙ sym (sets_past l at bs (omega arith))
 
 -- ---- writing
 
@@ -94,7 +83,7 @@ infixr 20 ◌⨾◌
 pub ◌⨾◌ : {l m o a b : List ℕ} {at r q : ℕ} → Put l at a m r → Put m r b o q → Put l at (a ++ b) o q
 ◌⨾◌ {l} {m} {o} {a} {b} {at} {r} {q} x y =
     record {
-      wrote = y.wrote ∙ rw (x.wrote, x.place, sets_append l at a b) (sets_capped (sets l at a) (at + length a) b (rw length-sets x.room));
+      wrote = y.wrote ∙ rw (x.wrote, x.place, ← sets_append l at a b) (sets_capped (sets l at a) (at + length a) b (rw length-sets x.room));
       place = y.place ∙ rw (x.place, length-append, ← add_assoc) (capped_add (at + length a) (length b));
       room = x.room;
     }

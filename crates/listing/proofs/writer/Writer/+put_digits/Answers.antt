@@ -11,5 +11,6 @@ pub returns : goal.returns
 returns t c =
     let (tenth, digit) = c.divide_by_ten-t.ensures in
     elim c.if-not-is_digit.branch [
-    then-not-is_digit w ↦ put_more c.args.steps _ _ _ (omega arith) (sym c.is_digit.ensures ∙ w.if-not-is_digit.true) tenth digit w.put_digits.ensures (rw w.self-is at c.put_byte.ensures)
-    | else-not-is_digit w ↦ put_last c.args.steps _ _ (omega arith) (sym c.is_digit.ensures ∙ w.if-not-is_digit.false) digit (rw w.self-is at c.put_byte.ensures) ]
+      | then-not-is_digit w ↦ put_more c.args.steps _ _ _ (omega arith) (sym c.is_digit.ensures ∙ w.if-not-is_digit.true) tenth digit w.put_digits.ensures (rw w.self-is at c.put_byte.ensures)
+      | else-not-is_digit w ↦ put_last c.args.steps _ _ (omega arith) (sym c.is_digit.ensures ∙ w.if-not-is_digit.false) digit (rw w.self-is at c.put_byte.ensures)
+    ]

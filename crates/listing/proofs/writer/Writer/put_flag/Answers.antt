@@ -8,5 +8,6 @@ pub returns : goal.returns
 unfolding ascii
 returns c =
     elim c.if-set.branch [
-    then-set w ↦ rw w.if-set.true (c.put_byte.ensures ⨾ (rw w.put_byte-is at c.put_byte-2.ensures))
-    | else-set w ↦ rw w.if-set.false (c.put_byte.ensures ⨾ (rw w.put_byte-is at c.put_byte-2.ensures)) ]
+      | then-set w ↦ rw w.if-set.true (c.put_byte.ensures ⨾ (rw w.put_byte-is at c.put_byte-2.ensures))
+      | else-set w ↦ rw w.if-set.false (c.put_byte.ensures ⨾ (rw w.put_byte-is at c.put_byte-2.ensures))
+    ]

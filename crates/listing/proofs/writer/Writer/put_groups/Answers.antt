@@ -14,10 +14,10 @@ loop-i-preserved c =
     record {
       within = omega (arith, c.stop_of-to.ensures, stop_within c.loop-i.k c.u32_at.result fields c.loop-i.invariant.within);
       written =
-        toward _ _
-        (group_next a.image.now a.bytes.now c.u32_at-groups.result fields c.loop-i.i c.loop-i.k c.stop_of-to.result c.loop-i-test.true c.loop-i.invariant.within
-        (rw c.u32_at.ensures at c.stop_of-to.ensures))
-        c.loop-i.invariant.written (c.put_group.ensures ⨾ c.put_fields.ensures);
+          toward _ _
+          (group_next a.image.now a.bytes.now c.u32_at-groups.result fields c.loop-i.i c.loop-i.k c.stop_of-to.result c.loop-i-test.true c.loop-i.invariant.within
+          (rw c.u32_at.ensures at c.stop_of-to.ensures))
+          c.loop-i.invariant.written (c.put_group.ensures ⨾ c.put_fields.ensures);
     }
 
 pub returns : goal.returns

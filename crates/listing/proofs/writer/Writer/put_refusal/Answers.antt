@@ -1,6 +1,6 @@
 -- `Writer::put_refusal` meets its contract.
 use Rattle.definition.specs.Basics.{ascii}
-use Rattle.definition.specs.Listing.{decimal, listing}
+use Rattle.definition.specs.Listing.{listing}
 use Rattle.listing.specs.writer.Writes.{◌⨾◌, read_as}
 use Rattle.listing.proofs.Lines.{refused_line}
 use Rattle.listing.proofs.writer.Writer.put_refusal.Goals as goal
