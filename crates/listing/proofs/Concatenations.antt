@@ -15,7 +15,6 @@ use Rattle.definition.specs.Basics.{tab, joined}
 use Rattle.definition.specs.Image.{u32_at}
 use Rattle.definition.specs.Answer.{concat_at, field_at}
 use Rattle.definition.specs.Listing.{field_line, concat_lines}
-use Rattle.listing.specs.digits.Put.{Put, ◌⨾◌, Toward, toward, toward_end}
 use Rattle.listing.specs.group.Line.{group_line}
 use Rattle.listing.specs.Outcomes.{stop_of}
 
@@ -74,16 +73,15 @@ pub field_next : (image s : List ℕ) (k to : ℕ) → k < to → field_lines im
 unfolding joined
 field_next image s k to h = ap (λ fs. joined (map field_line fs)) (tab_first (field_at image s) k to h)
 
-pub fields_end : {l m : List ℕ} {at r : ℕ} (image s : List ℕ) (from k to : ℕ) → to ≤ k → Toward l at (field_lines image s from to) (field_lines image s k to) m r
-    → Put l at (field_lines image s from to) m r
+pub fields_none : (image s : List ℕ) (k to : ℕ) → to ≤ k → field_lines image s k to ≡ []
 unfolding joined
-fields_end image s from k to h x = toward_end (ap (λ fs. joined (map field_line fs)) (tab_none (field_at image s) k to h)) x
+fields_none image s k to h = ap (λ fs. joined (map field_line fs)) (tab_none (field_at image s) k to h)
 
 abbrev pub groups_from : List ℕ → List ℕ → ℕ → ℕ → ℕ → ℕ → List ℕ
 groups_from image s groups fields i k = concat_lines i (tab (concat_at s) i (groups - i)) (tab (field_at image s) k (fields - k))
 
 module _ (image s : List ℕ) (groups fields i k : ℕ) where
-  group_next : (to : ℕ) → i < groups → k ≤ fields → to ≡ stop_of k (u32_at s (32 + 20 * i)) fields
+  pub group_next : (to : ℕ) → i < groups → k ≤ fields → to ≡ stop_of k (u32_at s (32 + 20 * i)) fields
       → groups_from image s groups fields i k ≡ (group_line i (concat_at s i) ++ field_lines image s k to) ++ groups_from image s groups fields (i + 1) to
   unfolding concat_lines
   group_next to h b e =
@@ -91,16 +89,13 @@ module _ (image s : List ℕ) (groups fields i k : ℕ) where
       ap (λ gs. concat_lines i gs (tab (field_at image s) k (fields - k))) (tab_first (concat_at s) i groups h)
       ∙ rw (p, q, ← e, ← add-one i, append_assoc)
 
-  pub groups_next : {l m n o whole : List ℕ} {at q r t : ℕ} (to u : ℕ) → i < groups → k ≤ fields → u ≡ u32_at s (32 + 20 * i) → to ≡ stop_of k u fields
-      → Toward l at whole (groups_from image s groups fields i k) m q → Put m q (group_line i (concat_at s i)) n r → Put n r (field_lines image s k to) o t
-      → Toward l at whole (groups_from image s groups fields (i + 1) to) o t
-  groups_next to u h b f e x y z = toward _ _ (group_next to h b (rw f at e)) x (y ⨾ z)
-
-  pub groups_end : {l m : List ℕ} {at r : ℕ} → groups ≡ u32_at s 0 → fields ≡ u32_at s 4 → groups ≤ i
-      → Toward l at (groups_from image s groups fields 0 0) (groups_from image s groups fields i k) m r
-      → Put l at (concat_lines 0 (tab (concat_at s) 0 (u32_at s 0)) (tab (field_at image s) 0 (u32_at s 4))) m r
+  pub groups_none : groups ≤ i → groups_from image s groups fields i k ≡ []
   unfolding concat_lines
-  groups_end e f h x =
-      let a : groups - 0 ≡ u32_at s 0 = omega arith in
-      let b : fields - 0 ≡ u32_at s 4 = omega arith in
-      rw (← a, ← b) (toward_end (ap (λ gs. concat_lines i gs (tab (field_at image s) k (fields - k))) (tab_none (concat_at s) i groups h)) x)
+  groups_none h = ap (λ gs. concat_lines i gs (tab (field_at image s) k (fields - k))) (tab_none (concat_at s) i groups h)
+
+pub groups_all : (image s : List ℕ) (groups fields : ℕ) → groups ≡ u32_at s 0 → fields ≡ u32_at s 4
+    → groups_from image s groups fields 0 0 ≡ concat_lines 0 (tab (concat_at s) 0 (u32_at s 0)) (tab (field_at image s) 0 (u32_at s 4))
+groups_all image s groups fields e f =
+    let a : groups - 0 ≡ u32_at s 0 = omega arith in
+    let b : fields - 0 ≡ u32_at s 4 = omega arith in
+    rw (a, b)

@@ -1,5 +1,5 @@
 -- Laws that the proofs cite.
 pub mod Components
 pub mod Concatenations
-pub mod Headings
+pub mod Lines
 pub mod Whole

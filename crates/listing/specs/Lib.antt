@@ -2,6 +2,6 @@
 pub mod Outcomes
 pub mod Parts
 pub mod Shown
-pub mod digits
 pub mod group
 pub mod words
+pub mod writer

@@ -4,55 +4,59 @@ ghost use Rattle.definition.specs.Basics.{tab, joined};
 ghost use Rattle.definition.specs.Image.{u32_at};
 ghost use Rattle.definition.specs.Answer.{concat_at, field_at};
 ghost use Rattle.definition.specs.Listing.{field_line, concat_lines};
-ghost use Rattle.listing.specs.digits.Put.{Put};
+ghost use Rattle.listing.specs.writer.Writes.{Writes};
+ghost use Rattle.listing.specs.group.Line.{group_line};
 ghost use Rattle.listing.specs.Outcomes.{stop_of};
 
-use crate::fields::put_field;
-use crate::group::put_group;
-use image::token_tree::u32_at;
+use crate::answer::Answer;
+use crate::writer::Writer;
 
 // Where `size` components from component k end, of `count`.
 fn stop_of(k: u32, size: u32, count: u32) -> u32
     requires { k ≤ count }
     ensures { result ≡ stop_of k size count }
 {
-    if size <= count - k { k + size } else { count }
+    k + size.min(count - k)
 }
 
-// The lines of the components from one to another.
-fn put_fields(out: &mut [u8], at: usize, image: &[u8], s: &[u8], from: u32, to: u32) -> usize
-    ensures { Put out.old at (joined (map field_line (tab (field_at image.now s.now) from (to - from)))) out.new result }
-{
-    let mut place = at;
-    let mut k = from;
-    while k < to {
-        place = put_field(out, place, image, s, k);
-        k += 1;
+impl Writer<'_> {
+    // The own line of concatenation i.
+    fn put_group(&mut self, a: &Answer, i: u32)
+        ensures { Writes self.old (group_line i (concat_at a.now.bytes.now i)) self.new }
+    {
+        let place = limits::HEAD_SIZE + limits::CONCATENATION_SIZE * (i as usize);
+        let size = a.u32_at(place);
+        let align = a.u32_at(place + 4);
+        let flags = a.u32_at(place + 8);
+        let width = a.width_at(place + 12);
+        self.put_byte(b'c');
+        self.put_count(i as u64);
+        self.put_count(size as u64);
+        self.put_summary(width, align, flags);
+        self.put_byte(b'\n');
     }
-    place
-}
 
-pub(crate) fn put_groups(out: &mut [u8], at: usize, image: &[u8], s: &[u8]) -> usize
-    ensures { Put out.old at (concat_lines 0 (tab (concat_at s.now) 0 (u32_at s.now 0)) (tab (field_at image.now s.now) 0 (u32_at s.now 4))) out.new result }
-{
-    let groups = u32_at(s, 0);
-    let fields = u32_at(s, 4);
-    let mut place = at;
-    let mut i: u32 = 0;
-    let mut k: u32 = 0;
-    while i < groups {
-        let to = stop_of(
-            k,
-            u32_at(
-                s,
-                limits::HEAD_SIZE + limits::CONCATENATION_SIZE * (i as usize),
-            ),
-            fields,
-        );
-        place = put_group(out, place, s, i);
-        place = put_fields(out, place, image, s, k, to);
-        k = to;
-        i += 1;
+    // The lines of the components from one to another.
+    fn put_fields(&mut self, a: &Answer, from: u32, to: u32)
+        ensures { Writes self.old (joined (map field_line (tab (field_at a.now.image.now a.now.bytes.now) from (to - from)))) self.new }
+    {
+        for k in from..to {
+            self.put_field(a, k);
+        }
     }
-    place
+
+    pub(crate) fn put_groups(&mut self, a: &Answer)
+        ensures { let s = a.now.bytes.now in Writes self.old (concat_lines 0 (tab (concat_at s) 0 (u32_at s 0)) (tab (field_at a.now.image.now s) 0 (u32_at s 4))) self.new }
+    {
+        let groups = a.u32_at(0);
+        let fields = a.u32_at(4);
+        let mut k: u32 = 0;
+        for i in 0..groups {
+            let place = limits::HEAD_SIZE + limits::CONCATENATION_SIZE * (i as usize);
+            let to = stop_of(k, a.u32_at(place), fields);
+            self.put_group(a, i);
+            self.put_fields(a, k, to);
+            k = to;
+        }
+    }
 }

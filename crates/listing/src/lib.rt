@@ -1,69 +1,64 @@
 // The listing of an outcome, written into a lent buffer.
 #![tactic(auto)]
 
-mod digits;
+mod answer;
+mod decimal;
 mod fields;
-mod group;
 mod groups;
 mod heads;
 mod refusal;
 mod text;
 mod words;
+mod writer;
 
 ghost use Rattle.std.specs.Prelude.{◌≡◌, length, take};
 ghost use Rattle.definition.specs.Answer.{read_answer};
 ghost use Rattle.definition.specs.Listing.{answer_lines};
-ghost use Rattle.listing.specs.digits.Put.{Put};
+ghost use Rattle.listing.specs.writer.Writes.{Writes};
 ghost use Rattle.listing.specs.Outcomes.{listing_of, filled, written_as};
 
-use crate::groups::put_groups;
-use crate::heads::put_head;
-use crate::refusal::put_refusal;
-use errors::Outcome;
+use crate::answer::Answer;
+use crate::writer::Writer;
+use errors::Refusal;
 
-// The listing's length, or that it is longer than the buffer.
-#[derive(Clone, Copy)]
-pub enum Written {
-    Whole(usize),
-    Cut,
-}
-
-// The lines of an answer.
-fn put_answer(out: &mut [u8], at: usize, image: &[u8], s: &[u8]) -> usize
-    ensures { Put out.old at (answer_lines (read_answer image.now s.now)) out.new result }
-{
-    let after = put_head(out, at, image, s);
-    put_groups(out, after, image, s)
-}
-
-// The lines of an answer that is the area's first n bytes.
-fn put_accepted(out: &mut [u8], image: &[u8], area: &[u8], n: usize) -> usize
-    ensures { Put out.old 0 (answer_lines (read_answer image.now (take n area.now))) out.new result }
-{
-    if n <= area.len() {
-        return put_answer(out, 0, image, &area[..n]);
+impl Writer<'_> {
+    // The lines of an answer.
+    fn put_answer(&mut self, a: &Answer)
+        ensures { Writes self.old (answer_lines (read_answer a.now.image.now a.now.bytes.now)) self.new }
+    {
+        self.put_head(a);
+        self.put_groups(a);
     }
-    put_answer(out, 0, image, area)
-}
 
-// The listing's length up to the greatest usize; as much of it as fits is written.
-fn put_listing(out: &mut [u8], image: &[u8], area: &[u8], outcome: Outcome) -> usize
-    ensures { Put out.old 0 (listing_of image.now area.now outcome) out.new result }
-{
-    match outcome {
-        Outcome::Accepted(n) => put_accepted(out, image, area, n),
-        Outcome::Refused(r) => put_refusal(out, 0, r),
+    // The listing; an answer is the area's first bytes.
+    fn put_listing(&mut self, image: &[u8], area: &[u8], outcome: Result<usize, Refusal>)
+        ensures { Writes self.old (listing_of image.now area.now outcome) self.new }
+    {
+        match outcome {
+            Ok(n) => {
+                let bytes = &area[..n.min(area.len())];
+                self.put_answer(&Answer { image, bytes });
+            }
+            Err(r) => self.put_refusal(r),
+        }
     }
 }
 
-// The buffer's bytes are the listing's as far as they reach, and those after it are untouched.
-pub fn write_listing(image: &[u8], area: &[u8], outcome: Outcome, out: &mut [u8]) -> Written
+// The listing's length, or None where it is longer than the buffer. The buffer's bytes are the listing's as far as they reach, and
+// those after it are untouched.
+pub fn write_listing(
+    image: &[u8],
+    area: &[u8],
+    outcome: Result<usize, Refusal>,
+    out: &mut [u8],
+) -> Option<usize>
     ensures { (out.new ≡ filled out.old (listing_of image.now area.now outcome)) × (result ≡ written_as (length (listing_of image.now area.now outcome)) (length out.old)) }
 {
-    let n = put_listing(out, image, area, outcome);
-    if n <= out.len() {
-        Written::Whole(n)
+    let mut w = Writer { out, at: 0 };
+    w.put_listing(image, area, outcome);
+    if w.at <= w.out.len() {
+        Some(w.at)
     } else {
-        Written::Cut
+        None
     }
 }

@@ -1,11 +1,12 @@
 // Hex and text. A byte that is missing counts as 0.
-ghost use Rattle.std.specs.Prelude.{◌≡◌, ◌&&◌, not, map, reverse, ◌+◌, ◌-◌, ◌<◌, eqb, get_or};
+ghost use Rattle.std.specs.Prelude.{◌≡◌, ◌&&◌, not, map, reverse, ◌<◌, eqb};
 ghost use Rattle.definition.specs.Basics.{within, joined};
 ghost use Rattle.definition.specs.Image.{bytes_at};
 ghost use Rattle.definition.specs.Listing.{hex_digit, hex, shown_byte, shown};
-ghost use Rattle.listing.specs.digits.Put.{Put};
+ghost use Rattle.listing.specs.writer.Writes.{Writes};
 
-use crate::digits::put_byte;
+use crate::writer::Writer;
+use image::token_tree::byte_on;
 
 fn hex_digit(d: u8) -> u8
     requires { d < 16 }
@@ -14,74 +15,47 @@ fn hex_digit(d: u8) -> u8
     if d < 10 { b'0' + d } else { b'a' + (d - 10) }
 }
 
-fn put_hex(out: &mut [u8], at: usize, b: u8) -> usize
-    ensures { Put out.old at (hex b) out.new result }
-{
-    let place = put_byte(out, at, hex_digit(b / 16));
-    put_byte(out, place, hex_digit(b % 16))
-}
-
 // 33 to 126, but for the backslash.
 fn is_plain(b: u8) -> bool
     ensures { result ≡ (within 33 126 b && not (eqb b 92)) }
 {
-    if b < 33 {
-        return false;
-    }
-    if 126 < b { false } else { b != b'\\' }
+    33 <= b && b <= 126 && b != b'\\'
 }
 
-// A byte of a text: as it is, or as a backslash and two digits.
-fn put_shown(out: &mut [u8], at: usize, b: u8) -> usize
-    ensures { Put out.old at (shown_byte b) out.new result }
-{
-    if is_plain(b) {
-        return put_byte(out, at, b);
+impl Writer<'_> {
+    fn put_hex(&mut self, b: u8)
+        ensures { Writes self.old (hex b) self.new }
+    {
+        self.put_byte(hex_digit(b / 16));
+        self.put_byte(hex_digit(b % 16));
     }
-    let place = put_byte(out, at, 92);
-    put_hex(out, place, b)
-}
 
-// The byte n places on, whatever the two numbers.
-fn byte_on(s: &[u8], at: usize, n: usize) -> u8
-    ensures { result ≡ get_or s.now (at + n) 0 }
-{
-    if s.len() <= at {
-        return 0;
+    // A byte of a text: as it is, or as a backslash and two digits.
+    fn put_shown(&mut self, b: u8)
+        ensures { Writes self.old (shown_byte b) self.new }
+    {
+        if is_plain(b) {
+            return self.put_byte(b);
+        }
+        self.put_byte(b'\\');
+        self.put_hex(b);
     }
-    if n < s.len() - at { s[at + n] } else { 0 }
-}
 
-// The text of `count` bytes from a place.
-pub(crate) fn put_text(out: &mut [u8], at: usize, s: &[u8], from: usize, count: usize) -> usize
-    ensures { Put out.old at (shown (bytes_at s.now from count)) out.new result }
-{
-    let mut place = at;
-    let mut i: usize = 0;
-    while i < count {
-        place = put_shown(out, place, byte_on(s, from, i));
-        i += 1;
+    // The text of `count` bytes from a place.
+    pub(crate) fn put_text(&mut self, s: &[u8], from: usize, count: usize)
+        ensures { Writes self.old (shown (bytes_at s.now from count)) self.new }
+    {
+        for i in 0..count {
+            self.put_shown(byte_on(s, from, i));
+        }
     }
-    place
-}
 
-// The place of byte i of `count`, the highest being byte 0.
-fn from_top(count: usize, i: usize) -> usize
-    requires { i < count }
-    ensures { result ≡ count - i - 1 }
-{
-    count - 1 - i
-}
-
-// `count` bytes from a place in hex, the highest first.
-pub(crate) fn put_number(out: &mut [u8], at: usize, s: &[u8], from: usize, count: usize) -> usize
-    ensures { Put out.old at (joined (map hex (reverse (bytes_at s.now from count)))) out.new result }
-{
-    let mut place = at;
-    let mut i: usize = 0;
-    while i < count {
-        place = put_hex(out, place, byte_on(s, from, from_top(count, i)));
-        i += 1;
+    // `count` bytes from a place in hex, the highest first.
+    pub(crate) fn put_number(&mut self, s: &[u8], from: usize, count: usize)
+        ensures { Writes self.old (joined (map hex (reverse (bytes_at s.now from count)))) self.new }
+    {
+        for i in (0..count).rev() {
+            self.put_hex(byte_on(s, from, i));
+        }
     }
-    place
 }

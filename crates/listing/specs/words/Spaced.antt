@@ -28,6 +28,10 @@ pub spaced_one : (v : List ℕ) → spaced (v ∷ []) ≡ 32 ∷ v
 unfolding spaced
 spaced_one v = rw append-nil
 
+pub two_spaced : (a b : List ℕ) → (32 ∷ []) ++ (a ++ ((32 ∷ []) ++ b)) ≡ spaced (a ∷ b ∷ [])
+unfolding spaced
+two_spaced a b = rw append-nil
+
 -- and ends with one more
 pub line_last : (ws : List (List ℕ)) (v : List ℕ) → spaced ws ++ ((32 ∷ v) ++ (10 ∷ [])) ≡ spaced (ws ++ (v ∷ [])) ++ (10 ∷ [])
 line_last ws v = sym (rw (spaced_append ws (v ∷ []), append_assoc, spaced_one v))

@@ -1,0 +1,19 @@
+-- `Writer::put_number` meets its contract.
+use Rattle.std.proofs.Common.{◌≡◌, arith, ◌∙◌, ap}
+use Rattle.listing.specs.writer.Writes.{toward_start, toward, toward_end}
+use Rattle.listing.proofs.text.Texts.{hexes, hexes_next, hexes_none}
+use Rattle.listing.proofs.writer.Writer.put_number.Goals as goal
+
+pub loop-i-init : goal.loop-i-init
+loop-i-init c = toward_start _ _ (omega arith)
+
+pub loop-i-preserved : goal.loop-i-preserved
+loop-i-preserved c =
+    let a = c.args in
+    toward _ _ (hexes_next a.s.now a.from c.loop-i.i (omega arith)) c.loop-i.invariant (rw c.byte_on.ensures at c.put_hex.ensures)
+
+pub returns : goal.returns
+returns c =
+    let a = c.args in
+    let e : c.loop-i.i ≡ 0 = omega arith in
+    toward_end (ap (hexes a.s.now a.from) e ∙ hexes_none a.s.now a.from) c.loop-i.invariant

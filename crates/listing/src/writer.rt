@@ -1,0 +1,29 @@
+// Writing bytes into a lent buffer: as much as fits; nothing is asked of a caller.
+ghost use Rattle.std.specs.Prelude.{[], ◌∷◌};
+ghost use Rattle.listing.specs.writer.Writes.{Writes};
+
+// The buffer, and the place in it to write at: one beyond its end where not all fitted, the greatest usize standing for all beyond it.
+#[derive(Drop)]
+pub(crate) struct Writer<'a> {
+    pub(crate) out: &'a mut [u8],
+    pub(crate) at: usize,
+}
+
+impl Writer<'_> {
+    pub(crate) fn put_byte(&mut self, b: u8)
+        ensures { Writes self.old (b ∷ []) self.new }
+    {
+        if self.at < self.out.len() {
+            self.out[self.at] = b;
+        }
+        self.at = self.at.saturating_add(1);
+    }
+
+    pub(crate) fn put_bytes(&mut self, s: &[u8])
+        ensures { Writes self.old s.now self.new }
+    {
+        for b in s {
+            self.put_byte(*b);
+        }
+    }
+}
