@@ -4,3 +4,4 @@ pub mod Ordered
 pub mod Outcomes
 pub mod Starting
 pub mod Force
+pub mod Judging

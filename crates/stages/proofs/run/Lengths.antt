@@ -18,8 +18,10 @@ use Rattle.answer_facts.specs.fits.Fixed.{AllFixed}
 use Rattle.answer_facts.specs.fits.Proved.{read_fixed}
 use Rattle.stages.specs.token_tree.Rows.{Sizes}
 use Rattle.stages.specs.token_tree.Grown.{Grown}
+use Rattle.stages.specs.component.Kept.{KeptFrom}
 use Rattle.stages.specs.component.Read.{first_stage, second_stage, two_stages}
 use Rattle.stages.specs.concatenation.Heads.{CountsFit}
+use Rattle.stages.specs.declared.component.types.Component.{Component as Now}
 use Rattle.stages.proofs.token_tree.Trees.{counts_fit}
 
 -- ---- what is read has as many parts
@@ -63,23 +65,25 @@ module _ (image : List ℕ) (g : Grown image) (cc : List (List (Placed Component
   lengths : map length cc ≡ map length g.tree
   lengths = two_lengths (tree_of image) cc h ∙ ap (λ (t : List (List (Placed Unparsed))). map length t) g.reads ∙ placed_lengths g.tree
 
-  pub counts_right_lem : (c words heads : ℕ) → c ≡ (counts image).c → 11 * (counts image).n ≤ words → 2 * c ≤ heads → CountsFit image cc c words heads
-  counts_right_lem c words heads e w l =
+  pub counts_right_lem : (c : ℕ) (kept : List Now) (heads : ℕ) → c ≡ (counts image).c → (counts image).n ≤ length kept → c ≤ heads → KeptFrom image kept 0 (joined cc)
+      → CountsFit image cc c kept heads
+  counts_right_lem c kept heads e w l a =
       let n : length cc ≡ length g.tree = sym (length-map cc length) ∙ ap length lengths ∙ length-map g.tree length in
       let m : length (joined cc) ≡ length (joined g.tree) = length_joined cc ∙ ap sum lengths ∙ sym (length_joined g.tree) in
-      let a = g.count in
+      let counted = g.count in
       let b = g.nodes in
       let s = g.some_concatenation in
       let f = g.few_concatenations in
       let k = g.few_components in
       let t = (counts_fit image g).0 in
       record {
-        count = omega (arith, n, a, e);
-        few = omega (arith, a, e, f);
+        count = omega (arith, n, counted, e);
+        few = omega (arith, counted, e, f);
         sizes = sizes_same image 0 g.tree cc lengths g.sizes;
-        some = omega (arith, a, e, s);
+        some = omega (arith, counted, e, s);
         table = omega (arith, e, t);
-        words_fit = omega (arith, m, b, w);
+        are = a;
+        kept_fit = omega (arith, m, b, w);
         heads_fit = l;
         few_components = omega (arith, m, k);
       }

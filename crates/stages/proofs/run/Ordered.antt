@@ -1,5 +1,6 @@
 -- The run in the order of the code: what it asks before the stages, the starting value, stages 1 and 2, and the later ones.
-use Rattle.std.specs.Prelude.{◌∷◌}
+use Rattle.std.specs.Prelude as Std
+use Rattle.std.specs.Prelude.{Ok, Err, ◌∷◌}
 use Rattle.std.proofs.Common.{◌≡◌, ◌<◌, sym, refl, ap, ◌∙◌, lt-ltb}
 use Rattle.definition.specs.Prelude.{ℕ, suc, Option, List, [], get_or, length, leb, ltb}
 use Rattle.definition.specs.Basics.{Result, ok, refused, ◌>>=◌, all}
@@ -16,8 +17,6 @@ use Rattle.prepared.specs.Statement.{Bytes}
 use Rattle.answer_facts.specs.stages.Statement.{later}
 use Rattle.answer_facts.specs.stages.Proved.{in_turn}
 use Rattle.errors.specs.Refused.{refused_as, result_of}
-use Rattle.errors.specs.declared.Checked.{Checked}
-use Rattle.errors.specs.declared.Checked.TheVariants as C
 use Rattle.errors.specs.declared.Refusal.{Refusal}
 use Rattle.stages.specs.admission.Asked.{admitted_of}
 use Rattle.stages.specs.component.Read.{first_stage, second_stage, two_stages}
@@ -66,21 +65,21 @@ fits_after image how area bytes h =
     let (u, c, n) = bind_ok (check_image image) _ g in
     record { grown = every_grown image (all_bytes image bytes) c; checked = c; room = (leb_iff _ _).0 (need_ok _ short_area n) }
 
-module _ (image : List ℕ) (told : Told) (area : List ℕ) (s : Checked) (said : result_of s ≡ admitted_of image (under told.mode) (length area)) where
-  pub entered : ((i : ℕ) → get_or image i 0 < 256) → s ≡ C.Passed → RunFits image (length area)
+module _ (image : List ℕ) (told : Told) (area : List ℕ) (s : Std.Result Unit Refusal) (said : result_of s ≡ admitted_of image (under told.mode) (length area)) where
+  pub entered : ((i : ℕ) → get_or image i 0 < 256) → s ≡ Ok tt → RunFits image (length area)
   entered bytes p = fits_after image (under told.mode) (length area) bytes (sym said ∙ ap result_of p)
 
   module _ (how : Choices) (st : StandsFor told how) where
     asked : result_of s ≡ admitted_of image (under how.mode) (length area)
     asked = said ∙ ap (λ m. admitted_of image (under m) (length area)) (sym st.mode)
 
-    pub whole_entered : s ≡ C.Passed → {r : Result ℕ × List ℕ} → r ≡ came_to area (bytes_of (stages how (tree_of image)))
+    pub whole_entered : s ≡ Ok tt → {r : Result ℕ × List ℕ} → r ≡ came_to area (bytes_of (stages how (tree_of image)))
         → r ≡ came_to area (run image how (length area))
     whole_entered p e =
         let ran : run image how (length area) ≡ bytes_of (stages how (tree_of image)) = run_after image how (length area) ∙ rw (← asked, p) in
         e ∙ ap (came_to area) (sym ran)
 
-    pub whole_refused : {q : Refusal} → s ≡ C.Refused q → (refused_as q, area) ≡ came_to area (run image how (length area))
+    pub whole_refused : {q : Refusal} → s ≡ Err q → (refused_as q, area) ≡ came_to area (run image how (length area))
     whole_refused {q} e =
         let ran : run image how (length area) ≡ refused_as q = run_after image how (length area) ∙ rw (← asked, e) in
         ap (came_to area) (sym ran)

@@ -1,8 +1,9 @@
 -- What the stages come to, way by way.
-use Rattle.std.specs.Prelude.{◌*◌, ◌&&◌, ◌||◌, ◌∷◌, if◌then◌else◌}
+use Rattle.std.specs.Prelude as Std
+use Rattle.std.specs.Prelude.{Some, None, Ok, Err, ◌&&◌, ◌||◌, ◌∷◌}
 use Rattle.std.proofs.Common.{◌≡◌, ◌≤◌, sym, refl, ap, ◌∙◌, ap₂, arith}
 use lib.Seq.{sets}
-use Rattle.definition.specs.Prelude.{ℕ, Bool, true, false, not, none, some, List, [], map, length, eqb, leb}
+use Rattle.definition.specs.Prelude.{ℕ, Bool, true, false, not, none, some, List, [], map, length, take, leb}
 use Rattle.definition.specs.Basics.{Result, ok, refused, ◌>>=◌, is_empty, within}
 use Rattle.definition.specs.Refusals.{short_image, bad_count}
 use Rattle.definition.specs.Image.{Placed, counts, tree_of}
@@ -18,25 +19,20 @@ use Rattle.laws.specs.Sets.{sets_front}
 use Rattle.laws.specs.Tests.{tested}
 use Rattle.answer_facts.specs.fits.Proved.{answer_fits}
 use Rattle.errors.specs.Refused.{refused_as, result_of}
-use Rattle.errors.specs.declared.Checked.{Checked}
-use Rattle.errors.specs.declared.Checked.TheVariants as C
-use Rattle.errors.specs.declared.Outcome.{Outcome}
 use Rattle.errors.specs.declared.Refusal.{Refusal}
 use Rattle.stages.specs.token_tree.Table.{tree_in}
-use Rattle.stages.specs.token_tree.Parts.{part_of}
-use Rattle.stages.specs.component.Start.{scanned_base}
+use Rattle.stages.specs.component.Start.{is_given, TextFits, scanned_base}
 use Rattle.stages.specs.component.Read.{verdict, two_stages, StagesAre}
-use Rattle.stages.specs.concatenation.Heads.{HeadsAre, CountsFit, Stage3Is, Judged}
+use Rattle.stages.specs.concatenation.Heads.{HeadsAre, HeadsFit, CountsFit, Stage3Is}
 use Rattle.stages.specs.concatenation.Overall.{answer_of}
 use Rattle.stages.specs.answer.Stage5.{comps_of, answer_from, Fitting, Answers, Stage5Is}
-use Rattle.stages.specs.run.Run.{StandsFor, came_to, bytes_of, RunFits, init_of, later_of, StartFits, behind_start, ReadFits, ReadAs, JudgedFits, JudgedAs}
-use Rattle.stages.specs.declared.token_tree.types.Tables.{Tables}
+use Rattle.stages.specs.run.Run.{StandsFor, came_to, bytes_of, RunFits, init_of, later_of, ReadFits, ReadAs, JudgedFits, JudgedAs}
+use Rattle.stages.specs.declared.component.types.Component.{Component as Now}
 use Rattle.stages.specs.declared.component.start.Start.{Start}
 use Rattle.stages.specs.declared.run.Choices.{Choices as Told}
 use Rattle.stages.specs.declared.concatenation.overall.Overall.{Overall}
-use Rattle.stages.specs.declared.concatenation.overall.OverallResult.{OverallResult}
-use Rattle.stages.specs.declared.concatenation.overall.OverallResult.TheVariants as R
-use Rattle.stages.proofs.concatenation.heads.Judging.{stage3_checked, judged_is}
+use Rattle.stages.specs.declared.concatenation.stage3.Concatenation.{Concatenation as Head}
+use Rattle.stages.proofs.run.Judging.{stage3_comps, stage3_length, heads_length}
 use Rattle.stages.proofs.run.Lengths.{counts_right_lem, all_fixed}
 use Rattle.stages.proofs.run.Ordered.{stages_two}
 use Rattle.stages.proofs.run.Starting.{base_small}
@@ -52,12 +48,12 @@ came_accepted : (before after : List ℕ) (m : Result Answer) (a : Answer) (n : 
     → after ≡ sets before 0 (answer_bytes a) → n ≡ length (answer_bytes a) → (ok n, after) ≡ came_to before (bytes_of m)
 came_accepted before after m a n e r x y = rw e (ap₂ (λ (i : ℕ) (l : List ℕ). (ok i, l)) y (x ∙ sets_front before (answer_bytes a) r))
 
--- a check in code that says whether a stage refuses
-module _ {A : Type 0} (m : Result A) (q : Checked) (said : result_of q ≡ verdict m) where
-  passed_ok : q ≡ C.Passed → (a : A) × (m ≡ ok a)
+-- a stage in code that says whether the definition's refuses
+module _ {A : Type 0} (m : Result A) (q : Std.Result Unit Refusal) (said : result_of q ≡ verdict m) where
+  passed_ok : q ≡ Ok tt → (a : A) × (m ≡ ok a)
   passed_ok p = let (a, e, _) = bind_ok m (λ _. ok tt) (sym said ∙ ap result_of p) in (a, e)
 
-  refused_too : (e : Refusal) → q ≡ C.Refused e → m ≡ refused_as e
+  refused_too : (e : Refusal) → q ≡ Err e → m ≡ refused_as e
   refused_too e p = go m (sym (ap result_of p) ∙ said)
     where
       go : (m : Result A) → refused_as {A = Unit} e ≡ verdict m → m ≡ refused_as e
@@ -67,67 +63,63 @@ module _ {A : Type 0} (m : Result A) (q : Checked) (said : result_of q ≡ verdi
 -- ---- the starting value
 
 module _ (image : List ℕ) (how : Choices) (before : List ℕ) where
-  pub staged_on : {t : Tables} {s : Start} → StartFits image t s → {r : Result ℕ × List ℕ} → r ≡ came_to before (bytes_of (behind_start image how s))
-      → r ≡ came_to before (bytes_of (stages how (tree_of image)))
-  staged_on {s = s} f h =
-      let e : stages how (tree_of image) ≡ behind_start image how s = stages_two how (tree_of image) ∙ rw f.is in
-      h ∙ ap (λ m. came_to before (bytes_of m)) (sym e)
-
-  pub staged_off : {e : Refusal} → starting_value 0 (source (tree_of image)) ≡ refused_as e
+  pub unstarted : {e : Refusal} → starting_value 0 (source (tree_of image)) ≡ refused_as e
       → (refused_as e, before) ≡ came_to before (bytes_of (stages how (tree_of image)))
-  staged_off {e} h = came_refused before (stages how (tree_of image)) e (stages_two how (tree_of image) ∙ rw h)
+  unstarted {e} h = came_refused before (stages how (tree_of image)) e (stages_two how (tree_of image) ∙ rw h)
 
 -- ---- stages 1 and 2
 
-module _ {image : List ℕ} {q : Checked} {words : List ℕ} (said : StagesAre image q words) where
-  pub read_fits : {t : Tables} {s : Start} → StartFits image t s → 11 * (counts image).n ≤ length words → q ≡ C.Passed → ReadFits image t.c s words
-  read_fits f l p =
-      let (cc, r) = passed_ok (two_stages (tree_of image)) q said.answer p in
-      record { count = ap (λ (x : Tables). x.c) f.tables_are; text = f.text; is = f.is; cc = cc; read = r; kept = said.kept cc r; long = l }
+module _ {image : List ℕ} {q : Std.Result Unit Refusal} {kept : List Now} (said : StagesAre image q kept) {s : Std.Option Start}
+    (is : starting_value 0 (source (tree_of image)) ≡ ok (init_of image s)) where
+  module _ (p : q ≡ Ok tt) where
+    pub read_fits : {c : ℕ} → c ≡ (counts image).c → TextFits image (tree_in image) (scanned_base image) s → (counts image).n ≤ length kept → ReadFits image c s kept
+    read_fits e t l =
+        let (cc, r) = passed_ok (two_stages (tree_of image)) q said.answer p in
+        record { count = e; text = t; is = is; cc = cc; read = r; are = said.are cc r; long = l }
 
-  module _ (how : Choices) (before : List ℕ) (s : Start) where
-    pub started_on : q ≡ C.Passed → {r : Result ℕ × List ℕ}
+    pub staged_on : (how : Choices) (before : List ℕ) {r : Result ℕ × List ℕ}
         → ((cc : List (List (Placed Component))) → two_stages (tree_of image) ≡ ok cc → r ≡ came_to before (bytes_of (later_of image how s cc)))
-        → r ≡ came_to before (bytes_of (behind_start image how s))
-    started_on p h = let (cc, r) = passed_ok (two_stages (tree_of image)) q said.answer p in rw r (h cc r)
+        → r ≡ came_to before (bytes_of (stages how (tree_of image)))
+    staged_on how before h =
+        let (cc, r) = passed_ok (two_stages (tree_of image)) q said.answer p in
+        let e : stages how (tree_of image) ≡ later_of image how s cc = stages_two how (tree_of image) ∙ rw (is, r) in
+        h cc r ∙ ap (λ m. came_to before (bytes_of m)) (sym e)
 
-    pub started_off : {e : Refusal} → q ≡ C.Refused e → (refused_as e, before) ≡ came_to before (bytes_of (behind_start image how s))
-    started_off {e} p = came_refused before (behind_start image how s) e (rw (refused_too (two_stages (tree_of image)) q said.answer e p))
+  pub staged_off : (how : Choices) (before : List ℕ) {e : Refusal} → q ≡ Err e → (refused_as e, before) ≡ came_to before (bytes_of (stages how (tree_of image)))
+  staged_off how before {e} p =
+      came_refused before (stages how (tree_of image)) e
+      (stages_two how (tree_of image) ∙ rw (is, refused_too (two_stages (tree_of image)) q said.answer e p))
 
 -- ---- stage 3
 
-module _ {image : List ℕ} {area : ℕ} (fits : RunFits image area) {c : ℕ} {s : Start} {words : List ℕ} (f : ReadFits image c s words) where
-  pub read_counts : (heads : ℕ) → 2 * c ≤ heads → CountsFit image f.cc c (length words) heads
-  read_counts heads l = counts_right_lem image fits.grown f.cc f.read c (length words) heads f.count f.long l
+module _ {image : List ℕ} {area : ℕ} (fits : RunFits image area) {c : ℕ} {s : Std.Option Start} {kept : List Now} (f : ReadFits image c s kept) where
+  pub read_counts : (heads : ℕ) → c ≤ heads → CountsFit image f.cc c kept heads
+  read_counts heads l = counts_right_lem image fits.grown f.cc f.read c kept heads f.count f.long l f.are
 
-  pub few_heads : 2 * c ≤ 32
+  pub few_heads : c ≤ 16
   few_heads = let k = fits.grown.few_concatenations in let n = fits.grown.count in let e = f.count in omega (arith, k, n, e)
 
-  module _ (heads : List ℕ) (long : length heads ≡ 32) (q : Checked) (said : Stage3Is image words c q heads) where
-    fit : 2 * c ≤ length heads
-    fit = rw long few_heads
+  module _ (heads : List Head) (q : Std.Result Unit Refusal) (said : Stage3Is image kept c q heads) where
+    told : (result_of q ≡ verdict (stage3 0 f.cc)) × ((ds : List Concatenation) → stage3 0 f.cc ≡ ok ds → HeadsAre image kept (take c heads) ds)
+    told = let k = read_counts 16 few_heads in said f.cc k.count k.sizes f.are
 
-    told : (result_of q ≡ verdict (stage3 0 f.cc)) × ((ds : List Concatenation) → stage3 0 f.cc ≡ ok ds → HeadsAre heads ds)
-    told = let k = read_counts (length heads) fit in said f.cc k.count k.sizes f.kept
-
-    pub judged_fits : q ≡ C.Passed → JudgedFits image c s heads words
+    pub judged_fits : q ≡ Ok tt → JudgedFits image s (take c heads) kept
     judged_fits p =
         let (ds, r) = passed_ok (stage3 0 f.cc) q told.0 p in
-        record { read = f; ds = ds; checked = r; heads_are = told.1 ds r; heads_long = fit }
+        record { c = c; read = f; ds = ds; checked = r; are = told.1 ds r }
 
-    pub kept_on : (how : Told) (before : List ℕ) → q ≡ C.Passed → (o : Outcome) (after : List ℕ) → JudgedAs image how c s heads words o before after
-        → ReadAs image how c s words o before after
-    kept_on how before p o after h call st cc e =
+    pub later_on : (how : Told) (before : List ℕ) → q ≡ Ok tt → (o : Std.Result ℕ Refusal) (after : List ℕ) → JudgedAs image how s (take c heads) kept o before after
+        → ReadAs image how s kept o before after
+    later_on how before p o after h call st cc e =
         let (ds, r) = passed_ok (stage3 0 f.cc) q told.0 p in
         let same : f.cc ≡ cc = ok_same f.read e in
         h call st cc ds e (rw (← same) r)
 
-    module _ (how : Choices) (before : List ℕ) where
-      pub kept_off : {e : Refusal} → q ≡ C.Refused e → (cc : List (List (Placed Component))) → two_stages (tree_of image) ≡ ok cc
-          → (refused_as e, before) ≡ came_to before (bytes_of (later_of image how s cc))
-      kept_off {e} p cc r =
-          let same : f.cc ≡ cc = ok_same f.read r in
-          came_refused before (later_of image how s cc) e (rw (← same, refused_too (stage3 0 f.cc) q told.0 e p))
+    pub later_off : (how : Choices) (before : List ℕ) {e : Refusal} → q ≡ Err e → (cc : List (List (Placed Component))) → two_stages (tree_of image) ≡ ok cc
+        → (refused_as e, before) ≡ came_to before (bytes_of (later_of image how s cc))
+    later_off how before {e} p cc r =
+        let same : f.cc ≡ cc = ok_same f.read r in
+        came_refused before (later_of image how s cc) e (rw (← same, refused_too (stage3 0 f.cc) q told.0 e p))
 
 -- ---- stages 4 and 5
 
@@ -142,12 +134,9 @@ few_bytes image h =
     let k = counts image in
     few k.c k.n k.r k.t k.b e
 
-given_is : (image : List ℕ) (s : Start) → (elim (init_of image s) [ none ↦ false | some q ↦ true ]) ≡ not (eqb s.after.0 0)
-given_is image s = go (eqb s.after.0 0) (record { base = scanned_base image; value = part_of image (tree_in image) (scanned_base image) s.s })
-  where
-    go : (t : Bool) (p : Placed Part) → ◌≡◌ {A = Bool} (elim (if t then none else some p) [ none ↦ false | some q ↦ true ]) (not t)
-    go true p = refl
-    go false p = refl
+given_is : (image : List ℕ) (s : Std.Option Start) → (elim (init_of image s) [ none ↦ false | some q ↦ true ]) ≡ is_given s
+given_is image None = refl
+given_is image (Some s) = refl
 
 -- the stages' own choices stand for those of some call
 some_choices : (told : Told) → (how : Choices) × StandsFor told how
@@ -161,40 +150,44 @@ some_choices told = (record { mode = told.mode; default = bytes told.held }, rec
     is true = refl
     is false = refl
 
-module _ {image : List ℕ} (before : List ℕ) (fits : RunFits image (length before)) {c : ℕ} {s : Start} {heads words : List ℕ}
-    (f : JudgedFits image c s heads words) where
-  pub judged_counts : CountsFit image f.read.cc c (length words) (length heads)
-  judged_counts = read_counts fits f.read (length heads) f.heads_long
+module _ {image : List ℕ} (before : List ℕ) (fits : RunFits image (length before)) {s : Std.Option Start} {heads : List Head} {kept : List Now}
+    (f : JudgedFits image s heads kept) where
+  counted : CountsFit image f.read.cc f.c kept 16
+  counted = read_counts fits f.read 16 (few_heads fits f.read)
 
   comps : comps_of f.ds ≡ f.read.cc
-  comps = (stage3_checked 0 f.read.cc f.ds f.checked judged_counts.few_components).1
+  comps = stage3_comps 0 f.read.cc f.ds f.checked
 
-  judged : Judged image words heads c f.ds
-  judged =
-      judged_is image words heads c f.read.cc f.ds f.checked judged_counts.count judged_counts.few_components judged_counts.sizes
-      f.read.kept f.heads_are
+  long : length heads ≡ f.c
+  long = let e = heads_length image kept heads f.ds f.are in let n = stage3_length 0 f.read.cc f.ds f.checked in let k = counted.count in omega (arith, e, n, k)
 
-  module _ (told : Told) (start : Bool) (has : start ≡ (not (eqb s.after.0 0) || told.held)) (q : OverallResult)
-      (said : (ds : List Concatenation) → Judged image words heads c ds → answer_of q ≡ stage4 told.mode start ds) where
+  pub judged_heads : HeadsFit kept heads
+  judged_heads =
+      let k = counted in
+      let l = long in
+      record { image = image; ds = f.ds; are = f.are; some = omega (arith, l, k.some); few = omega (arith, l, k.few) }
+
+  module _ (told : Told) (start : Bool) (has : start ≡ (is_given s || told.held)) (q : Std.Result Overall Refusal)
+      (said : (image : List ℕ) (ds : List Concatenation) → HeadsAre image kept heads ds → answer_of q ≡ stage4 told.mode start ds) where
     judged_later : (how : Choices) → StandsFor told how → later_of image how s f.read.cc
         ≡ (answer_of q >>= λ o. ok (record { init = init_of image s; overall = o; cc = map merged f.ds }))
-    judged_later how st = rw (f.checked, given_is image s, st.held, st.mode, ← has, said f.ds judged)
+    judged_later how st = rw (f.checked, given_is image s, st.held, st.mode, ← has, said image f.ds f.are)
 
-    pub judged_off : {e : Refusal} → q ≡ R.Refused e → (how : Choices) → StandsFor told how
+    pub judged_off : {e : Refusal} → q ≡ Err e → (how : Choices) → StandsFor told how
         → (cc : List (List (Placed Component))) (ds : List Concatenation) → two_stages (tree_of image) ≡ ok cc → stage3 0 cc ≡ ok ds
         → (refused_as e, before) ≡ came_to before (bytes_of (later_of image how s cc))
     judged_off {e} p how st cc ds r t =
         let same : f.read.cc ≡ cc = ok_same f.read.read r in
         came_refused before (later_of image how s cc) e (rw (← same) (judged_later how st ∙ rw p))
 
-    module _ {o : Overall} (is : q ≡ R.Ok o) where
+    module _ {o : Overall} (is : q ≡ Ok o) where
       abbrev a : Answer
       a = answer_from image (scanned_base image) s o f.ds
 
       accepted : (how : Choices) → StandsFor told how → later_of image how s f.read.cc ≡ ok a
       accepted how st = judged_later how st ∙ rw is
 
-      fitting : Fitting c (length before) a
+      fitting : Fitting (length heads) (length before) a
       fitting =
           let (how, st) = some_choices told in
           let g = answer_fits image fits.checked how a (stages_two how (tree_of image) ∙ rw (f.read.is, f.read.read) (accepted how st)) in
@@ -206,27 +199,26 @@ module _ {image : List ℕ} (before : List ℕ) (fits : RunFits image (length be
           let k = fits.grown.nodes in
           let x = fits.grown.few_components in
           record {
-            concatenations = g.concatenations ∙ sym f.read.count;
+            concatenations = g.concatenations ∙ sym f.read.count ∙ sym long;
             merged_few = omega (arith, n, k, x);
             literals = omega (arith, l, b);
             size = g.size;
             room = omega (arith, r, w);
           }
 
-      pub answers : Answers image words heads c (scanned_base image) o s (length before) f.ds
+      pub answers : Answers image kept heads (scanned_base image) o s (length before) f.ds
       answers =
           record {
-            judged = judged;
+            are = f.are;
             fixed = rw comps (all_fixed image fits.checked f.read.cc f.read.read);
             start = f.read.text;
             small = base_small image fits.grown;
-            table = judged_counts.table;
-            few = judged_counts.few;
-            few_components = rw comps judged_counts.few_components;
+            few = judged_heads.few;
+            few_components = rw comps counted.few_components;
             fitting = fitting;
           }
 
-      pub judged_on : (r : ℕ) (after : List ℕ) → Stage5Is image words heads c o s r before after → (how : Choices) → StandsFor told how
+      pub judged_on : (r : ℕ) (after : List ℕ) → Stage5Is image kept heads o s r before after → (how : Choices) → StandsFor told how
           → (cc : List (List (Placed Component))) (ds : List Concatenation) → two_stages (tree_of image) ≡ ok cc → stage3 0 cc ≡ ok ds
           → (ok r, after) ≡ came_to before (bytes_of (later_of image how s cc))
       judged_on r after h how st cc ds e t =

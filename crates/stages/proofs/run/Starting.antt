@@ -1,8 +1,9 @@
 -- The text of the component that is scanned for a starting value begins within the image.
-use Rattle.std.specs.Prelude.{◌+◌, ◌*◌, ◌-◌, ◌∷◌, ◌++◌}
+use Rattle.std.specs.Prelude as Std
+use Rattle.std.specs.Prelude.{Ok, Err, ◌+◌, ◌*◌, ◌-◌, ◌∷◌, ◌++◌}
 use Rattle.std.proofs.Common.{◌≡◌, ◌<◌, ◌≤◌, sym, subst, add-zero, add_assoc, zero-add, arith, length-append, ne_eqb}
 use Rattle.definition.specs.Prelude.{ℕ, zero, suc, List, [], length}
-use Rattle.definition.specs.Basics.{sum, joined, tab}
+use Rattle.definition.specs.Basics.{ok, sum, joined, tab}
 use Rattle.definition.specs.Image.{u32_at, bytes_for, counts, component_count, tree_of}
 use Rattle.definition.specs.Tree.{Tree, Node, recs_of, text_of}
 use Rattle.definition.specs.Component.{starting_value, source}
@@ -11,12 +12,10 @@ use Rattle.errors.specs.declared.Refusal.{Refusal}
 use Rattle.stages.specs.token_tree.Table.{start_in, tree_in, tables_in}
 use Rattle.stages.specs.token_tree.Rows.{Rows, Sizes}
 use Rattle.stages.specs.token_tree.Grown.{Grown}
-use Rattle.stages.specs.component.Start.{records_before, scanned_record, scanned_base, AfterTree, StartReads}
-use Rattle.stages.specs.run.Run.{StartFits}
+use Rattle.stages.specs.component.Start.{records_before, scanned_record, scanned_base, after_of, TextFits, AfterTree, StartReads}
+use Rattle.stages.specs.run.Run.{init_of}
 use Rattle.stages.specs.declared.token_tree.types.Tables.{Tables}
 use Rattle.stages.specs.declared.component.start.Start.{Start}
-use Rattle.stages.specs.declared.component.start.StartResult.{StartResult}
-use Rattle.stages.specs.declared.component.start.StartResult.TheVariants as S
 use Rattle.stages.proofs.token_tree.Roots.{rows_cons, rows_order, rows_start}
 
 module _ (image : List ℕ) (t : Tables) where
@@ -57,14 +56,17 @@ base_small image g =
 
 -- ---- the starting value that is found, or refused
 
-module _ {image : List ℕ} {q : StartResult} (said : (g : Grown image) → StartReads image g.tree q) (g : Grown image) where
-  pub start_fits : {t : Tables} {s : Start} → t ≡ tables_in image → q ≡ S.Ok s → StartFits image t s
-  start_fits e p =
-      record { tables_are = e; after = λ h. (rw p at (said h).held).0; text = (rw p at (said g).held).1; is = sym (rw p at (said g).is) }
+module _ {image : List ℕ} {q : Std.Result (Std.Option Start) Refusal} (said : (g : Grown image) → StartReads image g.tree q) (g : Grown image) where
+  module _ {s : Std.Option Start} (p : q ≡ Ok s) where
+    pub start_text : TextFits image (tree_in image) (scanned_base image) s
+    start_text = (rw p at (said g).held).1
 
-  pub start_refused : {e : Refusal} → q ≡ S.Refused e → starting_value 0 (source (tree_of image)) ≡ refused_as e
+    pub start_is : starting_value 0 (source (tree_of image)) ≡ ok (init_of image s)
+    start_is = sym (rw p at (said g).is)
+
+    -- what stage 1 asks of it
+    pub start_after : {t : Tables} → t ≡ tables_in image → AfterTree image t.tree (after_of s) 0 0 g.tree
+    start_after e = rw e ((rw p at (said g).held).0)
+
+  pub start_refused : {e : Refusal} → q ≡ Err e → starting_value 0 (source (tree_of image)) ≡ refused_as e
   start_refused p = sym (rw p at (said g).is)
-
--- what stage 1 asks of it
-pub start_after : {image : List ℕ} {t : Tables} {s : Start} → StartFits image t s → (g : Grown image) → AfterTree image t.tree s.after.0 0 0 g.tree
-start_after f g = rw f.tables_are (f.after g)

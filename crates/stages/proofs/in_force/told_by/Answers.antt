@@ -1,9 +1,9 @@
 use Rattle.std.proofs.Common.{sym, ap, ◌∙◌}
-use Rattle.errors.specs.Refused.{outcome_of}
+use Rattle.errors.specs.Refused.{result_of}
 use Rattle.stages.specs.in_force.InForce.{told_by}
 use Rattle.stages.proofs.in_force.told_by.Goals as goal
 
-pub returns-in-Accepted : goal.returns-in-Accepted
-returns-in-Accepted c =
+pub returns-in-Ok : goal.returns-in-Ok
+returns-in-Ok c =
     let a = c.args in
-    c.told_in.ensures ∙ sym (ap (λ o. told_by a.image.now a.answer.now (outcome_of o)) c.in-Accepted.is)
+    c.told_in.ensures ∙ sym (ap (λ o. told_by a.image.now a.answer.now (result_of o)) c.in-Ok.is)
