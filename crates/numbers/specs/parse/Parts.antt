@@ -16,4 +16,3 @@ capped_option (some n) = capped n
 
 abbrev pub negated : ℕ → ℤ
 negated n = neg_ℤ (pos n)
-
