@@ -1,36 +1,10 @@
--- Two halves in a base B: carry and borrow are shown for one half, and cited for the low and for the high one.
+-- Two halves in a base B: what the carries or borrows of the halves say of the whole.
 -- Assumes nothing.
-use Rattle.std.proofs.Common.{◌≡◌, ℕ, zero, suc, ◌+◌, ◌*◌, ◌^◌, ◌<◌, ◌≤◌, Bool, true, false, ◌⊎◌, refl, ap, inl, inr, mul-le-mul_right, mul_assoc, suc-mul, add-mul, arith}
+use Rattle.std.proofs.Common.{◌≡◌, ℕ, zero, suc, ◌+◌, ◌*◌, ◌<◌, ◌≤◌, Bool, true, false, ◌⊎◌, refl, ap, inl, inr, mul-le-mul_right, mul_assoc, suc-mul, add-mul, arith}
 
 pub by_test : {G : Type 0} (t : Bool) → (t ≡ true → G) → (t ≡ false → G) → G
 by_test true f g = f refl
 by_test false f g = g refl
-
--- a multiple of B that is below 2B
-bit : (B n x : ℕ) → n * B ≤ x → x < B + B → n ≤ 1
-bit B zero x h k = omega arith
-bit B (suc zero) x h k = omega arith
-bit B (suc (suc n)) x h k = absurd (go (n * B) (suc-mul (suc n) B) (suc-mul n B))
-  where
-    go : (p : ℕ) → suc (suc n) * B ≡ suc n * B + B → suc n * B ≡ p + B → ⊥
-    go p e f = omega arith
-
--- the two carries of one half
-pub two_bits : (d e : ℕ) → d ≤ 1 → e ≤ 1 → d + e < 2 ^ 64
-two_bits d e h k = omega arith
-
-module _ (B a b c s d t e : ℕ) where
-  -- a + b + c in two steps, each with a carry
-  pub carried : s + d * B ≡ a + b → t + e * B ≡ s + c → a < B → b < B → c ≤ 1 → (t + (d + e) * B ≡ a + b + c) × (d + e ≤ 1)
-  carried p q ha hb hc =
-      let m : (d + e) * B ≡ d * B + e * B = add-mul d e B in
-      (omega arith, bit B (d + e) (a + b + c) (omega arith) (omega arith))
-
-  -- a - b - c in two steps, each with a borrow
-  pub borrowed : s + b ≡ a + d * B → t + c ≡ s + e * B → t < B → b < B → c ≤ 1 → (t + (b + c) ≡ a + (d + e) * B) × (d + e ≤ 1)
-  borrowed p q ht hb hc =
-      let m : (d + e) * B ≡ d * B + e * B = add-mul d e B in
-      (omega arith, bit B (d + e) (t + (b + c)) (omega arith) (omega arith))
 
 -- what the carry of the high half says of the whole
 whole : (M t s d : ℕ) → t + d * M ≡ s → d ≤ 1 → (t ≡ s) ⊎ (t + M ≡ s)

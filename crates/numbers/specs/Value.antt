@@ -4,7 +4,7 @@ use Rattle.std.specs.Prelude as Std
 use Rattle.std.specs.Prelude.{Some, None, ◌≡◌, refl, ◌+◌, ◌*◌, ◌-◌, ◌^◌, ◌∷◌, if◌then◌else◌}
 use Rattle.numbers.specs.declared.I128.{I128}
 
-abbrev two : ℕ → ℕ → I128
+abbrev pub two : ℕ → ℕ → I128
 two h l = record { high = h; low = l }
 
 -- all bits as one number without a sign
@@ -25,7 +25,7 @@ abbrev pub option_of : Std.Option I128 → Option ℤ
 option_of (Some w) = some (value_of w)
 option_of None = none
 
--- Option<usize>
+-- Option<usize>, and Option<u64>
 abbrev pub option_usize : Std.Option ℕ → Option ℕ
 option_usize (Some n) = some n
 option_usize None = none

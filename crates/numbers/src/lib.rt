@@ -11,7 +11,7 @@ ghost use Rattle.std.specs.Int.Signed.{non_neg};
 ghost use Rattle.std.specs.Cmp.{partial_order_from_own_ties};
 ghost use Rattle.std.specs.Cmp.Rules.{comparing};
 ghost use Rattle.std.specs.Ordering.{int_cmp, int_eq, on, as_partial_cmp};
-ghost use Rattle.numbers.specs.Value.{value_of};
+ghost use Rattle.numbers.specs.Value.{two, value_of};
 
 use std::cmp::Ordering;
 
@@ -24,7 +24,9 @@ pub struct I128 {
 
 impl I128 {
     pub const ZERO: I128 = I128 { high: 0, low: 0 };
+
     pub const ONE: I128 = I128 { high: 0, low: 1 };
+
     pub const MIN: I128 = I128 {
         high: 0x8000_0000_0000_0000,
         low: 0,
@@ -54,6 +56,7 @@ fn compare(a: I128, b: I128) -> Ordering
 // The comparisons are those of the values. No derive: `==` goes with `<`, whose laws hold of halves that fit no u64, too.
 impl PartialEq for I128 {
     ghost eq = { on value_of int_eq };
+
     ghost laws = { Prim.search (comparing, rules) };
 
     fn eq(&self, other: &I128) -> bool {
@@ -67,6 +70,7 @@ impl Eq for I128 {
 
 impl PartialOrd for I128 {
     ghost partial_cmp = { as_partial_cmp (on value_of int_cmp) };
+
     ghost laws = { partial_order_from_own_ties (Prim.search (comparing, rules)) (Prim.search (comparing, rules)) };
 
     fn partial_cmp(&self, other: &I128) -> Option<Ordering> {
@@ -76,8 +80,11 @@ impl PartialOrd for I128 {
 
 impl Ord for I128 {
     ghost cmp = { on value_of int_cmp };
+
     ghost total = { Prim.search (comparing, rules) };
+
     ghost matches_partial_cmp = { Prim.search (comparing, rules) };
+
     ghost matches_eq = { Prim.search (comparing, rules) };
 
     fn cmp(&self, other: &I128) -> Ordering {
@@ -86,7 +93,7 @@ impl Ord for I128 {
 }
 
 impl From<u64> for I128 {
-    ghost from_gives = { λ x made. value_of made ≡ pos x };
+    ghost from_gives = { λ x made. (made ≡ two 0 x) × (value_of made ≡ pos x) };
 
     fn from(x: u64) -> I128 {
         I128 { high: 0, low: x }

@@ -98,7 +98,11 @@ impl I128 {
         ensures { option_of result ≡ narrow (value_of self +ℤ value_of other) }
     {
         let sum = add_bits(self, other);
-        if overflows(self, other, sum) { None } else { Some(sum) }
+        if overflows(self, other, sum) {
+            None
+        } else {
+            Some(sum)
+        }
     }
 
     // self is the difference plus other, so the difference fits where that sum does not overflow.
@@ -106,7 +110,11 @@ impl I128 {
         ensures { option_of result ≡ narrow (value_of self -ℤ value_of other) }
     {
         let difference = sub_bits(self, other);
-        if overflows(difference, other, self) { None } else { Some(difference) }
+        if overflows(difference, other, self) {
+            None
+        } else {
+            Some(difference)
+        }
     }
 
     pub(crate) fn checked_neg(self) -> Option<I128>

@@ -1,6 +1,6 @@
 -- What the parts of reading a number give.
 use Rattle.std.specs.Prelude.{◌*◌, ◌^◌, if◌then◌else◌}
-use Rattle.definition.specs.Prelude.{ℕ, Option, none, some, ltb, eqb, ℤ, pos, neg_ℤ}
+use Rattle.definition.specs.Prelude.{ℕ, Option, none, some, ltb, ℤ, pos, neg_ℤ}
 
 -- 2^128, kept shut in proofs
 unfoldable pub full128 : ℕ
@@ -16,7 +16,3 @@ capped_option (some n) = capped n
 
 abbrev pub negated : ℕ → ℤ
 negated n = neg_ℤ (pos n)
-
--- a radix, with 0 for none
-abbrev pub radix_option : ℕ → Option ℕ
-radix_option radix = if eqb radix 0 then none else some radix

@@ -1,3 +1,4 @@
+-- `magnitude_by` meets its contract: a law for each way through it.
 use Rattle.std.proofs.Common.{refl, sym, rules}
 use borrow.Author.Tests.{eqb-false}
 use Rattle.numbers.proofs.parse.Digits.{finished, ended, passed, again}

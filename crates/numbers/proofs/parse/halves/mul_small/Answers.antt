@@ -3,17 +3,5 @@ use Rattle.std.proofs.Common.{◌/◌, ◌%◌, ◌^◌, mul-le-mul_left, arith}
 use Rattle.numbers.proofs.parse.Product.{by_parts}
 use Rattle.numbers.proofs.parse.halves.mul_small.Goals as goal
 
-pub overflow_mul-lower : goal.overflow_mul-lower
-overflow_mul-lower c = omega (arith, mul-le-mul_left (c.args.x % 2 ^ 32) c.requires.0)
-
-pub overflow_add-lower : goal.overflow_add-lower
-overflow_add-lower c = omega (arith, mul-le-mul_left (c.args.x % 2 ^ 32) c.requires.0)
-
-pub overflow_mul-upper : goal.overflow_mul-upper
-overflow_mul-upper c = omega (arith, mul-le-mul_left (c.args.x / 2 ^ 32) c.requires.0)
-
-pub overflow_add-upper : goal.overflow_add-upper
-overflow_add-upper c = omega (arith, mul-le-mul_left (c.args.x % 2 ^ 32) c.requires.0, mul-le-mul_left (c.args.x / 2 ^ 32) c.requires.0)
-
 pub returns : goal.returns
 returns c = omega (arith, by_parts c.args.x c.args.m, mul-le-mul_left (c.args.x % 2 ^ 32) c.requires.0, mul-le-mul_left (c.args.x / 2 ^ 32) c.requires.0)

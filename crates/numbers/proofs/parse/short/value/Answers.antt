@@ -1,3 +1,4 @@
+-- `value` meets its contract: each digit goes on with what was read, and 18 of them fit.
 use Rattle.std.proofs.Common.{arith}
 use Rattle.numbers.proofs.parse.ShortDecimal.{room, one_more, all_read}
 use Rattle.numbers.proofs.parse.short.value.Goals as goal
