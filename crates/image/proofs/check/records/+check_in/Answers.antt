@@ -2,11 +2,10 @@
 use Rattle.std.proofs.Common.{◌≡◌, Err, ℕ, ◌+◌, Bool, List, get_or, sym, ap, ◌∙◌, arith}
 use Rattle.definition.specs.Check.{close_right}
 use Rattle.image.specs.declared.record_rules.Numbers.{Numbers}
-use Rattle.image.specs.token_tree.Tables.{entry_in}
 use Rattle.image.specs.check.Parts.{entry_from}
 use Rattle.errors.specs.Refused.{reasoned}
 use Rattle.image.specs.record_rules.Rules.{entry_with, opener_right}
-use Rattle.image.proofs.check.Groups.{Opener, skip_told, word_refused, word_goes, skip_refused, opener_refused, deep_refused, inside_refused, close_refused, group_goes, says_end}
+use Rattle.image.proofs.check.Groups.{skip_told, word_refused, word_goes, skip_refused, opener_refused, deep_refused, inside_refused, close_refused, group_goes, says_end}
 use Rattle.image.proofs.check.records.+check_in.Goals as goal
 
 module _ (image : List ℕ) (text t : ℕ) (e c : Numbers) (byte : ℕ) (r : Bool) where
