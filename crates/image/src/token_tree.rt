@@ -48,6 +48,7 @@ fn short_at(s: &[u8], at: usize) -> u32
     )
 }
 
+// Two tests, for speed, as at + 4 could be too large; past them one load.
 pub fn u32_at(s: &[u8], at: usize) -> u32
     ensures { result ≡ u32_at s.now at }
 {

@@ -87,6 +87,7 @@ fn check_in(
             if !e.opener_right(t, byte_of(image, text, e), closer) {
                 return Err(Reason::BadRecord);
             }
+            // named, so that a must-fail edit of the test leaves the goals' names
             let deep = limits::DEPTH <= depth;
             if deep {
                 return Err(Reason::TooDeep);
