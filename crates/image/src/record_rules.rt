@@ -1,11 +1,13 @@
 // The rules of document 01's image check that look at one record's or one entry's numbers: what was read is handed in.
+// Tests are joined by `&`, which looks at both sides and needs no jump.
 ghost use Rattle.std.specs.Prelude.{◌≡◌, ◌≤◌, true};
 ghost use Rattle.definition.specs.Basics.{within};
 ghost use Rattle.definition.specs.Image.{delimiter};
 ghost use Rattle.definition.specs.Check.{text_right, delimiter_right, word_right, close_right};
 ghost use Rattle.image.specs.record_rules.Rules.{entry_with, delimiter_of, skip_right, opener_right};
 
-// A record's numbers: its kind, where its text starts and stops, and its skip.
+// A record's numbers: its kind, where its text starts and stops, and its skip. The kind stays a number: it is the image's and not yet
+// judged, and `delimiter_of` is promised for every number.
 #[derive(Clone, Copy)]
 pub struct Numbers {
     pub kind: u32,
@@ -26,7 +28,7 @@ pub(crate) fn between(lo: u32, hi: u32, n: u32) -> bool
     (lo..=hi).contains(&n)
 }
 
-// The delimiters of a group of this kind.
+// The delimiters of a group of this kind: of any kind but 1 to 3 those of 4, as the definition has it.
 pub fn delimiter_of(kind: u32) -> Delimiter
     ensures { delimiter_of result ≡ delimiter kind }
 {

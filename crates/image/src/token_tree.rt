@@ -29,7 +29,7 @@ pub struct Tables {
     pub stop: usize,
 }
 
-// The byte n places on, whatever the two numbers.
+// The byte n places on, whatever the two numbers: a sum too large for its type is past every slice, and so is what it saturates to.
 pub fn byte_on(s: &[u8], at: usize, n: usize) -> u8
     ensures { result ≡ get_or s.now (at + n) 0 }
 {
@@ -48,6 +48,7 @@ fn short_at(s: &[u8], at: usize) -> u32
     )
 }
 
+// Two tests, for speed, as at + 4 could be too large; past them one load.
 pub fn u32_at(s: &[u8], at: usize) -> u32
     ensures { result ≡ u32_at s.now at }
 {

@@ -42,7 +42,7 @@ pub fn put_u32(area: &mut [u8], at: usize, n: u32)
     put(area, at, &n.to_le_bytes());
 }
 
-// Numbers one next to the other: the parts of a row.
+// Numbers one next to the other: the parts of a row. A place that would be too large saturates, past the area.
 fn put_numbers(area: &mut [u8], at: usize, numbers: &[u32])
     requires { length numbers.now ≤ 10 }
     ensures { area.new ≡ sets area.old at (joined (map u32 numbers.now)) }
@@ -70,7 +70,7 @@ pub fn put_component(area: &mut [u8], at: usize, records: u32, width: u32)
     put(area, at, &row);
 }
 
-// Bytes that may not all be there; a byte that is missing counts as 0.
+// Bytes that may not all be there; a byte that is missing counts as 0. A place that would be too large saturates, past the area.
 fn put_each(area: &mut [u8], at: usize, s: &[u8], from: usize, n: usize)
     ensures { area.new ≡ sets area.old at (bytes_at s.now from n) }
 {

@@ -1,4 +1,4 @@
--- Component after component, the places in an image that passed 2 to 4, and the whole check in its parts.
+-- Component after component, the first start before them, and the whole check in its parts, by what was read of the header.
 use Rattle.std.specs.Prelude.{◌+◌}
 use mathlib.Core.Path.{◌≡◌, refl, sym, ap, ◌∙◌}
 use Prim.Native.Nat.{◌<◌, ◌≤◌, ◌-◌}

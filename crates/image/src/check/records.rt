@@ -1,5 +1,5 @@
 // 6 and 7: records one by one, a group by what stands inside it. The four numbers of Places are plain parameters below, `all` the
-// count, and so stay in registers.
+// count, for speed: so they stay in registers.
 ghost use Rattle.std.specs.Prelude.{◌≡◌, ℕ, ◌+◌, ◌*◌, ◌^◌, ◌≤◌, ◌<◌, length, get_or};
 ghost use Rattle.definition.specs.Basics.{sum, tab};
 ghost use Rattle.definition.specs.Image.{tables, record_count};
@@ -54,7 +54,8 @@ fn byte_of(image: &[u8], text: usize, e: Numbers) -> u8
     crate::token_tree::byte_at(image, text + (e.start as usize))
 }
 
-// `count` records from record `from` on, one component's or what stands in a group, `depth` groups deep. Siblings go by the loop.
+// `count` records from record `from` on, one component's or what stands in a group, `depth` groups deep. Siblings go by the loop,
+// a `while`: a step passes a word or a whole group.
 fn check_in(
     image: &[u8],
     records: usize,
@@ -86,6 +87,7 @@ fn check_in(
             if !e.opener_right(t, byte_of(image, text, e), closer) {
                 return Err(Reason::BadRecord);
             }
+            // named, so that a must-fail edit of the test leaves the goals' names
             let deep = limits::DEPTH <= depth;
             if deep {
                 return Err(Reason::TooDeep);

@@ -2,11 +2,10 @@
 use Rattle.std.proofs.Common.{◌≡◌, Err, ℕ, ◌+◌, Bool, List, get_or, sym, ap, ◌∙◌, arith}
 use Rattle.definition.specs.Check.{close_right}
 use Rattle.image.specs.declared.record_rules.Numbers.{Numbers}
-use Rattle.image.specs.token_tree.Tables.{entry_in}
 use Rattle.image.specs.check.Parts.{entry_from}
 use Rattle.errors.specs.Refused.{reasoned}
 use Rattle.image.specs.record_rules.Rules.{entry_with, opener_right}
-use Rattle.image.proofs.check.Groups.{Opener, skip_told, word_refused, word_goes, skip_refused, opener_refused, deep_refused, inside_refused, close_refused, group_goes, says_end}
+use Rattle.image.proofs.check.Groups.{skip_told, word_refused, word_goes, skip_refused, opener_refused, deep_refused, inside_refused, close_refused, group_goes, says_end}
 use Rattle.image.proofs.check.records.+check_in.Goals as goal
 
 module _ (image : List ℕ) (text t : ℕ) (e c : Numbers) (byte : ℕ) (r : Bool) where
@@ -22,109 +21,79 @@ module _ (image : List ℕ) (text t : ℕ) (e c : Numbers) (byte : ℕ) (r : Boo
 
 pub returns-then-not-word_right : goal.returns-then-not-word_right
 returns-then-not-word_right t c =
-    let a = c.args in
-    let v = c.loop-left in
-    v.invariant.2 _
-    (word_refused a.t (entry_in a.image.now a.records a.text a.all a.t) a.depth v.k v.left c.loop-left-test.true (entry_from a.image.now a.text c.numbers_at-e.result) (c.numbers_at-e.ensures a.text)
+    c.loop-left.invariant.2 _
+    (word_refused _ _ _ _ _ c.loop-left-test.true _ (c.numbers_at-e.ensures c.args.text)
     (omega (arith, c.if-e-eq0.true)) (sym c.word_right.ensures ∙ c.if-not-word_right.true))
 
 pub loop-left-preserved-then-e-eq0 : goal.loop-left-preserved-then-e-eq0
 loop-left-preserved-then-e-eq0 t c =
-    let a = c.args in
     let v = c.loop-left in (
       omega (arith, v.invariant.0),
       omega (arith, v.invariant.1),
       λ x says. v.invariant.2 x
-          (word_goes a.t (entry_in a.image.now a.records a.text a.all a.t) a.depth v.k v.left c.loop-left-test.true (entry_from a.image.now a.text c.numbers_at-e.result) (c.numbers_at-e.ensures a.text)
+          (word_goes _ _ _ _ _ c.loop-left-test.true _ (c.numbers_at-e.ensures c.args.text)
           (omega (arith, c.if-e-eq0.true)) (sym c.word_right.ensures ∙ c.if-not-word_right.false) x says),
     )
 
 -- ---- a group
 pub returns-then-not-skip_right : goal.returns-then-not-skip_right
 returns-then-not-skip_right t c =
-    let a = c.args in
-    let v = c.loop-left in
-    v.invariant.2 _
-    (skip_refused a.t (entry_in a.image.now a.records a.text a.all a.t) a.depth v.k v.left c.loop-left-test.true (entry_from a.image.now a.text c.numbers_at-e.result) (c.numbers_at-e.ensures a.text)
+    c.loop-left.invariant.2 _
+    (skip_refused _ _ _ _ _ c.loop-left-test.true _ (c.numbers_at-e.ensures c.args.text)
     (λ z. absurd (omega (arith, z, c.if-e-eq0.false))) (sym c.skip_right.ensures.answer ∙ c.if-not-skip_right.true))
 
 pub returns-then-not-opener_right : goal.returns-then-not-opener_right
 returns-then-not-opener_right t c =
-    let a = c.args in
-    let v = c.loop-left in
-    let image = a.image.now in
-    let e = entry_from image a.text c.numbers_at-e.result in
-    let closer = entry_from image a.text c.numbers_at-closer.result in
-    let fits : Opener e v.left = skip_told e v.left (sym c.skip_right.ensures.answer ∙ c.if-not-skip_right.false) in
-    let read = opener_read image a.text a.t c.numbers_at-e.result c.numbers_at-closer.result c.byte_of.result c.opener_right.result c.byte_of.ensures c.opener_right.ensures in
-    v.invariant.2 _
-    (opener_refused a.t (entry_in image a.records a.text a.all a.t) a.depth v.k v.left c.loop-left-test.true e (c.numbers_at-e.ensures a.text)
-    fits closer (c.numbers_at-closer.ensures a.text) (read ∙ c.if-not-opener_right.true))
+    let fits = skip_told (entry_from c.args.image.now c.args.text c.numbers_at-e.result) _ (sym c.skip_right.ensures.answer ∙ c.if-not-skip_right.false) in
+    let read = opener_read _ _ _ c.numbers_at-e.result c.numbers_at-closer.result _ _ c.byte_of.ensures c.opener_right.ensures in
+    c.loop-left.invariant.2 _
+    (opener_refused _ _ _ _ _ c.loop-left-test.true _ (c.numbers_at-e.ensures c.args.text) fits _ (c.numbers_at-closer.ensures c.args.text)
+    (read ∙ c.if-not-opener_right.true))
 
 pub returns-then-deep : goal.returns-then-deep
 returns-then-deep t c =
-    let a = c.args in
-    let v = c.loop-left in
-    let image = a.image.now in
-    let e = entry_from image a.text c.numbers_at-e.result in
-    let closer = entry_from image a.text c.numbers_at-closer.result in
-    let fits : Opener e v.left = skip_told e v.left (sym c.skip_right.ensures.answer ∙ c.if-not-skip_right.false) in
-    let read = opener_read image a.text a.t c.numbers_at-e.result c.numbers_at-closer.result c.byte_of.result c.opener_right.result c.byte_of.ensures c.opener_right.ensures in
-    v.invariant.2 _
-    (deep_refused a.t (entry_in image a.records a.text a.all a.t) a.depth v.k v.left c.loop-left-test.true e (c.numbers_at-e.ensures a.text)
-    fits closer (c.numbers_at-closer.ensures a.text) (read ∙ c.if-not-opener_right.false)
-    (omega (arith, c.if-deep.true)))
+    let fits = skip_told (entry_from c.args.image.now c.args.text c.numbers_at-e.result) _ (sym c.skip_right.ensures.answer ∙ c.if-not-skip_right.false) in
+    let read = opener_read _ _ _ c.numbers_at-e.result c.numbers_at-closer.result _ _ c.byte_of.ensures c.opener_right.ensures in
+    c.loop-left.invariant.2 _
+    (deep_refused _ _ _ _ _ c.loop-left-test.true _ (c.numbers_at-e.ensures c.args.text) fits _ (c.numbers_at-closer.ensures c.args.text)
+    (read ∙ c.if-not-opener_right.false) (omega (arith, c.if-deep.true)))
 
 pub returns-in_err-check_in : goal.returns-in_err-check_in
 returns-in_err-check_in t c =
-    let a = c.args in
-    let v = c.loop-left in
-    let image = a.image.now in
-    let e = entry_from image a.text c.numbers_at-e.result in
-    let closer = entry_from image a.text c.numbers_at-closer.result in
-    let fits : Opener e v.left = skip_told e v.left (sym c.skip_right.ensures.answer ∙ c.if-not-skip_right.false) in
-    let read = opener_read image a.text a.t c.numbers_at-e.result c.numbers_at-closer.result c.byte_of.result c.opener_right.result c.byte_of.ensures c.opener_right.ensures in
+    let fits = skip_told (entry_from c.args.image.now c.args.text c.numbers_at-e.result) _ (sym c.skip_right.ensures.answer ∙ c.if-not-skip_right.false) in
+    let read = opener_read _ _ _ c.numbers_at-e.result c.numbers_at-closer.result _ _ c.byte_of.ensures c.opener_right.ensures in
     let same : c.from_residual.result ≡ Err c.in_err-check_in.field-0.0 = grind arith in
-    rw same (v.invariant.2 _
-    (inside_refused a.t (entry_in image a.records a.text a.all a.t) a.depth v.k v.left c.loop-left-test.true e (c.numbers_at-e.ensures a.text)
-    fits closer (c.numbers_at-closer.ensures a.text) (read ∙ c.if-not-opener_right.false)
-    (omega (arith, c.if-deep.false)) (reasoned c.check_in.result) c.check_in.ensures _ (ap reasoned c.in_err-check_in.was)))
+    rw same
+    (c.loop-left.invariant.2 _
+    (inside_refused _ _ _ _ _ c.loop-left-test.true _ (c.numbers_at-e.ensures c.args.text) fits _ (c.numbers_at-closer.ensures c.args.text)
+    (read ∙ c.if-not-opener_right.false) (omega (arith, c.if-deep.false)) (reasoned c.check_in.result) c.check_in.ensures
+    _ (ap reasoned c.in_err-check_in.was)))
 
 pub returns-then-not-close_right : goal.returns-then-not-close_right
 returns-then-not-close_right t c =
-    let a = c.args in
-    let v = c.loop-left in
-    let image = a.image.now in
-    let e = entry_from image a.text c.numbers_at-e.result in
-    let closer = entry_from image a.text c.numbers_at-closer.result in
-    let fits : Opener e v.left = skip_told e v.left (sym c.skip_right.ensures.answer ∙ c.if-not-skip_right.false) in
-    let read = opener_read image a.text a.t c.numbers_at-e.result c.numbers_at-closer.result c.byte_of.result c.opener_right.result c.byte_of.ensures c.opener_right.ensures in
-    let shut = closer_read image a.text a.t c.numbers_at-e.result c.numbers_at-closer.result c.byte_of-else-e-eq0.result c.close_right.result c.byte_of-else-e-eq0.ensures c.close_right.ensures in
-    v.invariant.2 _
-    (close_refused a.t (entry_in image a.records a.text a.all a.t) a.depth v.k v.left c.loop-left-test.true e (c.numbers_at-e.ensures a.text)
-    fits closer (c.numbers_at-closer.ensures a.text) (read ∙ c.if-not-opener_right.false)
-    (omega (arith, c.if-deep.false)) (reasoned c.check_in.result) c.check_in.ensures (ap reasoned c.in_ok-check_in.was) (shut ∙ c.if-not-close_right.true))
+    let fits = skip_told (entry_from c.args.image.now c.args.text c.numbers_at-e.result) _ (sym c.skip_right.ensures.answer ∙ c.if-not-skip_right.false) in
+    let read = opener_read _ _ _ c.numbers_at-e.result c.numbers_at-closer.result _ _ c.byte_of.ensures c.opener_right.ensures in
+    let shut = closer_read _ _ _ c.numbers_at-e.result c.numbers_at-closer.result _ _ c.byte_of-else-e-eq0.ensures c.close_right.ensures in
+    c.loop-left.invariant.2 _
+    (close_refused _ _ _ _ _ c.loop-left-test.true _ (c.numbers_at-e.ensures c.args.text) fits _ (c.numbers_at-closer.ensures c.args.text)
+    (read ∙ c.if-not-opener_right.false) (omega (arith, c.if-deep.false)) (reasoned c.check_in.result) c.check_in.ensures
+    (ap reasoned c.in_ok-check_in.was) (shut ∙ c.if-not-close_right.true))
 
 pub loop-left-preserved : goal.loop-left-preserved
 loop-left-preserved t c =
-    let a = c.args in
-    let v = c.loop-left in
-    let image = a.image.now in
-    let e = entry_from image a.text c.numbers_at-e.result in
-    let closer = entry_from image a.text c.numbers_at-closer.result in
-    let fits : Opener e v.left = skip_told e v.left (sym c.skip_right.ensures.answer ∙ c.if-not-skip_right.false) in
-    let read = opener_read image a.text a.t c.numbers_at-e.result c.numbers_at-closer.result c.byte_of.result c.opener_right.result c.byte_of.ensures c.opener_right.ensures in
-    let shut = closer_read image a.text a.t c.numbers_at-e.result c.numbers_at-closer.result c.byte_of-else-e-eq0.result c.close_right.result c.byte_of-else-e-eq0.ensures c.close_right.ensures in (
-      omega (arith, v.invariant.0, fits),
-      omega (arith, v.invariant.1, fits),
+    let fits = skip_told (entry_from c.args.image.now c.args.text c.numbers_at-e.result) _ (sym c.skip_right.ensures.answer ∙ c.if-not-skip_right.false) in
+    let read = opener_read _ _ _ c.numbers_at-e.result c.numbers_at-closer.result _ _ c.byte_of.ensures c.opener_right.ensures in
+    let shut = closer_read _ _ _ c.numbers_at-e.result c.numbers_at-closer.result _ _ c.byte_of-else-e-eq0.ensures c.close_right.ensures in
+    let v = c.loop-left in (
+      omega (arith, v.invariant.0),
+      omega (arith, v.invariant.1),
       λ x says. v.invariant.2 x
-          (group_goes a.t (entry_in image a.records a.text a.all a.t) a.depth v.k v.left c.loop-left-test.true e (c.numbers_at-e.ensures a.text)
-          fits closer (c.numbers_at-closer.ensures a.text) (read ∙ c.if-not-opener_right.false)
-          (omega (arith, c.if-deep.false)) (reasoned c.check_in.result) c.check_in.ensures (ap reasoned c.in_ok-check_in.was) (shut ∙ c.if-not-close_right.false) x says),
+          (group_goes _ _ _ _ _ c.loop-left-test.true _ (c.numbers_at-e.ensures c.args.text) fits _ (c.numbers_at-closer.ensures c.args.text)
+          (read ∙ c.if-not-opener_right.false) (omega (arith, c.if-deep.false)) (reasoned c.check_in.result) c.check_in.ensures
+          (ap reasoned c.in_ok-check_in.was) (shut ∙ c.if-not-close_right.false) x says),
     )
 
 pub returns : goal.returns
 returns t c =
-    let a = c.args in
     let v = c.loop-left in
-    v.invariant.2 _ (says_end a.t (entry_in a.image.now a.records a.text a.all a.t) a.depth v.k v.left c.loop-left-test.false)
+    v.invariant.2 _ (says_end _ _ _ _ v.left c.loop-left-test.false)

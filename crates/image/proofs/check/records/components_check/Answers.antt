@@ -11,49 +11,30 @@ counted image at k n p e = rw (← p) e
 
 pub check_in-requires : goal.check_in-requires
 check_in-requires c =
-    let a = c.args in
-    let v = c.loop-k in
-    let n = c.four_at-count.result in
-    let e = counted a.image.now a.at v.k n c.requires.2 c.four_at-count.ensures in
-    let room = sum_goes (record_count a.image.now) v.from v.k a.n n c.loop-k-test.true e _ a.p.count v.invariant.0 c.requires.4 in
+    let e = counted _ _ c.loop-k.k _ c.requires.2 c.four_at-count.ensures in
+    let room = sum_goes _ _ _ _ _ c.loop-k-test.true e _ _ c.loop-k.invariant.0 c.requires.4 in
     (c.requires.0, room.0, omega arith)
 
 pub returns-in_err-check_in : goal.returns-in_err-check_in
 returns-in_err-check_in c =
-    let a = c.args in
-    let v = c.loop-k in
-    let n = c.four_at-count.result in
-    let e = counted a.image.now a.at v.k n c.requires.2 c.four_at-count.ensures in
-    let said = own a.image.now a.p v.from n (reasoned c.check_in.result) c.requires.1 c.check_in.ensures in
+    let e = counted _ _ c.loop-k.k _ c.requires.2 c.four_at-count.ensures in
+    let said = own _ c.args.p _ _ (reasoned c.check_in.result) c.requires.1 c.check_in.ensures in
     let same : c.from_residual.result ≡ Err c.in_err-check_in.field-0.0 = grind arith in
     rw same
-    (component_stops (record_count a.image.now) v.from v.k a.n n c.loop-k-test.true e a.image.now (reasoned c.check_in.result) _ said
-    v.invariant.1 _ (ap reasoned c.in_err-check_in.was))
+    (component_stops _ _ _ _ _ c.loop-k-test.true e _ _ _ said c.loop-k.invariant.1 _ (ap reasoned c.in_err-check_in.was))
 
 pub overflow_add-from : goal.overflow_add-from
 overflow_add-from c =
-    let a = c.args in
-    let v = c.loop-k in
-    let n = c.four_at-count.result in
-    let e = counted a.image.now a.at v.k n c.requires.2 c.four_at-count.ensures in
-    let room = sum_goes (record_count a.image.now) v.from v.k a.n n c.loop-k-test.true e _ a.p.count v.invariant.0 c.requires.4 in
+    let e = counted _ _ c.loop-k.k _ c.requires.2 c.four_at-count.ensures in
+    let room = sum_goes _ _ _ _ _ c.loop-k-test.true e _ _ c.loop-k.invariant.0 c.requires.4 in
     omega (arith, room.0)
 
 pub loop-k-preserved : goal.loop-k-preserved
 loop-k-preserved c =
-    let a = c.args in
-    let v = c.loop-k in
-    let n = c.four_at-count.result in
-    let e = counted a.image.now a.at v.k n c.requires.2 c.four_at-count.ensures in
-    let room = sum_goes (record_count a.image.now) v.from v.k a.n n c.loop-k-test.true e _ a.p.count v.invariant.0 c.requires.4 in
-    let said = own a.image.now a.p v.from n (reasoned c.check_in.result) c.requires.1 c.check_in.ensures in (
-      room.1,
-      component_goes (record_count a.image.now) v.from v.k a.n n c.loop-k-test.true e a.image.now (reasoned c.check_in.result) _ said
-          v.invariant.1 (ap reasoned c.in_ok-check_in.was),
-    )
+    let e = counted _ _ c.loop-k.k _ c.requires.2 c.four_at-count.ensures in
+    let room = sum_goes _ _ _ _ _ c.loop-k-test.true e _ _ c.loop-k.invariant.0 c.requires.4 in
+    let said = own _ c.args.p _ _ (reasoned c.check_in.result) c.requires.1 c.check_in.ensures in
+    (room.1, component_goes _ _ _ _ _ c.loop-k-test.true e _ _ _ said c.loop-k.invariant.1 (ap reasoned c.in_ok-check_in.was))
 
 pub returns : goal.returns
-returns c =
-    let a = c.args in
-    let v = c.loop-k in
-    components_end a.image.now (record_count a.image.now) v.from v.k a.n _ c.loop-k-test.false v.invariant.1
+returns c = components_end _ _ _ _ _ _ c.loop-k-test.false c.loop-k.invariant.1
