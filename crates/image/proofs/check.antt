@@ -1,5 +1,4 @@
 -- Laws of the image check's parts over plain variables, which the functions' proofs cite.
-mod Answers
 mod Groups
 mod Sums
 mod Whole

@@ -6,15 +6,14 @@ mod records;
 ghost use Rattle.std.specs.Prelude.{◌≡◌, ◌+◌, ◌≤◌, eqb, length};
 ghost use Rattle.definition.specs.Image.{u32_at, counts};
 ghost use Rattle.definition.specs.Check.{check_image};
-ghost use Rattle.errors.specs.Refused.{result_of};
+ghost use Rattle.errors.specs.Refused.{result_of, reasoned};
 ghost use Rattle.image.specs.token_tree.Tables.{counts_of, tables_of};
 ghost use Rattle.image.specs.check.Parts.{counts_in, offsets_in};
 
 use crate::record_rules::between;
 use crate::token_tree::{Counts, Tables};
 use crate::words::four_at;
-use errors::Checked;
-use errors::flags::both;
+use errors::{Reason, Refusal};
 
 // The header's counts. Called from one place, so that it is inlined and they stay in registers.
 fn header(image: &[u8]) -> Counts
@@ -33,15 +32,11 @@ fn header(image: &[u8]) -> Counts
 fn counts_right(h: Counts) -> bool
     ensures { result ≡ counts_in (counts_of h) }
 {
-    let trees = both(
-        between(1, limits::CONCATENATIONS, h.c),
-        between(1, limits::COMPONENTS, h.n),
-    );
-    let texts = both(
-        both(trees, between(1, limits::RECORDS, h.r)),
-        between(1, limits::TEXT, h.t),
-    );
-    both(texts, h.b <= limits::LITERAL_BYTES)
+    between(1, limits::CONCATENATIONS, h.c)
+        & between(1, limits::COMPONENTS, h.n)
+        & between(1, limits::RECORDS, h.r)
+        & between(1, limits::TEXT, h.t)
+        & (h.b <= limits::LITERAL_BYTES)
 }
 
 fn number_is(image: &[u8], at: usize, n: usize) -> bool
@@ -55,37 +50,37 @@ fn offsets_right(image: &[u8], at: Tables) -> bool
     requires { 40 ≤ length image.now }
     ensures { result ≡ offsets_in image.now (tables_of at) }
 {
-    let entries = both(
-        number_is(image, 20, at.concatenations),
-        number_is(image, 24, at.components),
-    );
-    let texts = both(
-        both(entries, number_is(image, 28, at.records)),
-        number_is(image, 32, at.text),
-    );
-    both(
-        both(texts, number_is(image, 36, at.literals)),
-        image.len() == at.stop,
-    )
+    number_is(image, 20, at.concatenations)
+        & number_is(image, 24, at.components)
+        & number_is(image, 28, at.records)
+        & number_is(image, 32, at.text)
+        & number_is(image, 36, at.literals)
+        & (image.len() == at.stop)
 }
 
-// Document 01's whole image check.
-pub fn check_image(image: &[u8]) -> Checked
-    ensures { result_of result ≡ check_image image.now }
+fn checked(image: &[u8]) -> Result<(), Reason>
+    ensures { reasoned result ≡ check_image image.now }
 {
     if image.len() < 40 {
-        return Checked::Refused(errors::refuse(2));
+        return Err(Reason::ShortImage);
     }
     let h = header(image);
     if !counts_right(h) {
-        return Checked::Refused(errors::refuse(3));
+        return Err(Reason::BadCount);
     }
     let at = crate::token_tree::tables_for(h);
     if !offsets_right(image, at) {
-        return Checked::Refused(errors::refuse(4));
+        return Err(Reason::BadOffset);
     }
     if !entries::entries_right(image, h, at) {
-        return Checked::Refused(errors::refuse(5));
+        return Err(Reason::BadEntry);
     }
     records::records_check(image, h, at)
+}
+
+// Document 01's whole image check.
+pub fn check_image(image: &[u8]) -> Result<(), Refusal>
+    ensures { result_of result ≡ check_image image.now }
+{
+    Ok(checked(image)?)
 }

@@ -33,10 +33,7 @@ pub struct Tables {
 pub fn byte_on(s: &[u8], at: usize, n: usize) -> u8
     ensures { result ≡ get_or s.now (at + n) 0 }
 {
-    if s.len() <= at {
-        return 0;
-    }
-    if n < s.len() - at { s[at + n] } else { 0 }
+    byte_at(s, at.saturating_add(n))
 }
 
 // Four bytes of which some may be missing.

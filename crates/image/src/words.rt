@@ -6,7 +6,7 @@ ghost use Rattle.definition.specs.Image.{u32_at};
 pub fn join4(a: u8, b: u8, c: u8, d: u8) -> u32
     ensures { result ≡ a + 256 * b + 65536 * c + 16777216 * d }
 {
-    (a as u32) + 256 * (b as u32) + 65536 * (c as u32) + 16777216 * (d as u32)
+    u32::from_le_bytes([a, b, c, d])
 }
 
 // Four bytes that are all there: one load.
@@ -20,5 +20,5 @@ pub(crate) fn four_at(s: &[u8], at: usize) -> u32
 pub fn byte_at(s: &[u8], at: usize) -> u8
     ensures { result ≡ get_or s.now at 0 }
 {
-    if at < s.len() { s[at] } else { 0 }
+    s.get(at).copied().unwrap_or(0)
 }

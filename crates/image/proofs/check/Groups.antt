@@ -8,16 +8,15 @@ use native.Mathlib.Omega.{arith}
 use borrow.Author.Tests.{leb-true, le-leb, lt-ltb, le-ltb, ne_eqb}
 use Prim.Native.Nat.{◌<◌, ◌≤◌, ◌-◌}
 use Rattle.definition.specs.Prelude.{ℕ, zero, suc, Bool, true, false, List, length, take, drop, leb, ltb, eqb}
-use Rattle.definition.specs.Basics.{Result, ok, refused, tab}
+use Rattle.definition.specs.Basics.{Result, ok, refused, Refusal, ◌>>=◌, tab}
 use Rattle.definition.specs.Limits.{limits}
-use Rattle.definition.specs.Refusals.{need, bad_record, too_deep}
+use Rattle.definition.specs.Refusals.{need, refuse, bad_record, too_deep}
 use Rattle.definition.specs.Image.{Entry, opens, delimiter}
 use Rattle.definition.specs.Check.{no_entry, text_right, delimiter_right, word_right, inside_of, closer_of, after_of, open_right, close_right, check_in}
 use Rattle.laws.specs.Lists.{length_tab, get_or_tab}
 use Rattle.laws.specs.Tests.{by_test, and_iff}
 use Rattle.image.specs.record_rules.Rules.{skip_right, opener_right}
-use Rattle.image.specs.check.Parts.{answer_of, Says}
-use Rattle.image.proofs.check.Answers.{first_of, answer_stops}
+use Rattle.image.specs.check.Parts.{Says}
 
 take_tab : (g : ℕ → Entry) (from n i : ℕ) → i ≤ n → take i (tab g from n) ≡ tab g from i
 unfolding tab
@@ -86,6 +85,13 @@ module _ (t : ℕ) (g : ℕ → Entry) (e : Entry) (k left : ℕ) where
       ∙ rw (le-leb 2 e.skip two, le-leb e.skip left most, and-true text, and-true text) (ap (opener_right t e) (closer_tab o))
 
 -- ---- the loop: a word or a group is refused, or passed with what is left after it
+abbrev bad : Result Unit
+bad = refuse bad_record
+
+-- the first refusal of two
+abbrev pub first_of : Result Unit → Result Unit → Result Unit
+first_of a b = a >>= λ _. b
+
 abbrev opener : ℕ → Entry → List Entry → ℕ → Result Unit
 opener t e rest depth = first_of (need (open_right t e rest) bad_record) (need (ltb depth limits.depth) too_deep)
 
@@ -124,25 +130,25 @@ module _ (t : ℕ) (g : ℕ → Entry) (depth k left : ℕ) (some : 0 < left) (e
       let l : tab g k left ≡ e ∷ after = ap (tab g k) n ∙ rw (q, add-one k) in
       rw l (s f (omega arith))
 
-  word_stops : opens e.kind ≡ false → word_right t e ≡ false → Says t g depth k left (answer_of 6)
-  word_stops o r = says_by (answer_of 6) λ f h. rw (check_word t f e after depth o, r)
+  word_stops : opens e.kind ≡ false → word_right t e ≡ false → Says t g depth k left bad
+  word_stops o r = says_by bad λ f h. rw (check_word t f e after depth o, r)
 
-  pub word_refused : e.kind ≡ 0 → word_right t e ≡ false → Says t g depth k left (answer_of 6)
+  pub word_refused : e.kind ≡ 0 → word_right t e ≡ false → Says t g depth k left bad
   word_refused z = word_stops (rw z)
 
   pub word_goes : e.kind ≡ 0 → word_right t e ≡ true → (x : Result Unit) → Says t g depth (k + 1) (left - 1) x → Says t g depth k left x
   word_goes z r x says = says_by x λ f h. rw (check_word t f e after depth (rw z), r) (says f h)
 
-  group_stops : (n : ℕ) → (n ≡ 0 → ⊥) → opens e.kind ≡ true → answer_of n ≡ opener t e after depth → Says t g depth k left (answer_of n)
-  group_stops n a o p = says_by (answer_of n) λ f h. rw (check_group t f e after depth o, ← p) (sym (answer_stops n a _))
+  group_stops : (q : Refusal) → opens e.kind ≡ true → refused q ≡ opener t e after depth → Says t g depth k left (refused q)
+  group_stops q o p = says_by (refused q) λ f h. rw (check_group t f e after depth o, ← p)
 
   -- neither a word nor a group that stays in what is left
-  pub skip_refused : (e.kind ≡ 0 → ⊥) → skip_right e left ≡ false → Says t g depth k left (answer_of 6)
+  pub skip_refused : (e.kind ≡ 0 → ⊥) → skip_right e left ≡ false → Says t g depth k left bad
   skip_refused a h =
       by_test (opens e.kind)
       (λ o.
       let s : (leb 2 e.skip && leb e.skip left) ≡ false = rw o at h in
-      group_stops 6 (λ z. absurd (omega arith)) o (rw (opener_shut t g e k left some s)))
+      group_stops _ o (rw (opener_shut t g e k left some s)))
       (λ o. word_stops o (rw (ne_eqb e.kind 0 a) (no_word (text_right t e) (eqb e.skip 1))))
 
   -- a group that stays, c its closer
@@ -150,39 +156,39 @@ module _ (t : ℕ) (g : ℕ → Entry) (depth k left : ℕ) (some : 0 < left) (e
     opened : open_right t e after ≡ opener_right t e c
     opened = opener_here t g e k left o ∙ ap (opener_right t e) (sym p)
 
-    pub opener_refused : opener_right t e c ≡ false → Says t g depth k left (answer_of 6)
-    opener_refused h = group_stops 6 (λ z. absurd (omega arith)) o.group (rw (opened ∙ h))
+    pub opener_refused : opener_right t e c ≡ false → Says t g depth k left bad
+    opener_refused h = group_stops _ o.group (rw (opened ∙ h))
 
-    pub deep_refused : opener_right t e c ≡ true → 32 ≤ depth → Says t g depth k left (answer_of 7)
-    deep_refused h d = group_stops 7 (λ z. absurd (omega arith)) o.group (rw (opened ∙ h, le-ltb depth 32 d))
+    pub deep_refused : opener_right t e c ≡ true → 32 ≤ depth → Says t g depth k left (refuse too_deep)
+    deep_refused h d = group_stops _ o.group (rw (opened ∙ h, le-ltb depth 32 d))
 
     -- its inside answered i
-    module _ (r : opener_right t e c ≡ true) (d : depth < 32) (i : ℕ) (says : Says t g (depth + 1) (k + 1) (e.skip - 2) (answer_of i)) where
+    module _ (r : opener_right t e c ≡ true) (d : depth < 32) (i : Result Unit) (says : Says t g (depth + 1) (k + 1) (e.skip - 2) i) where
       abbrev closed : Result Unit
-      closed = first_of (answer_of i) (need (close_right t e c) bad_record)
+      closed = first_of i (need (close_right t e c) bad_record)
 
       check_opened : (f : ℕ) → left - 1 ≤ f
           → check_in t (suc f) (e ∷ after) depth ≡ first_of closed (check_in t f (tab g (k + e.skip) (left - e.skip)) depth)
       check_opened f h =
           let two = o.two in
           let most = o.most in
-          let inner : check_in t f (inside_of e after) (suc depth) ≡ answer_of i =
+          let inner : check_in t f (inside_of e after) (suc depth) ≡ i =
           rw (take_tab g (k + 1) (left - 1) (e.skip - 2) (omega arith), ← add-one depth) (sym (says f (omega arith))) in
           let j : k + 1 + (e.skip - 1) ≡ k + e.skip = omega arith in
           let n : left - 1 - (e.skip - 1) ≡ left - e.skip = omega arith in
           check_group t f e after depth o.group
           ∙ rw (opened ∙ r, lt-ltb depth 32 d, inner, closer_tab t g e k left o, ← p, drop_tab g (k + 1) (left - 1) (e.skip - 1) (omega arith), j, n)
 
-      inside_stops : (n : ℕ) → (n ≡ 0 → ⊥) → answer_of n ≡ closed → Says t g depth k left (answer_of n)
-      inside_stops n a s = says_by (answer_of n) λ f h. rw (check_opened f h, ← s) (sym (answer_stops n a _))
+      inside_stops : (q : Refusal) → refused q ≡ closed → Says t g depth k left (refused q)
+      inside_stops q s = says_by (refused q) λ f h. rw (check_opened f h, ← s)
 
-      pub inside_refused : (i ≡ 0 → ⊥) → Says t g depth k left (answer_of i)
-      inside_refused a = inside_stops i a (sym (answer_stops i a (need (close_right t e c) bad_record)))
+      pub inside_refused : (q : Refusal) → i ≡ refused q → Says t g depth k left (refused q)
+      inside_refused q z = inside_stops q (rw z)
 
-      pub close_refused : i ≡ 0 → close_right t e c ≡ false → Says t g depth k left (answer_of 6)
-      close_refused z s = inside_stops 6 (λ y. absurd (omega arith)) (rw (z, s))
+      pub close_refused : i ≡ ok tt → close_right t e c ≡ false → Says t g depth k left bad
+      close_refused z s = inside_stops _ (rw (z, s))
 
-      pub group_goes : i ≡ 0 → close_right t e c ≡ true → (x : Result Unit) → Says t g depth (k + e.skip) (left - e.skip) x → Says t g depth k left x
+      pub group_goes : i ≡ ok tt → close_right t e c ≡ true → (x : Result Unit) → Says t g depth (k + e.skip) (left - e.skip) x → Says t g depth k left x
       group_goes z s x rest =
           let two = o.two in
           says_by x λ f h. rw (check_opened f h, z, s) (rest f (omega arith))

@@ -1,7 +1,7 @@
 -- 5: entries one by one, each law one turn of a loop: what is still to come, after what was seen.
 use Rattle.std.specs.Prelude.{◌+◌, ◌*◌, ◌&&◌, ◌∷◌}
 use mathlib.Core.Path.{◌≡◌, refl, sym, ap, ◌∙◌}
-use native.Mathlib.Nat.{add-zero, zero-add, add_assoc, mul-suc, mul-le-mul_left}
+use native.Mathlib.Nat.{add-zero, zero-add, add_assoc}
 use native.Mathlib.Numerals.{add-one}
 use native.Mathlib.Omega.{arith}
 use Prim.Native.Nat.{◌<◌, ◌≤◌, ◌-◌}
@@ -39,17 +39,11 @@ pub sizes_end : (right : Bool) (g : ℕ → ℕ) (s k n total : ℕ) → n ≤ k
 unfolding sum all
 sizes_end right g s k n total l = rw (tab_end g k n l, add-zero)
 
-pub sizes_again : (right right' : Bool) (g : ℕ → ℕ) (s k n size total : ℕ) (whole : Bool) → k < n → size ≡ g k → right' ≡ (right && leb 1 size)
-    → (right && sizes_right s (tab g k (n - k)) total) ≡ whole → (right' && sizes_right (s + size) (tab g (k + 1) (n - (k + 1))) total) ≡ whole
-sizes_again right right' g s k n size total whole l e q inv =
-    rw (q, e, ← sizes_cons right s (g k) (tab g (k + 1) (n - (k + 1))) total, ← tab_next g k n l) inv
-
-pub place_next : (from step k at : ℕ) → at ≡ from + step * k → at + step ≡ from + step * (k + 1)
-place_next from step k at e = rw (e, add-one k, mul-suc) (add_assoc from (step * k) step)
-
--- what is stepped over ends no later than the last step
-pub step_fits : (step k n : ℕ) → k < n → step * k + step ≤ step * n
-step_fits step k n l = rw (← mul-suc step k) (mul-le-mul_left step (omega arith))
+pub sizes_again : (right : Bool) (g : ℕ → ℕ) (s k n size total : ℕ) (whole : Bool) → k < n → size ≡ g k
+    → (right && sizes_right s (tab g k (n - k)) total) ≡ whole
+    → ((right && leb 1 size) && sizes_right (s + size) (tab g (k + 1) (n - (k + 1))) total) ≡ whole
+sizes_again right g s k n size total whole l e inv =
+    rw (e, ← sizes_cons right s (g k) (tab g (k + 1) (n - (k + 1))) total, ← tab_next g k n l) inv
 
 spares_next : (a p q e s z : Bool) → (a && (((p && q) && e) && (s && z))) ≡ ((a && (p && s)) && ((q && e) && z))
 spares_next false p q e s z = refl
@@ -72,12 +66,13 @@ pub widths_end : (right : Bool) (image : List ℕ) (g : ℕ → ℕ) (l k n tota
 unfolding sum all spares_zero
 widths_end right image g l k n total h = rw (tab_end g k n h, add-zero) (ap (λ (t : Bool). right && t) (and-true (eqb l total)))
 
-pub widths_again : (right right' spare inner : Bool) (image : List ℕ) (g : ℕ → ℕ) (l k n w literals total : ℕ) (whole : Bool) → k < n → w ≡ g k
-    → literals ≡ (tables image).literals → spare ≡ spare_zero image (literals + l) w → inner ≡ (leb w 4096 && spare) → right' ≡ (right && inner)
-    → (right && widths_right image l (tab g k (n - k)) total) ≡ whole → (right' && widths_right image (l + bytes_for w) (tab g (k + 1) (n - (k + 1))) total) ≡ whole
-widths_again right right' spare inner image g l k n w literals total whole h e t s i q inv =
+pub widths_again : (right spare : Bool) (image : List ℕ) (g : ℕ → ℕ) (l k n w b literals total : ℕ) (whole : Bool) → k < n → w ≡ g k
+    → b ≡ bytes_for w → literals ≡ (tables image).literals → spare ≡ spare_zero image (literals + l) w
+    → (right && widths_right image l (tab g k (n - k)) total) ≡ whole
+    → ((right && (leb w 4096 && spare)) && widths_right image (l + b) (tab g (k + 1) (n - (k + 1))) total) ≡ whole
+widths_again right spare image g l k n w b literals total whole h e d t s inv =
     let cons = widths_cons right image l (g k) (tab g (k + 1) (n - (k + 1))) total in
-    rw (q, i, s, t, e) (sym (ap (λ (ws : List ℕ). right && widths_right image l ws total) (tab_next g k n h) ∙ cons) ∙ inv)
+    rw (d, s, t, e) (sym (ap (λ (ws : List ℕ). right && widths_right image l ws total) (tab_next g k n h) ∙ cons) ∙ inv)
 
 regroup : (a b c d e f g : Bool) → (((a && b) && (c && d)) && ((e && f) && g)) ≡ ((((((a && b) && c) && d) && e) && f) && g)
 regroup a b c d e f g = rw (← and_assoc (a && b) c d, ← and_assoc ((a && b) && c && d) (e && f) g, ← and_assoc ((a && b) && c && d) e f)

@@ -1,21 +1,20 @@
 -- Component after component, the places in an image that passed 2 to 4, and the whole check in its parts.
-use Rattle.std.specs.Prelude.{◌+◌, ◌&&◌}
+use Rattle.std.specs.Prelude.{◌+◌}
 use mathlib.Core.Path.{◌≡◌, refl, sym, ap, ◌∙◌}
 use Prim.Native.Nat.{◌<◌, ◌≤◌, ◌-◌}
 use native.Mathlib.Omega.{arith}
 use borrow.Author.Tests.{lt-leb, le-leb, ne_eqb}
-use Rattle.definition.specs.Prelude.{ℕ, Bool, true, false, List, map, length, leb, eqb}
-use Rattle.definition.specs.Basics.{Result, ok, refused, refusal_of, sum, all, tab}
-use Rattle.definition.specs.Refusals.{need, short_image, bad_count, bad_offset, bad_entry, bad_record}
-use Rattle.definition.specs.Image.{u32_at, bytes_for, counts, tables_for, tables, component_count, record_count, literal_width, start_at, entry_at}
-use Rattle.definition.specs.Check.{counts_right, offsets_right, spares_zero, entries_right, check_in, check_components, check_image}
-use Rattle.laws.specs.Tests.{tested}
+use Rattle.definition.specs.Prelude.{ℕ, Bool, true, false, List, length, leb, eqb}
+use Rattle.definition.specs.Basics.{Result, ok, refused, Refusal, sum, tab}
+use Rattle.definition.specs.Refusals.{need, refuse, short_image, bad_count, bad_offset, bad_entry, bad_record}
+use Rattle.definition.specs.Image.{u32_at, counts, tables_for, record_count, start_at, entry_at}
+use Rattle.definition.specs.Check.{counts_right, offsets_right, entries_right, check_in, check_components, check_image}
 use Rattle.image.specs.declared.token_tree.Counts.{Counts}
 use Rattle.image.specs.declared.token_tree.Tables.{Tables}
-use Rattle.image.specs.token_tree.Tables.{counts_of, tables_of, entry_in}
+use Rattle.image.specs.token_tree.Tables.{counts_of, tables_of, tables_told, entry_in}
 use Rattle.image.specs.declared.check.records.Places.{Places}
 use Rattle.image.specs.check.Parts.{counts_in, offsets_in, Laid, places_of, Says, records}
-use Rattle.image.proofs.check.Answers.{first_of, Stops}
+use Rattle.image.proofs.check.Groups.{first_of}
 use Rattle.image.proofs.check.Sums.{tab_next, tab_end}
 
 -- ---- components
@@ -38,53 +37,18 @@ module _ (g : ℕ → ℕ) (from k n count : ℕ) (l : k < n) (e : count ≡ g k
     unfolding check_components
     component = rw (said, e) (sym (ap (check_components image from) (tab_next g k n l)) ∙ inv)
 
-    pub component_stops : Stops y → y ≡ whole
-    component_stops s = sym (s (check_components image (from + count) (tab g (k + 1) (n - (k + 1))))) ∙ component
+    pub component_stops : (q : Refusal) → y ≡ refused q → refused q ≡ whole
+    component_stops q r = rw r at component
 
-    pub component_goes : ok tt ≡ y → check_components image (from + count) (tab g (k + 1) (n - (k + 1))) ≡ whole
-    component_goes q = rw (← q) at component
+    pub component_goes : y ≡ ok tt → check_components image (from + count) (tab g (k + 1) (n - (k + 1))) ≡ whole
+    component_goes q = rw q at component
 
 pub components_end : (image : List ℕ) (g : ℕ → ℕ) (from k n : ℕ) (whole : Result Unit) → n ≤ k → check_components image from (tab g k (n - k)) ≡ whole → ok tt ≡ whole
 unfolding check_components
 components_end image g from k n whole l e = rw (tab_end g k n l) at e
 
--- ---- an image that passed 2 to 4
-places_by : (image : List ℕ) (h : record { c : ℕ; n : ℕ; r : ℕ; t : ℕ; b : ℕ })
-    (at : record { concatenations : ℕ; components : ℕ; records : ℕ; text : ℕ; literals : ℕ; stop : ℕ }) → h ≡ counts image → at ≡ tables image
-    → ◌≡◌ {A = Places} (record { records = at.records; text = at.text; count = h.r; t = h.t }) (places_of image)
-places_by image h at e q = rw (e, q)
-
-module _ (image : List ℕ) (h : Counts) (at : Tables) (l : Laid image h at) where
-  -- the tables by the counts that were read
-  pub tables_told : tables_of at ≡ tables_for h.c h.n h.r h.t h.b
-  tables_told = l.placed ∙ sym (ap (λ x. tables_for x.c x.n x.r x.t x.b) l.counted)
-
-  pub places_own : ◌≡◌ {A = Places} (record { records = at.records; text = at.text; count = h.r; t = h.t }) (places_of image)
-  places_own =
-      places_by image (counts_of h) (tables_of at) l.counted l.placed
-
-pub some_records : (h : record { c : ℕ; n : ℕ; r : ℕ; t : ℕ; b : ℕ }) → counts_in h ≡ true → 1 ≤ h.r
-some_records h e = let q = simp tested at e in omega arith
-
-pub image_ends : (image : List ℕ) (at : record { concatenations : ℕ; components : ℕ; records : ℕ; text : ℕ; literals : ℕ; stop : ℕ })
-    → offsets_in image at ≡ true → length image ≡ at.stop
-image_ends image at e = let q = simp tested at e in q.1
-
-second_sum : (a d f g : Bool) (x n y r z b : ℕ) → (a && eqb x n && d && eqb y r && f && eqb z b && g) ≡ true → y ≤ r
-second_sum a d f g x n y r z b h = let q = simp tested at h in omega arith
-
-pub records_sum : (image : List ℕ) (h : Counts) → counts_of h ≡ counts image → entries_right image ≡ true → sum (tab (record_count image) 0 h.n) ≤ h.r
-records_sum image h e r =
-    let k = counts image in
-    let sizes = tab (component_count image) 0 k.c in
-    let lengths = tab (record_count image) 0 k.n in
-    let widths = tab (literal_width image) 0 k.n in
-    let s : sum lengths ≤ k.r = second_sum (all (leb 1) sizes) (all (leb 1) lengths) (all (λ w. leb w 4096) widths) (spares_zero image 0 widths) (sum sizes) k.n (sum lengths) k.r
-    (sum (map bytes_for widths)) k.b r in
-    rw (ap (λ x. x.n) e, ap (λ x. x.r) e) s
-
 -- ---- the records: the first start is looked at before them
-start_stops : (n : ℕ) (x : Result Unit) → (n ≡ 0 → ⊥) → refused (refusal_of 6 0 0) ≡ first_of (need (eqb n 0) bad_record) x
+start_stops : (n : ℕ) (x : Result Unit) → (n ≡ 0 → ⊥) → refuse bad_record ≡ first_of (need (eqb n 0) bad_record) x
 start_stops n x h = rw (ne_eqb n 0 h)
 
 start_goes : (n : ℕ) (x : Result Unit) → n ≡ 0 → x ≡ first_of (need (eqb n 0) bad_record) x
@@ -97,7 +61,7 @@ module _ (image : List ℕ) (h : Counts) (at : Tables) (l : Laid image h at) (st
   abbrev all_components : Result Unit
   all_components = check_components image 0 (tab (record_count image) 0 (counts image).n)
 
-  pub start_refused : (start ≡ 0 → ⊥) → refused (refusal_of 6 0 0) ≡ records image
+  pub start_refused : (start ≡ 0 → ⊥) → refuse bad_record ≡ records image
   unfolding records
   start_refused a = start_stops (start_at image 0) all_components λ z. a (first_start ∙ z)
 
@@ -116,21 +80,30 @@ module _ (image : List ℕ) where
   unfolding check_image records
   parts = refl
 
-  pub too_short : length image < 40 → check_image image ≡ refused (refusal_of 2 0 0)
-  too_short h = parts ∙ rw (lt-leb 40 (length image) h)
+  pub too_short : length image < 40 → refuse short_image ≡ check_image image
+  too_short h = sym (parts ∙ rw (lt-leb 40 (length image) h))
 
-  module _ (long : 40 ≤ length image) where
+  -- by what was read of the header
+  module _ (long : 40 ≤ length image) (h : Counts) (counted : counts_of h ≡ counts image) where
     at_least : leb 40 (length image) ≡ true
     at_least = le-leb 40 (length image) long
 
-    pub miscounted : counts_right image ≡ false → check_image image ≡ refused (refusal_of 3 0 0)
-    miscounted h = parts ∙ rw (at_least, h)
+    counts_as : (b : Bool) → counts_in (counts_of h) ≡ b → counts_right image ≡ b
+    counts_as b r = ap counts_in (sym counted) ∙ r
 
-    pub misplaced : counts_right image ≡ true → offsets_right image ≡ false → check_image image ≡ refused (refusal_of 4 0 0)
-    misplaced h p = parts ∙ rw (at_least, h, p)
+    pub miscounted : counts_in (counts_of h) ≡ false → refuse bad_count ≡ check_image image
+    miscounted r = sym (parts ∙ rw (at_least, counts_as false r))
 
-    pub wrong_entry : counts_right image ≡ true → offsets_right image ≡ true → entries_right image ≡ false → check_image image ≡ refused (refusal_of 5 0 0)
-    wrong_entry h p e = parts ∙ rw (at_least, h, p, e)
+    module _ (right : counts_in (counts_of h) ≡ true) (at : Tables) (placed : tables_of at ≡ tables_for h.c h.n h.r h.t h.b) where
+      offsets_as : (b : Bool) → offsets_in image (tables_of at) ≡ b → offsets_right image ≡ b
+      offsets_as b r = ap (offsets_in image) (sym (tables_told image at h placed counted)) ∙ r
 
-    pub all_but_records : counts_right image ≡ true → offsets_right image ≡ true → entries_right image ≡ true → check_image image ≡ records image
-    all_but_records h p e = parts ∙ rw (at_least, h, p, e)
+      pub misplaced : offsets_in image (tables_of at) ≡ false → refuse bad_offset ≡ check_image image
+      misplaced r = sym (parts ∙ rw (at_least, counts_as true right, offsets_as false r))
+
+      module _ (set : offsets_in image (tables_of at) ≡ true) where
+        pub wrong_entry : entries_right image ≡ false → refuse bad_entry ≡ check_image image
+        wrong_entry r = sym (parts ∙ rw (at_least, counts_as true right, offsets_as true set, r))
+
+        pub all_but_records : entries_right image ≡ true → records image ≡ check_image image
+        all_but_records r = sym (parts ∙ rw (at_least, counts_as true right, offsets_as true set, r))

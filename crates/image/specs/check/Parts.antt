@@ -1,7 +1,7 @@
 -- The parts of the image check, over numbers that were read already. Each is the definition's own where it is given what the image says.
-use Rattle.std.specs.Prelude.{◌≡◌, ◌≤◌, ◌+◌, ◌*◌, ◌/◌, ◌^◌, ◌&&◌, if◌then◌else◌}
+use Rattle.std.specs.Prelude.{◌≡◌, ◌≤◌, ◌+◌, ◌*◌, ◌/◌, ◌^◌, ◌&&◌}
 use Rattle.definition.specs.Prelude.{ℕ, Bool, List, map, length, get_or, leb, eqb}
-use Rattle.definition.specs.Basics.{Result, ok, refused, refusal_of, ◌>>=◌, within, sum, all, tab}
+use Rattle.definition.specs.Basics.{Result, ◌>>=◌, within, sum, all, tab}
 use Rattle.definition.specs.Limits.{limits}
 use Rattle.definition.specs.Refusals.{need, bad_record}
 use Rattle.definition.specs.Image.{u32_at, bytes_for, counts, tables, record_count, start_at, Entry}
@@ -55,10 +55,6 @@ pub record Fits (image : List ℕ) (records text all : ℕ) : Type 0 where
 -- a record's numbers with the first byte of its text, where the texts stand at `text`
 abbrev pub entry_from : List ℕ → ℕ → Numbers → Entry
 entry_from image text e = entry_with e (get_or image (text + e.start) 0)
-
--- an answer as a number: 0 passed, any other refuses
-abbrev pub answer_of : ℕ → Result Unit
-answer_of n = if eqb n 0 then ok tt else refused (refusal_of n 0 0)
 
 -- x is the answer of the check of `count` records from record `from` on, whatever fuel is enough
 abbrev pub Says : ℕ → (ℕ → Entry) → ℕ → ℕ → ℕ → Result Unit → Type 0

@@ -6,8 +6,7 @@ ghost use Rattle.definition.specs.Check.{entries_right};
 ghost use Rattle.image.specs.check.Parts.{Laid, sizes_right, widths_right, spare_zero};
 
 use crate::token_tree::{Counts, Tables};
-use crate::words::four_at;
-use errors::flags::both;
+use crate::words::{byte_at, four_at};
 
 // Whether n numbers, `step` bytes apart, are each at least 1 and have this sum.
 fn sizes_right(image: &[u8], from: usize, step: usize, n: u32, total: u32) -> bool
@@ -15,20 +14,16 @@ fn sizes_right(image: &[u8], from: usize, step: usize, n: u32, total: u32) -> bo
     ensures { result ≡ sizes_right 0 (tab (λ i. u32_at image.now (from + step * i)) 0 n) total }
 {
     let mut right = true;
-    let mut sum: u64 = 0;
-    let mut at = from;
-    let mut k: u32 = 0;
-    while k < n {
-        let size = four_at(image, at);
-        right = both(right, 1 <= size);
+    let mut sum = 0;
+    for k in 0..n as usize {
+        let size = four_at(image, from + step * k);
+        right &= 1 <= size;
         sum += size as u64;
-        at += step;
-        k += 1;
     }
-    both(right, sum == (total as u64))
+    right & (sum == (total as u64))
 }
 
-// Whether the bits of a last byte above the width are zero. A width of whole bytes has none, and no byte is read.
+// Whether the bits of a literal's last byte above the width are zero. A width of whole bytes has none, and no byte is read.
 fn spare_right(image: &[u8], at: usize, w: u32) -> bool
     requires { at ≤ 2 ^ 62 }
     ensures { result ≡ spare_zero image.now at w }
@@ -36,36 +31,30 @@ fn spare_right(image: &[u8], at: usize, w: u32) -> bool
     if w % 8 == 0 {
         return true;
     }
-    crate::record_rules::spare_zero(crate::token_tree::byte_at(image, at + (w as usize) / 8), w)
+    let last = byte_at(image, at + (w as usize) / 8);
+    (last as u32) < (1u32 << (w % 8))
 }
 
+// Whether the literals of n components have a right width, zero spare bits, and together this many bytes.
 fn widths_right(image: &[u8], components: usize, literals: usize, n: u32, total: u32) -> bool
     requires { (literals ≡ (tables image.now).literals) × (components + 8 * n ≤ length image.now) × (literals ≤ 2 ^ 40) }
     ensures { result ≡ widths_right image.now 0 (tab (λ i. u32_at image.now (components + 8 * i + 4)) 0 n) total }
 {
     let mut right = true;
-    let mut l: usize = 0;
-    let mut k: u32 = 0;
-    while k < n {
-        let w = four_at(image, components + 8 * (k as usize) + 4);
-        let spare = spare_right(image, literals + l, w);
-        right = both(right, both(w <= limits::WIDTH, spare));
-        l += ((w as usize) + 7) / 8;
-        k += 1;
+    let mut l = 0;
+    for k in 0..n as usize {
+        let w = four_at(image, components + 8 * k + 4);
+        right &= (w <= limits::WIDTH) & spare_right(image, literals + l, w);
+        l += (w as usize).div_ceil(8);
     }
-    both(right, l == (total as usize))
+    right & (l == (total as usize))
 }
 
 pub(crate) fn entries_right(image: &[u8], h: Counts, at: Tables) -> bool
     requires { Laid image.now h at }
     ensures { result ≡ entries_right image.now }
 {
-    let sizes = both(
-        sizes_right(image, 40, 4, h.c, h.n),
-        sizes_right(image, at.components, 8, h.n, h.r),
-    );
-    both(
-        sizes,
-        widths_right(image, at.components, at.literals, h.n, h.b),
-    )
+    sizes_right(image, 40, 4, h.c, h.n)
+        & sizes_right(image, at.components, 8, h.n, h.r)
+        & widths_right(image, at.components, at.literals, h.n, h.b)
 }

@@ -4,14 +4,14 @@ ghost use Rattle.std.specs.Prelude.{◌≡◌, ℕ, ◌+◌, ◌*◌, ◌^◌, �
 ghost use Rattle.definition.specs.Basics.{sum, tab};
 ghost use Rattle.definition.specs.Image.{tables, record_count};
 ghost use Rattle.definition.specs.Check.{check_components};
-ghost use Rattle.errors.specs.Refused.{result_of};
+ghost use Rattle.errors.specs.Refused.{reasoned};
 ghost use Rattle.image.specs.token_tree.Tables.{stop_in, entry_in};
-ghost use Rattle.image.specs.check.Parts.{Laid, Fits, entry_from, places_of, answer_of, Says, records};
+ghost use Rattle.image.specs.check.Parts.{Laid, Fits, entry_from, places_of, Says, records};
 
 use crate::record_rules::Numbers;
 use crate::token_tree::{Counts, Tables};
 use crate::words::four_at;
-use errors::Checked;
+use errors::Reason;
 
 // Where the records and their texts stand, how many records there are and where the text stops.
 #[derive(Clone, Copy)]
@@ -54,8 +54,7 @@ fn byte_of(image: &[u8], text: usize, e: Numbers) -> u8
     crate::token_tree::byte_at(image, text + (e.start as usize))
 }
 
-// `count` records from record `from` on, one component's or what stands in a group, `depth` groups deep: 0 passed, else the number
-// that refuses. Siblings go by the loop.
+// `count` records from record `from` on, one component's or what stands in a group, `depth` groups deep. Siblings go by the loop.
 fn check_in(
     image: &[u8],
     records: usize,
@@ -65,71 +64,63 @@ fn check_in(
     from: u32,
     count: u32,
     depth: u32,
-) -> u32
+) -> Result<(), Reason>
     requires { Fits image.now records text all × (from + count ≤ all) × (depth ≤ 32) }
-    ensures { Says t (entry_in image.now records text all t) depth from count (answer_of result) }
+    ensures { Says t (entry_in image.now records text all t) depth from count (reasoned result) }
 {
     let mut k = from;
     let mut left = count;
     while 0 < left {
         let e = numbers_at(image, records, all, t, k);
         if e.kind == 0 {
-            if !crate::record_rules::word_right(t, e) {
-                return 6;
+            if !e.word_right(t) {
+                return Err(Reason::BadRecord);
             }
             k += 1;
             left -= 1;
         } else {
-            if !crate::record_rules::skip_right(e, left) {
-                return 6;
+            if !e.skip_right(left) {
+                return Err(Reason::BadRecord);
             }
             let closer = numbers_at(image, records, all, t, k + (e.skip - 1));
-            if !crate::record_rules::opener_right(t, e, byte_of(image, text, e), closer) {
-                return 6;
+            if !e.opener_right(t, byte_of(image, text, e), closer) {
+                return Err(Reason::BadRecord);
             }
             let deep = limits::DEPTH <= depth;
             if deep {
-                return 7;
+                return Err(Reason::TooDeep);
             }
-            let inside = check_in(image, records, text, all, t, k + 1, e.skip - 2, depth + 1);
-            if inside != 0 {
-                return inside;
-            }
-            if !crate::record_rules::close_right(t, e, closer, byte_of(image, text, closer)) {
-                return 6;
+            check_in(image, records, text, all, t, k + 1, e.skip - 2, depth + 1)?;
+            if !e.close_right(t, closer, byte_of(image, text, closer)) {
+                return Err(Reason::BadRecord);
             }
             k += e.skip;
             left -= e.skip;
         }
     }
-    0
+    Ok(())
 }
 
 // The records of n components, whose entries stand at `at`, one component after the other.
-fn components_check(image: &[u8], p: Places, at: usize, n: u32) -> Checked
+fn components_check(image: &[u8], p: Places, at: usize, n: u32) -> Result<(), Reason>
     requires { Fits image.now p.records p.text p.count × (p ≡ places_of image.now) × (at ≡ (tables image.now).components) × (at + 8 * n ≤ length image.now) × (sum (tab (record_count image.now) 0 n) ≤ p.count) }
-    ensures { result_of result ≡ check_components image.now 0 (tab (record_count image.now) 0 n) }
+    ensures { reasoned result ≡ check_components image.now 0 (tab (record_count image.now) 0 n) }
 {
-    let mut from: u32 = 0;
-    let mut k: u32 = 0;
-    while k < n {
-        let count = four_at(image, at + 8 * (k as usize));
-        let part = check_in(image, p.records, p.text, p.count, p.t, from, count, 0);
-        if part != 0 {
-            return Checked::Refused(errors::refuse(part));
-        }
+    let mut from = 0;
+    for k in 0..n as usize {
+        let count = four_at(image, at + 8 * k);
+        check_in(image, p.records, p.text, p.count, p.t, from, count, 0)?;
         from += count;
-        k += 1;
     }
-    Checked::Passed
+    Ok(())
 }
 
-pub(crate) fn records_check(image: &[u8], h: Counts, at: Tables) -> Checked
+pub(crate) fn records_check(image: &[u8], h: Counts, at: Tables) -> Result<(), Reason>
     requires { Laid image.now h at × (sum (tab (record_count image.now) 0 h.n) ≤ h.r) }
-    ensures { result_of result ≡ records image.now }
+    ensures { reasoned result ≡ records image.now }
 {
     if four_at(image, at.records + 4) != 0 {
-        return Checked::Refused(errors::refuse(6));
+        return Err(Reason::BadRecord);
     }
     let p = Places {
         records: at.records,

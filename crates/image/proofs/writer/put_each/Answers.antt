@@ -1,30 +1,18 @@
-use mathlib.Core.Path.{refl, ap, ◌∙◌}
-use Prim.Native.Nat.{◌+◌}
-use native.Mathlib.Nat.{le_antisymm}
-use native.Mathlib.Omega.{arith}
-use lib.ListN.{set}
-use lib.Seq.{sets}
-use Rattle.definition.specs.Image.{bytes_at, padded}
+use Rattle.std.proofs.Common.{refl, ap, ◌∙◌, ◌+◌, [], ◌∷◌, set, arith}
+use Rattle.definition.specs.Image.{padded}
 use Rattle.laws.specs.Writing.{copy_next}
+use Rattle.image.proofs.writer.Runs.{run_far}
 use Rattle.image.proofs.writer.put_each.Goals as goal
 
 pub loop-i-init : goal.loop-i-init
 unfolding padded
-loop-i-init c = (refl, omega arith, refl)
+loop-i-init c = refl
 
 pub loop-i-preserved : goal.loop-i-preserved
 loop-i-preserved c =
-    let v = c.loop-i in
-    let a = c.args in (
-      c.put_on.ensures
-          ∙ ap (set v.area (a.at + v.i)) c.byte_on.ensures
-          ∙ copy_next a.area.now a.at a.s.now a.from v.i v.invariant.0,
-      omega arith,
-      c.put_on.auto.area ∙ v.invariant.2,
-    )
-
-pub returns : goal.returns
-returns c =
     let a = c.args in
     let v = c.loop-i in
-    v.invariant.0 ∙ ap (λ k. sets a.area.now a.at (bytes_at a.s.now a.from k)) (le_antisymm v.invariant.1 c.loop-i-test.false)
+    c.put_byte.ensures
+    ∙ run_far v.area (a.at + v.i) _ _ (c.byte_on.result ∷ []) c.saturating_add.ensures (omega arith)
+    ∙ ap (set v.area (a.at + v.i)) c.byte_on.ensures
+    ∙ copy_next a.area.now a.at a.s.now a.from v.i v.invariant

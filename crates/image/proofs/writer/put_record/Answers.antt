@@ -1,14 +1,8 @@
--- The row at the front of the part from its place on.
-use native.Mathlib.Omega.{arith}
-use Rattle.laws.specs.Sets.{sets_from}
-use Rattle.laws.specs.Writing.{sets_out}
-use Rattle.image.specs.writer.Written.{record_row}
+use Rattle.std.proofs.Common.{ap, ◌∙◌}
+use Rattle.std.proofs.lemmas.List.Edits.{sets}
+use Rattle.definition.specs.Basics.{joined}
 use Rattle.image.proofs.writer.put_record.Goals as goal
 
-pub returns-then-area-at : goal.returns-then-area-at
-returns-then-area-at c = let a = c.args in sets_out a.area.now a.at (record_row a.kind a.start a.skip) (omega arith)
-
 pub returns : goal.returns
-returns c =
-    let a = c.args in
-    sets_from a.area.now _ a.at (record_row a.kind a.start a.skip) (omega arith) c.put_three.ensures
+unfolding joined
+returns c = let a = c.args in c.put.ensures ∙ ap (sets a.area.now a.at) c.put_numbers.ensures

@@ -13,8 +13,5 @@ size image from step i = u32_at image (from + step * i)
 
 abbrev pub invariant-loop-k : goal.invariant-loop-k
 invariant-loop-k l =
-    (l.k ≤ l.n) × (l.at ≡ l.from + l.step * l.k) × (l.sum ≤ 4294967296 * l.k)
+    (l.sum ≤ 4294967296 * l.k)
     × ((l.right && sizes_right l.sum (tab (size l.image l.from l.step) l.k (l.n - l.k)) l.total) ≡ sizes_right 0 (tab (size l.image l.from l.step) 0 l.n) l.total)
-
-abbrev pub decreases-loop-k : goal.decreases-loop-k
-decreases-loop-k l = l.n - l.k

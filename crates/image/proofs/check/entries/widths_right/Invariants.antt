@@ -13,8 +13,5 @@ width image components i = u32_at image (components + 8 * i + 4)
 
 abbrev pub invariant-loop-k : goal.invariant-loop-k
 invariant-loop-k l =
-    (l.k ≤ l.n) × (l.l ≤ 536870912 * l.k)
+    (l.l ≤ 536870912 * l.k)
     × ((l.right && widths_right l.image l.l (tab (width l.image l.components) l.k (l.n - l.k)) l.total) ≡ widths_right l.image 0 (tab (width l.image l.components) 0 l.n) l.total)
-
-abbrev pub decreases-loop-k : goal.decreases-loop-k
-decreases-loop-k l = l.n - l.k

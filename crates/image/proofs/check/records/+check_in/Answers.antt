@@ -1,9 +1,10 @@
 -- The record checker: each way through the loop, by the laws of proofs/check/Groups.
-use Rattle.std.proofs.Common.{◌≡◌, ℕ, ◌+◌, ◌<◌, Bool, List, get_or, sym, ap, ◌∙◌, arith, rules}
+use Rattle.std.proofs.Common.{◌≡◌, Err, ℕ, ◌+◌, Bool, List, get_or, sym, ap, ◌∙◌, arith}
 use Rattle.definition.specs.Check.{close_right}
 use Rattle.image.specs.declared.record_rules.Numbers.{Numbers}
 use Rattle.image.specs.token_tree.Tables.{entry_in}
 use Rattle.image.specs.check.Parts.{entry_from}
+use Rattle.errors.specs.Refused.{reasoned}
 use Rattle.image.specs.record_rules.Rules.{entry_with, opener_right}
 use Rattle.image.proofs.check.Groups.{Opener, skip_told, word_refused, word_goes, skip_refused, opener_refused, deep_refused, inside_refused, close_refused, group_goes, says_end}
 use Rattle.image.proofs.check.records.+check_in.Goals as goal
@@ -19,16 +20,6 @@ module _ (image : List ℕ) (text t : ℕ) (e c : Numbers) (byte : ℕ) (r : Boo
       → close_right t (entry_from image text e) (entry_from image text c) ≡ r
   closer_read p q = ap (λ x. close_right t (entry_with e 0) (entry_with c x)) (sym p) ∙ sym q
 
-pub loop-left-init : goal.loop-left-init
-loop-left-init t c = (search rules, search rules, λ x says. says)
-
-pub numbers_at-e-requires : goal.numbers_at-e-requires
-numbers_at-e-requires t c = (c.requires.0.inside, omega arith)
-
-pub word_right-requires : goal.word_right-requires
-word_right-requires t c = omega (arith, c.if-e-eq0.true)
-
--- ---- a word
 pub returns-then-not-word_right : goal.returns-then-not-word_right
 returns-then-not-word_right t c =
     let a = c.args in
@@ -55,81 +46,7 @@ returns-then-not-skip_right t c =
     let v = c.loop-left in
     v.invariant.2 _
     (skip_refused a.t (entry_in a.image.now a.records a.text a.all a.t) a.depth v.k v.left c.loop-left-test.true (entry_from a.image.now a.text c.numbers_at-e.result) (c.numbers_at-e.ensures a.text)
-    (λ z. absurd (omega (arith, z, c.if-e-eq0.false))) (sym c.skip_right.ensures ∙ c.if-not-skip_right.true))
-
-pub overflow_sub-e : goal.overflow_sub-e
-overflow_sub-e t c =
-    let a = c.args in
-    let v = c.loop-left in
-    let fits : Opener (entry_from a.image.now a.text c.numbers_at-e.result) v.left
-    = skip_told (entry_from a.image.now a.text c.numbers_at-e.result) v.left (sym c.skip_right.ensures ∙ c.if-not-skip_right.false) in
-    omega (arith, fits)
-
-pub overflow_add-k-else-e-eq0 : goal.overflow_add-k-else-e-eq0
-overflow_add-k-else-e-eq0 t c =
-    let a = c.args in
-    let v = c.loop-left in
-    let fits : Opener (entry_from a.image.now a.text c.numbers_at-e.result) v.left
-    = skip_told (entry_from a.image.now a.text c.numbers_at-e.result) v.left (sym c.skip_right.ensures ∙ c.if-not-skip_right.false) in
-    omega (arith, fits)
-
-pub overflow_sub-e-else-e-eq0 : goal.overflow_sub-e-else-e-eq0
-overflow_sub-e-else-e-eq0 t c =
-    let a = c.args in
-    let v = c.loop-left in
-    let fits : Opener (entry_from a.image.now a.text c.numbers_at-e.result) v.left
-    = skip_told (entry_from a.image.now a.text c.numbers_at-e.result) v.left (sym c.skip_right.ensures ∙ c.if-not-skip_right.false) in
-    omega (arith, fits)
-
-pub overflow_sub-left-else-e-eq0 : goal.overflow_sub-left-else-e-eq0
-overflow_sub-left-else-e-eq0 t c =
-    let a = c.args in
-    let v = c.loop-left in
-    let fits : Opener (entry_from a.image.now a.text c.numbers_at-e.result) v.left
-    = skip_told (entry_from a.image.now a.text c.numbers_at-e.result) v.left (sym c.skip_right.ensures ∙ c.if-not-skip_right.false) in
-    omega (arith, fits)
-
-pub loop-left-smaller : goal.loop-left-smaller
-loop-left-smaller t c =
-    let a = c.args in
-    let v = c.loop-left in
-    let fits : Opener (entry_from a.image.now a.text c.numbers_at-e.result) v.left
-    = skip_told (entry_from a.image.now a.text c.numbers_at-e.result) v.left (sym c.skip_right.ensures ∙ c.if-not-skip_right.false) in
-    omega (arith, fits)
-
-pub numbers_at-closer-requires : goal.numbers_at-closer-requires
-numbers_at-closer-requires t c =
-    let a = c.args in
-    let v = c.loop-left in
-    let fits : Opener (entry_from a.image.now a.text c.numbers_at-e.result) v.left
-    = skip_told (entry_from a.image.now a.text c.numbers_at-e.result) v.left (sym c.skip_right.ensures ∙ c.if-not-skip_right.false) in
-    (c.requires.0.inside, omega (arith, fits))
-
-pub byte_of-requires : goal.byte_of-requires
-byte_of-requires t c =
-    c.requires.0.low
-
-pub byte_of-requires-else-e-eq0 : goal.byte_of-requires-else-e-eq0
-byte_of-requires-else-e-eq0 t c =
-    c.requires.0.low
-
-pub overflow_add-k-else-e-eq0-2 : goal.overflow_add-k-else-e-eq0-2
-overflow_add-k-else-e-eq0-2 t c =
-    let a = c.args in
-    let v = c.loop-left in
-    let fits : Opener (entry_from a.image.now a.text c.numbers_at-e.result) v.left
-    = skip_told (entry_from a.image.now a.text c.numbers_at-e.result) v.left (sym c.skip_right.ensures ∙ c.if-not-skip_right.false) in
-    let room : v.k + v.left < 4294967296 = omega (arith, c.requires.0, c.requires.1, v.invariant.0) in
-    omega (arith, fits, room)
-
-pub overflow_add-k-else-e-eq0-3 : goal.overflow_add-k-else-e-eq0-3
-overflow_add-k-else-e-eq0-3 t c =
-    let a = c.args in
-    let v = c.loop-left in
-    let fits : Opener (entry_from a.image.now a.text c.numbers_at-e.result) v.left
-    = skip_told (entry_from a.image.now a.text c.numbers_at-e.result) v.left (sym c.skip_right.ensures ∙ c.if-not-skip_right.false) in
-    let room : v.k + v.left < 4294967296 = omega (arith, c.requires.0, c.requires.1, v.invariant.0) in
-    omega (arith, fits, room)
+    (λ z. absurd (omega (arith, z, c.if-e-eq0.false))) (sym c.skip_right.ensures.answer ∙ c.if-not-skip_right.true))
 
 pub returns-then-not-opener_right : goal.returns-then-not-opener_right
 returns-then-not-opener_right t c =
@@ -138,7 +55,7 @@ returns-then-not-opener_right t c =
     let image = a.image.now in
     let e = entry_from image a.text c.numbers_at-e.result in
     let closer = entry_from image a.text c.numbers_at-closer.result in
-    let fits : Opener e v.left = skip_told e v.left (sym c.skip_right.ensures ∙ c.if-not-skip_right.false) in
+    let fits : Opener e v.left = skip_told e v.left (sym c.skip_right.ensures.answer ∙ c.if-not-skip_right.false) in
     let read = opener_read image a.text a.t c.numbers_at-e.result c.numbers_at-closer.result c.byte_of.result c.opener_right.result c.byte_of.ensures c.opener_right.ensures in
     v.invariant.2 _
     (opener_refused a.t (entry_in image a.records a.text a.all a.t) a.depth v.k v.left c.loop-left-test.true e (c.numbers_at-e.ensures a.text)
@@ -151,34 +68,27 @@ returns-then-deep t c =
     let image = a.image.now in
     let e = entry_from image a.text c.numbers_at-e.result in
     let closer = entry_from image a.text c.numbers_at-closer.result in
-    let fits : Opener e v.left = skip_told e v.left (sym c.skip_right.ensures ∙ c.if-not-skip_right.false) in
+    let fits : Opener e v.left = skip_told e v.left (sym c.skip_right.ensures.answer ∙ c.if-not-skip_right.false) in
     let read = opener_read image a.text a.t c.numbers_at-e.result c.numbers_at-closer.result c.byte_of.result c.opener_right.result c.byte_of.ensures c.opener_right.ensures in
     v.invariant.2 _
     (deep_refused a.t (entry_in image a.records a.text a.all a.t) a.depth v.k v.left c.loop-left-test.true e (c.numbers_at-e.ensures a.text)
     fits closer (c.numbers_at-closer.ensures a.text) (read ∙ c.if-not-opener_right.false)
     (omega (arith, c.if-deep.true)))
 
-pub check_in-inside-requires : goal.check_in-inside-requires
-check_in-inside-requires t c =
-    let a = c.args in
-    let v = c.loop-left in
-    let fits : Opener (entry_from a.image.now a.text c.numbers_at-e.result) v.left
-    = skip_told (entry_from a.image.now a.text c.numbers_at-e.result) v.left (sym c.skip_right.ensures ∙ c.if-not-skip_right.false) in
-    (omega (arith, fits, c.decreases, v.invariant.1), (c.requires.0, omega (arith, fits, c.requires.1, v.invariant.0), omega (arith, c.if-deep.false)))
-
-pub returns-then-inside-ne0 : goal.returns-then-inside-ne0
-returns-then-inside-ne0 t c =
+pub returns-in_err-check_in : goal.returns-in_err-check_in
+returns-in_err-check_in t c =
     let a = c.args in
     let v = c.loop-left in
     let image = a.image.now in
     let e = entry_from image a.text c.numbers_at-e.result in
     let closer = entry_from image a.text c.numbers_at-closer.result in
-    let fits : Opener e v.left = skip_told e v.left (sym c.skip_right.ensures ∙ c.if-not-skip_right.false) in
+    let fits : Opener e v.left = skip_told e v.left (sym c.skip_right.ensures.answer ∙ c.if-not-skip_right.false) in
     let read = opener_read image a.text a.t c.numbers_at-e.result c.numbers_at-closer.result c.byte_of.result c.opener_right.result c.byte_of.ensures c.opener_right.ensures in
-    v.invariant.2 _
+    let same : c.from_residual.result ≡ Err c.in_err-check_in.field-0.0 = grind arith in
+    rw same (v.invariant.2 _
     (inside_refused a.t (entry_in image a.records a.text a.all a.t) a.depth v.k v.left c.loop-left-test.true e (c.numbers_at-e.ensures a.text)
     fits closer (c.numbers_at-closer.ensures a.text) (read ∙ c.if-not-opener_right.false)
-    (omega (arith, c.if-deep.false)) c.check_in-inside.result c.check_in-inside.ensures c.if-inside-ne0.true)
+    (omega (arith, c.if-deep.false)) (reasoned c.check_in.result) c.check_in.ensures _ (ap reasoned c.in_err-check_in.was)))
 
 pub returns-then-not-close_right : goal.returns-then-not-close_right
 returns-then-not-close_right t c =
@@ -187,13 +97,13 @@ returns-then-not-close_right t c =
     let image = a.image.now in
     let e = entry_from image a.text c.numbers_at-e.result in
     let closer = entry_from image a.text c.numbers_at-closer.result in
-    let fits : Opener e v.left = skip_told e v.left (sym c.skip_right.ensures ∙ c.if-not-skip_right.false) in
+    let fits : Opener e v.left = skip_told e v.left (sym c.skip_right.ensures.answer ∙ c.if-not-skip_right.false) in
     let read = opener_read image a.text a.t c.numbers_at-e.result c.numbers_at-closer.result c.byte_of.result c.opener_right.result c.byte_of.ensures c.opener_right.ensures in
     let shut = closer_read image a.text a.t c.numbers_at-e.result c.numbers_at-closer.result c.byte_of-else-e-eq0.result c.close_right.result c.byte_of-else-e-eq0.ensures c.close_right.ensures in
     v.invariant.2 _
     (close_refused a.t (entry_in image a.records a.text a.all a.t) a.depth v.k v.left c.loop-left-test.true e (c.numbers_at-e.ensures a.text)
     fits closer (c.numbers_at-closer.ensures a.text) (read ∙ c.if-not-opener_right.false)
-    (omega (arith, c.if-deep.false)) c.check_in-inside.result c.check_in-inside.ensures c.if-inside-ne0.false (shut ∙ c.if-not-close_right.true))
+    (omega (arith, c.if-deep.false)) (reasoned c.check_in.result) c.check_in.ensures (ap reasoned c.in_ok-check_in.was) (shut ∙ c.if-not-close_right.true))
 
 pub loop-left-preserved : goal.loop-left-preserved
 loop-left-preserved t c =
@@ -202,7 +112,7 @@ loop-left-preserved t c =
     let image = a.image.now in
     let e = entry_from image a.text c.numbers_at-e.result in
     let closer = entry_from image a.text c.numbers_at-closer.result in
-    let fits : Opener e v.left = skip_told e v.left (sym c.skip_right.ensures ∙ c.if-not-skip_right.false) in
+    let fits : Opener e v.left = skip_told e v.left (sym c.skip_right.ensures.answer ∙ c.if-not-skip_right.false) in
     let read = opener_read image a.text a.t c.numbers_at-e.result c.numbers_at-closer.result c.byte_of.result c.opener_right.result c.byte_of.ensures c.opener_right.ensures in
     let shut = closer_read image a.text a.t c.numbers_at-e.result c.numbers_at-closer.result c.byte_of-else-e-eq0.result c.close_right.result c.byte_of-else-e-eq0.ensures c.close_right.ensures in (
       omega (arith, v.invariant.0, fits),
@@ -210,7 +120,7 @@ loop-left-preserved t c =
       λ x says. v.invariant.2 x
           (group_goes a.t (entry_in image a.records a.text a.all a.t) a.depth v.k v.left c.loop-left-test.true e (c.numbers_at-e.ensures a.text)
           fits closer (c.numbers_at-closer.ensures a.text) (read ∙ c.if-not-opener_right.false)
-          (omega (arith, c.if-deep.false)) c.check_in-inside.result c.check_in-inside.ensures c.if-inside-ne0.false (shut ∙ c.if-not-close_right.false) x says),
+          (omega (arith, c.if-deep.false)) (reasoned c.check_in.result) c.check_in.ensures (ap reasoned c.in_ok-check_in.was) (shut ∙ c.if-not-close_right.false) x says),
     )
 
 pub returns : goal.returns

@@ -1,3 +1,0 @@
--- Laws that the functions' proofs cite.
-mod Bits
-mod Delimiters

@@ -1,0 +1,57 @@
+-- Runs of bytes written into a list: over the part from a place on, whole or as far as it fits; at a place that is past the end; and
+-- numbers one next to the other.
+use Rattle.std.specs.Prelude.{◌≡◌, refl, ◌+◌, ◌*◌, ◌≤◌, ◌<◌, ◌∷◌, ◌++◌, min}
+use Rattle.std.proofs.Common.{sym, ap, ◌∙◌, arith, length-take, append_assoc, take-append-drop}
+use Rattle.std.proofs.Math.Seq.{length-sets}
+use Rattle.std.proofs.lemmas.List.{take_more, map-append}
+use Rattle.std.proofs.lemmas.List.Edits.{sets, sets-eq}
+use borrow.Author.Tests.{leb-true, leb-false}
+use lib.Seq.{drop-drop}
+use Rattle.definition.specs.Prelude.{ℕ, zero, suc, List, [], length, get_or, take, drop, map, leb}
+use Rattle.definition.specs.Basics.{joined}
+use Rattle.definition.specs.Image.{padded}
+use Rattle.definition.specs.Tree.{u32}
+use Rattle.laws.specs.Lists.{joined_append}
+use Rattle.laws.specs.Rows.{length_rows}
+use Rattle.laws.specs.Sets.{sets_append, sets_past}
+use Rattle.laws.specs.Tests.{by_test}
+use Rattle.laws.specs.Writing.{and_then}
+
+pub run_whole : (l : List ℕ) (i n : ℕ) (vs : List ℕ) → i + length vs ≤ length l → n ≡ length vs
+    → take i l ++ (vs ++ drop n (drop i l)) ≡ sets l i vs
+run_whole l i n vs h e =
+    rw (e, drop-drop (length vs) i l) (sym (sets-eq vs l i h ∙ append_assoc (take i l) vs (drop (i + length vs) l)))
+
+pub run_cut : (l : List ℕ) (i n : ℕ) (vs : List ℕ) → i + n ≡ length l → n ≤ length vs
+    → take i l ++ (take n vs ++ drop n (drop i l)) ≡ sets l i vs
+run_cut l i n vs h m =
+    let t : length (take n vs) ≡ n = simp length-take (omega arith) in
+    run_whole l i n (take n vs) (omega arith) (sym t)
+    ∙ sym (sets_past (sets l i (take n vs)) (i + length (take n vs)) (drop n vs) (simp length-sets (omega arith)))
+    ∙ sets_append l i (take n vs) (drop n vs)
+    ∙ ap (sets l i) (take-append-drop n vs)
+
+-- a sum that stops at `top`, from where on nothing stands
+pub run_far : (l : List ℕ) (i k top : ℕ) (vs : List ℕ) → k ≡ min i top → length l ≤ top → sets l k vs ≡ sets l i vs
+run_far l i k top vs e h =
+    by_test (leb i top)
+    (λ t. let below : i ≤ top = leb-true i top t in ap (λ (j : ℕ). sets l j vs) (omega arith))
+    (λ t. let above : top < i = leb-false i top t in sets_past l k vs (omega arith) ∙ sym (sets_past l i vs (omega arith)))
+
+pub numbers_next : (l : List ℕ) (at : ℕ) (ns : List ℕ) (i : ℕ) {m e : List ℕ} → i < length ns → m ≡ sets l at (joined (map u32 (take i ns)))
+    → e ≡ sets m (at + 4 * i) (u32 (get_or ns i 0)) → e ≡ sets l at (joined (map u32 (take (i + 1) ns)))
+unfolding joined
+numbers_next l at ns i h p q =
+    let long : length (joined (map u32 (take i ns))) ≡ 4 * i = length_rows 4 u32 (λ n. refl) (take i ns) ∙ simp length-take (omega arith) in
+    let n : ℕ = get_or ns i 0 in
+    let more : joined (map u32 (take (i + 1) ns)) ≡ joined (map u32 (take i ns)) ++ u32 n =
+    rw (take_more ns i 0 h, map-append u32 (take i ns) (n ∷ [])) (joined_append (map u32 (take i ns)) (u32 n ∷ [])) in
+    and_then l at (4 * i) (joined (map u32 (take i ns))) (u32 (get_or ns i 0)) p long q
+    ∙ ap (sets l at) (sym more)
+
+-- bytes that are all there
+pub padded_take : (n : ℕ) (s : List ℕ) → n ≤ length s → padded n s ≡ take n s
+unfolding padded
+padded_take zero s h = refl
+padded_take (suc n) [] h = absurd (omega arith)
+padded_take (suc n) (b ∷ s) h = rw (padded_take n s (omega arith))
