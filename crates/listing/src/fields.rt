@@ -32,7 +32,8 @@ impl Writer<'_> {
 
     fn put_bounds(&mut self, a: &Answer, place: usize)
         requires { place < 2 ^ 48 }
-        ensures { Writes self.old (spaced (bound_word (bound_at a.now.image.now a.now.bytes.now (place + 24)) ∷ end_word (end_at a.now.image.now a.now.bytes.now place) ∷ [])) self.new }
+        ensures { let s = a.now.bytes.now in let start = bound_at a.now.image.now s (place + 24) in
+            Writes self.old (spaced (bound_word start ∷ end_word (end_at a.now.image.now s place) ∷ [])) self.new }
     {
         self.put_byte(b' ');
         self.put_bound(a, place + 24);

@@ -46,7 +46,8 @@ impl Writer<'_> {
     }
 
     pub(crate) fn put_groups(&mut self, a: &Answer)
-        ensures { let s = a.now.bytes.now in Writes self.old (concat_lines 0 (tab (concat_at s) 0 (u32_at s 0)) (tab (field_at a.now.image.now s) 0 (u32_at s 4))) self.new }
+        ensures { let s = a.now.bytes.now in
+            Writes self.old (concat_lines 0 (tab (concat_at s) 0 (u32_at s 0)) (tab (field_at a.now.image.now s) 0 (u32_at s 4))) self.new }
     {
         let groups = a.u32_at(0);
         let fields = a.u32_at(4);

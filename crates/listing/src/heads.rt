@@ -13,7 +13,8 @@ use crate::writer::Writer;
 impl Writer<'_> {
     // The starting value.
     fn put_init(&mut self, a: &Answer)
-        ensures { let s = a.now.bytes.now in Writes self.old (32 ∷ flag_word (is_set (u32_at s 16) 4) (61 ∷ shown (text_at a.now.image.now s 24))) self.new }
+        ensures { let s = a.now.bytes.now in
+            Writes self.old (32 ∷ flag_word (is_set (u32_at s 16) 4) (61 ∷ shown (text_at a.now.image.now s 24))) self.new }
     {
         self.put_byte(b' ');
         if is_set(a.u32_at(16), 4) {

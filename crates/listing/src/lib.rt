@@ -52,7 +52,8 @@ pub fn write_listing(
     outcome: Result<usize, Refusal>,
     out: &mut [u8],
 ) -> Option<usize>
-    ensures { (out.new ≡ filled out.old (listing_of image.now area.now outcome)) × (result ≡ written_as (length (listing_of image.now area.now outcome)) (length out.old)) }
+    ensures { let l = listing_of image.now area.now outcome in
+        (out.new ≡ filled out.old l) × (result ≡ written_as (length l) (length out.old)) }
 {
     let mut w = Writer { out, at: 0 };
     w.put_listing(image, area, outcome);

@@ -69,8 +69,8 @@ pub put_nothing : (l : List ℕ) (at : ℕ) → length l < 2 ^ 63 → at < 2 ^ 6
 put_nothing l at h q = record { wrote = refl; place = omega arith; room = h }
 
 -- a byte where it fits, and where it does not
-pub put_one : (l : List ℕ) (at b r : ℕ) → length l < 2 ^ 63 → at < length l → r ≡ capped (at + 1) → Put l at (b ∷ []) (set l at b) r
-put_one l at b r h q e = record { wrote = refl; place = e; room = h }
+pub put_one : (l : List ℕ) (at b : ℕ) → length l < 2 ^ 63 → at < length l → Put l at (b ∷ []) (set l at b) (at + 1)
+put_one l at b h q = record { wrote = refl; place = omega arith; room = h }
 
 pub put_past : (l : List ℕ) (at b r : ℕ) → length l < 2 ^ 63 → length l ≤ at → r ≡ capped (at + 1) → Put l at (b ∷ []) l r
 put_past l at b r h q e = record { wrote = sym (set_out l at b q); place = e; room = h }

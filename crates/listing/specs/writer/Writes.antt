@@ -1,9 +1,9 @@
--- What a writer has written: bytes from its place on, as far as they fit, in the same lent buffer. Its place is a usize, which is no
--- greater than the greatest; said by `capped`, a proof needs not know that.
-use Rattle.std.specs.Prelude.{◌≡◌, refl, ◌≤◌, ◌<◌, set, ◌+◌, ◌^◌, ◌∷◌, ◌++◌}
-use Rattle.std.proofs.Common.{sym, ◌∙◌, append_assoc, append-nil, arith}
-use Rattle.definition.specs.Prelude.{ℕ, List, [], length}
-use Rattle.listing.specs.writer.Put.{capped, Put, put_nothing, put_one, put_past, ◌⨾◌ as ◌⨾ᵇ◌}
+-- What a writer has written: bytes from its place on, as far as they fit, in the same lent buffer. (A place is a usize, and so as it is
+-- when capped; written capped, a proof need not know that it is one.)
+use Rattle.std.specs.Prelude.{◌≡◌, refl, ◌<◌, ◌+◌, ◌^◌, ◌∷◌, ◌++◌}
+use Rattle.std.proofs.Common.{sym, ◌∙◌, append_assoc, append-nil, arith, add-one, take-suc}
+use Rattle.definition.specs.Prelude.{ℕ, List, [], length, get_or, take}
+use Rattle.listing.specs.writer.Put.{capped, Put, put_nothing, ◌⨾◌ as ◌⨾ᵇ◌}
 use Rattle.listing.specs.declared.writer.Writer.{Writer}
 
 pub record Writes (w : Writer) (bs : List ℕ) (v : Writer) : Type 0 where
@@ -13,17 +13,6 @@ pub record Writes (w : Writer) (bs : List ℕ) (v : Writer) : Type 0 where
 pub writes_none : (w : Writer) → length w.out.now < 2 ^ 63 → Writes w [] w
 writes_none w h = record { same = refl; put = put_nothing w.out.now (capped w.at) h (omega arith) }
 
--- a byte where it fits, and where it does not
-module _ (w v : Writer) {b : ℕ} (s : v.out.ghost_name ≡ w.out.ghost_name) where
-  pub writes_fit : v.out.now ≡ set w.out.now w.at b → length w.out.now < 2 ^ 63 → w.at < length w.out.now → v.at ≡ capped (w.at + 1) → Writes w (b ∷ []) v
-  writes_fit e h q p =
-      let a : capped w.at ≡ w.at = omega arith in
-      record { same = s; put = rw (a, e) (put_one w.out.now w.at b (capped v.at) h q (omega arith)) }
-
-  pub writes_past : v.out.now ≡ w.out.now → length w.out.now < 2 ^ 63 → length w.out.now ≤ w.at → v.at ≡ capped (w.at + 1) → Writes w (b ∷ []) v
-  writes_past e h q p =
-      record { same = s; put = rw e (put_past w.out.now (capped w.at) b (capped v.at) h (omega arith) (omega arith)) }
-
 -- one thing and then another
 infixr 20 ◌⨾◌
 pub ◌⨾◌ : {u v w : Writer} {a b : List ℕ} → Writes u a v → Writes v b w → Writes u (a ++ b) w
@@ -31,6 +20,10 @@ pub ◌⨾◌ : {u v w : Writer} {a b : List ℕ} → Writes u a v → Writes v 
 
 pub read_as : {w v : Writer} {a b : List ℕ} → a ≡ b → Writes w a v → Writes w b v
 read_as e x = rw e at x
+
+-- the bytes of a list, one by one
+pub writes_next : {u v w : Writer} (s : List ℕ) (i : ℕ) → i < length s → Writes u (take i s) v → Writes v (get_or s i 0 ∷ []) w → Writes u (take (i + 1) s) w
+writes_next s i h x y = read_as (rw (add-one, take-suc s i 0)) (x ⨾ y)
 
 -- ---- on the way to a whole of which `rest` is still to come
 

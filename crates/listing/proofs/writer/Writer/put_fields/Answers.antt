@@ -1,11 +1,7 @@
 -- `Writer::put_fields` meets its contract.
-use Rattle.std.proofs.Common.{arith}
-use Rattle.listing.specs.writer.Writes.{toward_start, toward, toward_end}
+use Rattle.listing.specs.writer.Writes.{toward, toward_end}
 use Rattle.listing.proofs.Concatenations.{field_next, fields_none}
 use Rattle.listing.proofs.writer.Writer.put_fields.Goals as goal
-
-pub loop-k-init : goal.loop-k-init
-loop-k-init c = toward_start _ _ (omega arith)
 
 pub loop-k-preserved : goal.loop-k-preserved
 loop-k-preserved c =

@@ -1,11 +1,8 @@
 -- `Writer::put_groups` meets its contract.
 use Rattle.std.proofs.Common.{arith}
-use Rattle.listing.specs.writer.Writes.{toward_start, toward, toward_end, ◌⨾◌, read_as}
+use Rattle.listing.specs.writer.Writes.{toward, toward_end, ◌⨾◌, read_as}
 use Rattle.listing.proofs.Concatenations.{group_next, groups_none, groups_all, stop_within}
 use Rattle.listing.proofs.writer.Writer.put_groups.Goals as goal
-
-pub loop-i-init : goal.loop-i-init
-loop-i-init c = record { within = omega arith; written = toward_start _ _ (omega arith) }
 
 pub loop-i-preserved : goal.loop-i-preserved
 loop-i-preserved c =

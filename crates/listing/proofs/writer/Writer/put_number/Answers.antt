@@ -1,11 +1,8 @@
 -- `Writer::put_number` meets its contract.
 use Rattle.std.proofs.Common.{◌≡◌, arith, ◌∙◌, ap}
-use Rattle.listing.specs.writer.Writes.{toward_start, toward, toward_end}
+use Rattle.listing.specs.writer.Writes.{toward, toward_end}
 use Rattle.listing.proofs.text.Texts.{hexes, hexes_next, hexes_none}
 use Rattle.listing.proofs.writer.Writer.put_number.Goals as goal
-
-pub loop-i-init : goal.loop-i-init
-loop-i-init c = toward_start _ _ (omega arith)
 
 pub loop-i-preserved : goal.loop-i-preserved
 loop-i-preserved c =
