@@ -34,7 +34,8 @@ fn is_digit(high: u64, low: u64) -> bool
 }
 
 impl Writer<'_> {
-    // The last `steps` digits, the higher ones first.
+    // The last `steps` digits, the higher ones first: by calling itself, since the digits come lowest first and a loop would need an
+    // array to turn them in.
     fn put_digits(&mut self, steps: usize, high: u64, low: u64)
         ensures { Writes self.old (decimal_onto steps (high * 2 ^ 64 + low) []) self.new }
     {

@@ -2,7 +2,7 @@
 ghost use Rattle.std.specs.Prelude.{[], ◌∷◌};
 ghost use Rattle.listing.specs.writer.Writes.{Writes};
 
-// The buffer, and the place in it to write at: one beyond its end where not all fitted, the greatest usize standing for all beyond it.
+// The buffer, and the place to write at next: it goes on past the end where not all fits, and stops at the greatest usize.
 #[derive(Drop)]
 pub(crate) struct Writer<'a> {
     pub(crate) out: &'a mut [u8],

@@ -1,6 +1,7 @@
 -- `Writer::put_group` meets its contract.
+use Rattle.std.specs.Prelude.{◌∷◌}
 use Rattle.std.proofs.Common.{◌∙◌}
-use Rattle.definition.specs.Prelude.{[], ◌∷◌}
+use Rattle.definition.specs.Prelude.{[]}
 use Rattle.definition.specs.Basics.{ascii}
 use Rattle.definition.specs.Listing.{decimal, summary_words}
 use Rattle.listing.specs.words.Spaced.{line_counted}
