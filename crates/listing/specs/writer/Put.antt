@@ -88,6 +88,10 @@ pub ◌⨾◌ : {l m o a b : List ℕ} {at r q : ℕ} → Put l at a m r → Put
       room = x.room;
     }
 
+-- all bytes of a list
+pub put_all : {l m : List ℕ} {at r : ℕ} (s : List ℕ) (i : ℕ) → i ≤ length s → length s ≤ i → Put l at (take i s) m r → Put l at s m r
+put_all s i h k x = rw (take_all i s k) at x
+
 -- ---- from the front: what the buffer holds then, and whether all of it fitted
 
 pub put_front : {l L m : List ℕ} {r : ℕ} → Put l 0 L m r → m ≡ take (length l) L ++ drop (length L) l

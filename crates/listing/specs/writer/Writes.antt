@@ -3,7 +3,7 @@
 use Rattle.std.specs.Prelude.{◌≡◌, refl, ◌<◌, ◌+◌, ◌^◌, ◌∷◌, ◌++◌}
 use Rattle.std.proofs.Common.{sym, ◌∙◌, append_assoc, append-nil, arith, add-one, take-suc}
 use Rattle.definition.specs.Prelude.{ℕ, List, [], length, get_or, take}
-use Rattle.listing.specs.writer.Put.{capped, Put, put_nothing, ◌⨾◌ as ◌⨾ᵇ◌}
+use Rattle.listing.specs.writer.Put.{capped, Put, put_nothing, put_length, ◌⨾◌ as ◌⨾ᵇ◌}
 use Rattle.listing.specs.declared.writer.Writer.{Writer}
 
 pub record Writes (w : Writer) (bs : List ℕ) (v : Writer) : Type 0 where
@@ -42,3 +42,6 @@ toward a next e x y =
 
 pub toward_end : {w v : Writer} {whole rest : List ℕ} → rest ≡ [] → Toward w whole rest v → Writes w whole v
 toward_end {w} {v} {whole} {rest} e x = read_as (let f : x.done ++ rest ≡ x.done = rw e (append-nil x.done) in sym f ∙ x.split) x.writes
+
+pub toward_length : {w v : Writer} {whole rest : List ℕ} → Toward w whole rest v → length v.out.now ≡ length w.out.now
+toward_length x = put_length x.writes.put
