@@ -42,9 +42,6 @@ returns-in-Err-First c = λ s n ns b h e.
     (rw c.in-Err-First.field-0-is at (c.in-Err-First.ensures s u.from _ u.laid)))
     (ap (refused_as {A = Unit}) c.at.ensures)
 
-pub overflow_add-l : goal.overflow_add-l
-overflow_add-l c = ?
-
 pub returns : goal.returns
 returns c = λ s n ns b h e.
     let a = c.args in
