@@ -1,2 +1,2 @@
 -- Laws of kept components that the stages behind cite too.
-pub mod Rows
+pub mod Keeping

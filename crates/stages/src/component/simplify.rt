@@ -46,7 +46,7 @@ fn cut_both(literal: Bits, x: I128, y: I128, width: Option<I128>) -> Component
 // "with a number end it is cut there, and with a number start too it loses the bits below and starts at 0": what is left of a whole
 // literal, whose range is tested.
 fn cut(literal: Bits, m: Simplified) -> Component
-    requires { (image : List ℕ) × (t : TreeIn) × (base : ℕ) × Within literal.to (usbr_of image t base m.range) }
+    requires { (literal.to ≤ 4096) × ((image : List ℕ) × (t : TreeIn) × (base : ℕ) × Within literal.to (usbr_of image t base m.range)) }
     ensures { (image : List ℕ) (t : TreeIn) (base : ℕ) → Whole image literal → Within literal.to (usbr_of image t base m.range)
         → Measured image t base m.range m.width
         → StagedReads image t base (Ok result) (ok (cut_literal (bits_at image literal.at literal.to) (usbr_of image t base m.range))) }

@@ -90,7 +90,7 @@ fn value_before(
     Ok(Some(Start { after, s }))
 }
 
-// The starting value of component k, whose records are a run.
+// The starting value of component k, whose records are a run: of its items before a range in brackets.
 fn start_in(image: &[u8], tree: Tree, k: PVal, run: Run) -> Result<Option<Start>, Refusal>
     requires { (run.r.0 < run.stop.0) × ((s : ℕ) × Runs image.now tree run.stop.0 run.«end».0 run.r.0 s) }
     ensures { (base s : ℕ) (is : List Item) → Laid image.now tree base run.stop.0 run.«end».0 run.r.0 s is
@@ -98,13 +98,17 @@ fn start_in(image: &[u8], tree: Tree, k: PVal, run: Run) -> Result<Option<Start>
 {
     let last = last_item(image, tree, run.r, run.stop, run.end);
     let e = record(image, tree, last);
-    let (to, end) = if e.kind == 3 {
-        (last, e.start)
+    let before = if e.kind == 3 {
+        Run {
+            r: run.r,
+            stop: last,
+            end: e.start,
+        }
     } else {
-        (run.stop, run.end)
+        run
     };
-    let colon = colon_in(image, tree, run.r, to, end);
-    value_before(image, tree, k, run.r, colon, to)
+    let colon = colon_in(image, tree, run.r, before.stop, before.end);
+    value_before(image, tree, k, run.r, colon, before.stop)
 }
 
 // None where the line has no prefix. A record of kind 3 opens a `[` group.

@@ -7,7 +7,7 @@ ghost use Rattle.stages.specs.token_tree.Table.{tables_in};
 ghost use Rattle.stages.specs.token_tree.Rows.{Rows};
 ghost use Rattle.stages.specs.token_tree.Grown.{Grown};
 ghost use Rattle.stages.specs.component.Start.{after_of, AfterIs, AfterIn, AfterTree};
-ghost use Rattle.stages.specs.component.Read.{bytes_by, walk_from, WalkFits, TurnIs, TurnsAre, StagesAre};
+ghost use Rattle.stages.specs.component.Read.{WalkFits, TurnIs, TurnsAre, StagesAre};
 
 use super::read::{Unread, read, without_start};
 use super::start::Start;
@@ -22,13 +22,6 @@ pub struct Walk {
     pub r: PBind,
     pub l: u32,
     pub second: Result<(), Refusal>,
-}
-
-fn bytes_for(width: u32) -> u32
-    requires { width ≤ 4096 }
-    ensures { result ≡ bytes_by width }
-{
-    width.div_ceil(8)
 }
 
 // Component j of concatenation i.
@@ -64,7 +57,7 @@ fn turn(
     Ok(Walk {
         k: PVal(w.k.0 + 1),
         r: run.stop,
-        l: w.l + bytes_for(width),
+        l: w.l + width.div_ceil(8),
         second,
     })
 }

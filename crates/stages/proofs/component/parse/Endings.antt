@@ -1,5 +1,6 @@
 -- The last item of a run: a range in brackets, or none.
-use Rattle.std.specs.Prelude.{◌+◌, ◌-◌, ◌^◌, ◌∷◌, ◌++◌}
+use Rattle.std.specs.Prelude as Std
+use Rattle.std.specs.Prelude.{None, Ok, ◌+◌, ◌-◌, ◌^◌, ◌∷◌, ◌++◌}
 use Rattle.std.proofs.Common.{◌≡◌, ◌<◌, ◌≤◌, sym, refl, ap, ◌∙◌, subst, arith, eq-eqb, ne_eqb}
 use Rattle.definition.specs.Prelude.{ℕ, true, none, some, List, [], length}
 use Rattle.definition.specs.Image.{opens}
@@ -12,8 +13,8 @@ use Rattle.stages.specs.ranges.Values.{RangeReads}
 use Rattle.stages.specs.component.Parse.{Ended}
 use Rattle.stages.specs.declared.token_tree.types.Tree.{Tree}
 use Rattle.stages.specs.declared.token_tree.types.Run.{Run}
-use Rattle.stages.specs.declared.ranges.types.RangeResult.{RangeResult}
-use Rattle.stages.specs.declared.ranges.types.RangeResult.TheVariants as R
+use Rattle.stages.specs.declared.ranges.types.Usbr.{Usbr}
+use Rattle.errors.specs.declared.reasons.Reason.{Reason}
 use Rattle.stages.proofs.Lists.{ends}
 use Rattle.stages.proofs.token_tree.Places.{place_above, laid_order, laid_first, laid_split}
 use Rattle.stages.proofs.token_tree.Insides.{last_inside}
@@ -170,14 +171,14 @@ module _ (image : List ℕ) (t : Tree) (run : Run) (last : ℕ) where
     inside_runs = runs_within base (items i.inside_at i.inside) w (omega arith) (omega arith) b.inside
 
     -- a range without dots is not empty
-    pub single_fits : (q : RangeResult) → ((base s : ℕ) (is : List Item) → Laid image t base (run.stop.0 - 1) (run.«end».0 - 1) (last + 1) s is → RangeReads image t base q (parse_range is))
-        → q ≡ R.NoRange → last + 1 < run.stop.0 - 1
+    pub single_fits : (q : Std.Result (Std.Option Usbr) Reason) → ((base s : ℕ) (is : List Item) → Laid image t base (run.stop.0 - 1) (run.«end».0 - 1) (last + 1) s is → RangeReads image t base q (parse_range is))
+        → q ≡ Ok None → last + 1 < run.stop.0 - 1
     unfolding Laid parse_range
     single_fits q f e = go (items i.inside_at i.inside) b.inside (f base (b.from + 1) (items i.inside_at i.inside) b.inside)
       where
         go : (is : List Item) → Laid image t base (run.stop.0 - 1) (run.«end».0 - 1) (last + 1) (b.from + 1) is → RangeReads image t base q (parse_range is)
             → last + 1 < run.stop.0 - 1
-        go [] h k = let k' : RangeReads image t base R.NoRange (parse_range []) = rw e at k in
+        go [] h k = let k' : RangeReads image t base (Ok None) (parse_range []) = rw e at k in
             let z : ◌≡◌ {A = ℕ} 0 1 = (let x = k'.is in cc) in absurd (omega (arith, z))
         go (j ∷ is) h k = let m = h.0.room in omega (arith, m)
 

@@ -1,5 +1,6 @@
 -- Stage 1 of a whole run, with and without a range in brackets.
-use Rattle.std.specs.Prelude.{◌+◌}
+use Rattle.std.specs.Prelude as Std
+use Rattle.std.specs.Prelude.{Err, ◌+◌}
 use Rattle.std.proofs.Common.{◌≡◌, ◌<◌, ◌≤◌, sym, ap, ◌∙◌, subst, arith}
 use Rattle.definition.specs.Prelude.{ℕ, none, some, List, [], length}
 use Rattle.definition.specs.Text.{Item, items}
@@ -9,8 +10,9 @@ use Rattle.stages.specs.token_tree.Laid.{Laid, Runs}
 use Rattle.stages.specs.component.Parse.{parse_items}
 use Rattle.stages.specs.component.Values.{ComponentReads}
 use Rattle.stages.specs.declared.token_tree.types.Tree.{Tree}
-use Rattle.stages.specs.declared.component.types.ComponentResult.{ComponentResult}
-use Rattle.stages.specs.declared.component.types.ComponentResult.TheVariants as C
+use Rattle.stages.specs.declared.component.types.Component.{Component}
+use Rattle.errors.specs.declared.reasons.Reason.{Reason}
+use Rattle.errors.specs.declared.reasons.Reason.TheVariants as Reasons
 use Rattle.stages.proofs.token_tree.Places.{laid_order, laid_first}
 use Rattle.stages.proofs.component.parse.Endings.{range_last, range_none, LastAt, last_kind, last_first}
 use Rattle.stages.proofs.component.parse.Types.{parse_empty}
@@ -33,15 +35,15 @@ module _ (image : List ℕ) (t : Tree) (stop tail r : ℕ) (l : r < stop) where
       (omega (arith, a, e, o.1, k), w.text_fits)
 
 module _ (image : List ℕ) (t : Tree) (stop tail r last base s : ℕ) (is : List Item) (a : LastAt image t stop tail r last base s is) (k : ℕ)
-    (e : k ≡ kind_in image t last) (at : ℕ) (bits : List ℕ) (q : ComponentResult) where
-  by_split : (x : Split) → split_range is ≡ x → ComponentReads image t base at q (parse_component x.mid x.range bits)
-      → ComponentReads image t base at q (parse_items is bits)
-  by_split x p h = subst (ComponentReads image t base at q) (ap (λ (y : Split). parse_component y.mid y.range bits) (sym p)) h
+    (e : k ≡ kind_in image t last) (bits : List ℕ) (q : Std.Result Component Reason) where
+  by_split : (x : Split) → split_range is ≡ x → ComponentReads image t base q (parse_component x.mid x.range bits)
+      → ComponentReads image t base q (parse_items is bits)
+  by_split x p h = subst (ComponentReads image t base q) (ap (λ (y : Split). parse_component y.mid y.range bits) (sym p)) h
 
   kind_is : k ≡ a.item.kind
   kind_is = last_kind image t stop tail r last base s is a k e
 
-  pub items_plain : (k ≡ 3 → ⊥) → ComponentReads image t base at q (parse_component is none bits) → ComponentReads image t base at q (parse_items is bits)
+  pub items_plain : (k ≡ 3 → ⊥) → ComponentReads image t base q (parse_component is none bits) → ComponentReads image t base q (parse_items is bits)
   items_plain n h =
       by_split (record { mid = is; range = none })
       (ap split_range a.parts ∙ range_none a.mid a.item (λ z. n (kind_is ∙ z)) ∙ ap (λ m. record { mid = m; range = none }) (sym a.parts)) h
@@ -49,13 +51,13 @@ module _ (image : List ℕ) (t : Tree) (stop tail r last base s : ℕ) (is : Lis
   bracket_split : k ≡ 3 → split_range is ≡ record { mid = a.mid; range = some (items a.item.inside_at a.item.inside) }
   bracket_split n = ap split_range a.parts ∙ range_last a.mid a.item (sym kind_is ∙ n)
 
-  pub items_lone : k ≡ 3 → last ≡ r → q ≡ C.Refused 11 → ComponentReads image t base at q (parse_items is bits)
+  pub items_lone : k ≡ 3 → last ≡ r → q ≡ Err Reasons.NothingBeforeRange → ComponentReads image t base q (parse_items is bits)
   items_lone n z f =
       let m = last_first image t stop tail r last base s is a z in
       let rest = some (items a.item.inside_at a.item.inside) in
       by_split (record { mid = []; range = rest }) (bracket_split n ∙ ap (λ x. record { mid = x; range = rest }) m)
       (rw f (record { is = parse_empty rest bits; held = tt }))
 
-  pub items_bracket : k ≡ 3 → ComponentReads image t base at q (parse_component a.mid (some (items a.item.inside_at a.item.inside)) bits)
-      → ComponentReads image t base at q (parse_items is bits)
+  pub items_bracket : k ≡ 3 → ComponentReads image t base q (parse_component a.mid (some (items a.item.inside_at a.item.inside)) bits)
+      → ComponentReads image t base q (parse_items is bits)
   items_bracket n h = by_split (record { mid = a.mid; range = some (items a.item.inside_at a.item.inside) }) (bracket_split n) h

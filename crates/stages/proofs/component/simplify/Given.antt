@@ -1,5 +1,5 @@
 -- Of a component as stage 1 leaves it, stage 2 in code leaves no end that is a number below 0.
-use Rattle.std.specs.Prelude.{◌-◌}
+use Rattle.std.specs.Prelude.{Ok, ◌-◌}
 use Rattle.std.proofs.Common.{◌≤◌, sym, arith}
 use Rattle.definition.specs.Prelude.{ℕ, List, drop}
 use Rattle.definition.specs.Component.{simplify}
@@ -11,18 +11,17 @@ use Rattle.stages.specs.component.Kept.{EndGiven}
 use Rattle.stages.specs.declared.component.types.ComponentType.{ComponentType}
 use Rattle.stages.specs.declared.component.types.ComponentType.TheVariants as T
 use Rattle.stages.specs.declared.component.types.Component.{Component}
-use Rattle.stages.specs.declared.component.types.ComponentResult.TheVariants as R
 use Rattle.stages.proofs.component.simplify.Ends.{FewBits, end_given}
 
-module _ (image : List ℕ) (t : Tree) (base at : ℕ) where
-  pub few_bits : (c : ComponentType) → TypeParsed image t base c → FewBits (type_of image t base at c)
+module _ (image : List ℕ) (t : Tree) (base : ℕ) where
+  pub few_bits : (c : ComponentType) → TypeParsed image t base c → FewBits (type_of image t base c)
   few_bits (T.Literal b) h =
-      let e = length_tab (bit_of (drop at image)) b.from (b.to - b.from) in
-      let l : b.to ≤ 4096 = h.2 in
+      let e = length_tab (bit_of (drop b.at image)) b.from (b.to - b.from) in
+      let l : b.to ≤ 4096 = h.0.short in
       omega arith
   few_bits (T.Variable p) h = tt
   few_bits T.Filler h = tt
 
-  pub staged_given : (c d : Component) → ComponentParsed image t base c → StagedReads image t base at (R.Ok d) (simplify (component_of image t base at c))
+  pub staged_given : (c d : Component) → ComponentParsed image t base c → StagedReads image t base (Ok d) (simplify (component_of image t base c))
       → EndGiven image t base d
-  staged_given c d p h = end_given (component_of image t base at c) (component_of image t base at d) (few_bits c.c_type p.c_type) (sym h.is)
+  staged_given c d p h = end_given (component_of image t base c) (component_of image t base d) (few_bits c.c_type p.c_type) (sym h.is)

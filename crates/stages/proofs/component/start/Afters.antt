@@ -1,4 +1,6 @@
 -- Which component the record behind a starting value's colon stands in, and the starting value of the whole tree.
+use Rattle.std.specs.Prelude as Std
+use Rattle.std.specs.Prelude.{Ok, Err}
 use Rattle.std.specs.Prelude.{◌+◌, ◌-◌, ◌∷◌, ◌++◌}
 use Rattle.std.proofs.Common.{◌≡◌, ◌≤◌, ◌⊎◌, sym, refl, ap, ◌∙◌, subst, inl, inr, add-zero, zero-add, arith, length-append, ne_eqb}
 use Rattle.definition.specs.Prelude.{ℕ, zero, suc, true, false, not, Option, none, some, List, [], length, take}
@@ -16,12 +18,12 @@ use Rattle.stages.specs.token_tree.Table.{start_in, skip_in, tree_in, tables_in}
 use Rattle.stages.specs.token_tree.Laid.{Laid, place_of}
 use Rattle.stages.specs.token_tree.Rows.{node_of}
 use Rattle.stages.specs.token_tree.Grown.{Grown}
-use Rattle.stages.specs.component.Start.{records_before, prefix_value, start_result, after_place, TextFits, PrefixReads, AfterIs, AfterIn, AfterTree, scanned_base, StartReads}
+use Rattle.stages.specs.component.Start.{records_before, prefix_value, start_result, after_of, after_place, TextFits, PrefixReads, AfterIs, AfterIn, AfterTree, scanned_base, StartReads}
 use Rattle.stages.specs.declared.token_tree.types.Tree.{Tree as Table}
 use Rattle.stages.specs.declared.token_tree.types.Tables.{Tables}
 use Rattle.stages.specs.declared.token_tree.types.Run.{Run}
-use Rattle.stages.specs.declared.component.start.StartResult.{StartResult}
-use Rattle.stages.specs.declared.component.start.StartResult.TheVariants as S
+use Rattle.errors.specs.declared.Refusal.{Refusal}
+use Rattle.stages.specs.declared.component.start.Start.{Start}
 use Rattle.stages.proofs.component.parse.Splits.{mid_length}
 use Rattle.stages.proofs.token_tree.Places.{place_above, laid_order}
 use Rattle.stages.proofs.component.parse.Splits.{colon_parts}
@@ -189,20 +191,20 @@ module _ (image : List ℕ) (g : Grown image) (o : Source image g.tree) where
             let b = length-append (recs_of n) (all_recs pre) in
             omega (arith, i, a, b)
 
-    pub start_reads : (q : StartResult) → PrefixReads image (tree_in image) base k r (prefix_of (node_of o.node)) q → StartReads image g.tree q
-    start_reads (S.Ok s) p =
+    pub start_reads : (q : Std.Result (Std.Option Start) Refusal) → PrefixReads image (tree_in image) base k r (prefix_of (node_of o.node)) q → StartReads image g.tree q
+    start_reads (Ok s) p =
         record {
-          is = ap (λ b. start_result image (tree_in image) b (S.Ok s)) base_is ∙ p.is ∙ value;
+          is = ap (λ b. start_result image (tree_in image) b (Ok s)) base_is ∙ p.is ∙ value;
           held = (
-            tree_is s.after.0 (held_by image (tree_in image) s.after.0 base stop tail r base k o.node h _ p.held.0 p.is),
+            tree_is (after_of s) (held_by image (tree_in image) (after_of s) base stop tail r base k o.node h _ p.held.0 p.is),
             subst (λ b. TextFits image (tree_in image) b s) (sym base_is) p.held.1,
           );
         }
-    start_reads (S.Refused n) p = record { is = ap (λ b. start_result image (tree_in image) b (S.Refused n)) base_is ∙ p.is ∙ value; held = tt }
+    start_reads (Err n) p = record { is = ap (λ b. start_result image (tree_in image) b (Err n)) base_is ∙ p.is ∙ value; held = tt }
 
   -- of the run that the code makes
   pub start_by : (t : Tables) → t ≡ tables_in image → (k : ℕ) → k ≡ length o.pre → (run : Run) → Ran image g o t (length (text_of (all_recs o.pre))) run
-      → (q : StartResult) → PrefixReads image t.tree (length (text_of (all_recs o.pre))) k run.r.0 (prefix_of (node_of o.node)) q → StartReads image g.tree q
+      → (q : Std.Result (Std.Option Start) Refusal) → PrefixReads image t.tree (length (text_of (all_recs o.pre))) k run.r.0 (prefix_of (node_of o.node)) q → StartReads image g.tree q
   start_by t et k ek run d q p =
       let d' : Ran image g o (tables_in image) (length (text_of (all_recs o.pre))) run = subst (λ x. Ran image g o x (length (text_of (all_recs o.pre))) run) et d in
       start_reads (length (text_of (all_recs o.pre))) refl k ek run.r.0 run.stop.0 run.«end».0 d'.first d'.last d'.laid d'.begins q

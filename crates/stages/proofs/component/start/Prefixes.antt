@@ -1,6 +1,7 @@
 -- The text before a starting value's colon, and what stands behind it.
-use Rattle.std.specs.Prelude.{◌+◌, ◌*◌, ◌^◌, ◌&&◌, ◌∷◌}
-use Rattle.std.proofs.Common.{◌≡◌, ◌<◌, ◌≤◌, sym, refl, ap, ◌∙◌, subst, arith, ne_eqb}
+use Rattle.std.specs.Prelude as Std
+use Rattle.std.specs.Prelude.{Some, None, Ok, Err, ◌+◌, ◌*◌, ◌^◌, ◌&&◌, ◌∷◌}
+use Rattle.std.proofs.Common.{◌≡◌, ◌<◌, ◌≤◌, ◌⊎◌, ⊎_elim, sym, refl, ap, ◌∙◌, subst, arith}
 use Rattle.definition.specs.Prelude.{ℕ, suc, Bool, true, false, not, Option, none, some, List, [], length, eqb}
 use Rattle.definition.specs.Basics.{same_bytes}
 use Rattle.definition.specs.Text as Text
@@ -10,16 +11,17 @@ use Rattle.errors.specs.declared.Refusal.{Refusal}
 use Rattle.laws.specs.Tests.{and_iff}
 use Rattle.stages.specs.token_tree.Table.{kind_in, start_in, skip_in}
 use Rattle.stages.specs.token_tree.Laid.{Laid, Runs, place_of}
-use Rattle.stages.specs.token_tree.Parts.{no_part, part_by, part_of}
-use Rattle.stages.specs.component.Start.{colon_place, ColonAt, prefix_value, start_result, PrefixReads}
+use Rattle.stages.specs.token_tree.Parts.{part_by, part_of}
+use Rattle.stages.specs.component.Start.{colon_place, ColonFits, ColonAt, prefix_value, start_result, PrefixReads}
 use Rattle.stages.specs.declared.token_tree.types.Tree.{Tree}
 use Rattle.stages.specs.declared.token_tree.types.Part.{Part}
-use Rattle.stages.specs.declared.component.start.StartResult.{StartResult}
-use Rattle.stages.specs.declared.component.start.StartResult.TheVariants as S
+use Rattle.stages.specs.declared.token_tree.types.Run.{Run}
+use Rattle.stages.specs.declared.token_tree.types.PBind.{PBind}
+use Rattle.stages.specs.declared.component.start.Start.{Start}
 use Rattle.stages.proofs.token_tree.Places.{place_above, place_suc, laid_order, laid_first, laid_none, laid_split}
 use Rattle.stages.proofs.component.parse.Splits.{colon_parts}
 use Rattle.stages.proofs.token_tree.Walks.{runs_within}
-use Rattle.stages.proofs.token_tree.Written.{none_fits, laid_part, laid_fits}
+use Rattle.stages.proofs.token_tree.Written.{laid_part, laid_fits}
 use Rattle.stages.proofs.component.parse.Endings.{range_last, range_none, LastAt, last_kind}
 
 pub below : (a b : ℕ) → a ≤ b → (a ≡ b → ⊥) → a < b
@@ -39,10 +41,8 @@ one_byte (x ∷ y ∷ l) e =
 
 some_value : (image : List ℕ) (t : Tree) (base k colon : ℕ) (p : Prefix) (i : Item) (l : List Item) (u : Part) → p.after ≡ i ∷ l
     → Text.part_of p.before ≡ part_of image t base u
-    → start_result image t base (S.Ok (record { after = record { 0 = colon + 1 }; s = u })) ≡ prefix_value base k (some p)
-some_value image t base k colon p i l u a b =
-    let nz : eqb (colon + 1) 0 ≡ false = ne_eqb (colon + 1) 0 (λ v. let v' : ◌≡◌ {A = ℕ} (colon + 1) 0 = v in omega (arith, v')) in
-    rw (nz, a, b) refl
+    → start_result image t base (Ok (Some (record { after = record { 0 = colon + 1 }; s = u }))) ≡ prefix_value base k (some p)
+some_value image t base k colon p i l u a b = rw (a, b) refl
 
 module _ (image : List ℕ) (t : Tree) (base stop tail r s colon : ℕ) (mid : List Item) (h : Laid image t base stop tail r s mid) where
   -- a colon that is found
@@ -85,117 +85,122 @@ module _ (image : List ℕ) (t : Tree) (base stop tail r s colon : ℕ) (mid : L
             (subst (λ x. Laid image t base stop tail (colon + skip_in image t colon) (sp.from + x) p.after) n a.1);
       }
 
-  module _ (e : colon ≡ colon_place image t r stop (split_colon mid)) where
-    -- what is asked to read it, where the run lies within the image
-    pub colon_at : r ≤ stop → t.records + 12 * stop ≤ length image → t.text + tail ≤ length image → length image < 2 ^ 31 → ColonAt image t r colon stop
-    colon_at o f tf sm = go (split_colon mid) refl e
+  -- what is asked to read it, where the run lies within the image
+  pub colon_fits : (p : Prefix) → split_colon mid ≡ some p → colon ≡ place_of image t r (length p.before)
+      → t.records + 12 * stop ≤ length image → t.text + tail ≤ length image → length image < 2 ^ 31 → ColonFits image t r colon stop
+  colon_fits p q z f tf sm =
+      let d = found p q z in
+      let rm = d.room in
+      let a = place_above image t r (length p.before) in
+      let si = d.start_is in
+      let fi = d.first_is in
+      let tx = d.texts in
+      let tr = d.text_room in
+      record {
+        order = omega (arith, z, a);
+        last = omega (arith, rm);
+        first = record { room = omega (arith, rm, f, a, z); small = sm };
+        sign = record { room = omega (arith, rm, f); small = sm };
+        texts = omega (arith, si, fi, tx);
+        fits = omega (arith, si, tr, tf);
+        few = omega (arith, f, sm);
+      }
+
+-- the place of a colon that is found
+place_some : (image : List ℕ) (t : Tree) (r colon : ℕ) (p : Option Prefix) → Some (record { 0 = colon }) ≡ colon_place image t r p
+    → (q : Prefix) × (p ≡ some q) × (colon ≡ place_of image t r (length q.before))
+place_some image t r colon none e = let z : ◌≡◌ {A = ℕ} 0 1 = cc in absurd (omega (arith, z))
+place_some image t r colon (some q) e = (q, refl, ap at e)
+  where
+    at : Std.Option PBind → ℕ
+    at None = 0
+    at (Some c) = c.0
+
+module _ (image : List ℕ) (t : Tree) (base stop tail r s : ℕ) (mid : List Item) (h : Laid image t base stop tail r s mid) where
+  pub colon_at : (colon : Std.Option PBind) → colon ≡ colon_place image t r (split_colon mid)
+      → t.records + 12 * stop ≤ length image → t.text + tail ≤ length image → length image < 2 ^ 31 → ColonAt image t r colon stop
+  colon_at None e f tf sm = tt
+  colon_at (Some c) e f tf sm =
+      let (p, q, z) = place_some image t r c.0 (split_colon mid) e in
+      colon_fits image t base stop tail r s c.0 mid h p q z f tf sm
+
+  module _ (k : ℕ) where
+    abbrev Reads : Std.Result (Std.Option Start) Refusal → Type 0
+    Reads q = PrefixReads image t base k r (split_colon mid) q
+
+    pub value_none : (colon : Std.Option PBind) → colon ≡ colon_place image t r (split_colon mid) → colon ≡ None → Reads (Ok None)
+    value_none colon e z = go (split_colon mid) (sym z ∙ e)
       where
-        go : (p : Option Prefix) → split_colon mid ≡ p → colon ≡ colon_place image t r stop p → ColonAt image t r colon stop
-        go none q z =
-            record {
-              order = omega (arith, z, o);
-              last = omega (arith, z);
-              first = λ l. absurd (omega (arith, l, z));
-              sign = λ l. absurd (omega (arith, l, z));
-              texts = λ l. absurd (omega (arith, l, z));
-              fits = λ l. absurd (omega (arith, l, z));
-              room = omega (arith, tf);
-              few = omega (arith, f, sm);
-            }
-        go (some p) q z =
-            let d = found p q z in
-            let rm = d.room in
-            let a = place_above image t r (length p.before) in
-            let si = d.start_is in
-            let fi = d.first_is in
-            let tx = d.texts in
-            let tr = d.text_room in
-            record {
-              order = omega (arith, z, a);
-              last = omega (arith, rm);
-              first = λ l. record { room = omega (arith, rm, f, a, z); small = sm };
-              sign = λ l. record { room = omega (arith, rm, f); small = sm };
-              texts = λ l. omega (arith, si, fi, tx);
-              fits = λ l. omega (arith, si, tr, tf);
-              room = omega (arith, tf);
-              few = omega (arith, f, sm);
-            }
+        go : (p : Option Prefix) → None ≡ colon_place image t r p → PrefixReads image t base k r p (Ok None)
+        go none y = record { is = refl; held = (refl, tt) }
+        go (some p) y = let w : ◌≡◌ {A = ℕ} 0 1 = cc in absurd (omega (arith, w))
 
-    module _ (k : ℕ) (at : ColonAt image t r colon stop) (q : StartResult) where
-      abbrev Reads : Type 0
-      Reads = PrefixReads image t base k r (split_colon mid) q
+    module _ (colon : ℕ) (e : Some (record { 0 = colon }) ≡ colon_place image t r (split_colon mid)) where
+      pub value_refused : colon + 1 ≡ stop → (n : Refusal) → n ≡ record { number = 10; concatenation = 0; component = k } → Reads (Err n)
+      value_refused z n en =
+          let (p, q, w) = place_some image t r colon (split_colon mid) e in
+          let d = found image t base stop tail r s colon mid h p q w in
+          let a = (laid_none image t base stop tail (colon + 1) (d.from + 1) p.after (omega (arith, z)) d.behind).0 in
+          subst (λ o. PrefixReads image t base k r o (Err n)) (sym q) (rw en (record { is = rw a refl; held = tt }))
 
-      pub value_none : colon ≡ stop → q ≡ S.Ok (record { after = record { 0 = 0 }; s = no_part }) → Reads
-      value_none z f = go (split_colon mid) refl e
-        where
-          go : (p : Option Prefix) → split_colon mid ≡ p → colon ≡ colon_place image t r stop p → PrefixReads image t base k r p q
-          go none g y =
-              let m = at.room in
-              rw f (record {
-                is = refl;
-                held = (refl, record { part = none_fits image t base (omega (arith, m)); none = λ x. refl });
-              })
-          go (some p) g y = let rm = (found p g y).room in absurd (omega (arith, rm, z))
-
-      pub value_refused : colon + 1 ≡ stop → (n : Refusal) → n ≡ record { number = 10; concatenation = 0; component = k } → q ≡ S.Refused n → Reads
-      value_refused z n en f = go (split_colon mid) refl e
-        where
-          go : (p : Option Prefix) → split_colon mid ≡ p → colon ≡ colon_place image t r stop p → PrefixReads image t base k r p q
-          go none g y = absurd (omega (arith, y, z))
-          go (some p) g y =
-              let d = found p g y in
-              let a = (laid_none image t base stop tail (colon + 1) (d.from + 1) p.after (omega (arith, z)) d.behind).0 in
-              rw (f, en) (record { is = rw a refl; held = tt })
-
-      pub value_some : (colon ≡ stop → ⊥) → (colon + 1 ≡ stop → ⊥) → (x y : ℕ) (u : Part) → x ≡ start_in image t r → y ≡ start_in image t colon → u ≡ part_by x y
-          → q ≡ S.Ok (record { after = record { 0 = colon + 1 }; s = u }) → Reads
-      value_some z z' x y u ex ey eu f = go (split_colon mid) refl e
-        where
-          go : (p : Option Prefix) → split_colon mid ≡ p → colon ≡ colon_place image t r stop p → PrefixReads image t base k r p q
-          go none g w = absurd (z w)
-          go (some p) g w =
-              let d = found p g w in
-              let rm = d.room in
-              let l = laid_first image t base stop tail (colon + 1) (d.from + 1) p.after (below (colon + 1) stop rm z') d.behind in
-              let ux : u ≡ part_by s d.from = eu ∙ ap (λ v. part_by v y) (ex ∙ d.first_is) ∙ ap (part_by s) (ey ∙ d.start_is) in
-              let fit = at.fits (omega (arith, rm)) in
-              let si = d.start_is in
-              rw (f, ux) (record {
-                is = some_value image t base k colon p l.item l.rest (part_by s d.from) l.parts
-                    (sym (laid_part image t base colon d.from r s p.before d.before));
-                held = (
-                  d.place,
-                  record {
-                    part = laid_fits image t base colon d.from r s p.before d.before (omega (arith, fit, si));
-                    none = λ v. absurd (let v' : ◌≡◌ {A = ℕ} (colon + 1) 0 = v in omega (arith, v'));
-                  },
-                );
-              })
+      pub value_some : ColonFits image t r colon stop → (colon + 1 ≡ stop → ⊥) → (x y : ℕ) (u : Part) → x ≡ start_in image t r → y ≡ start_in image t colon
+          → u ≡ part_by x y → Reads (Ok (Some (record { after = record { 0 = colon + 1 }; s = u })))
+      value_some at z x y u ex ey eu =
+          let (p, q, w) = place_some image t r colon (split_colon mid) e in
+          let d = found image t base stop tail r s colon mid h p q w in
+          let rm = d.room in
+          let l = laid_first image t base stop tail (colon + 1) (d.from + 1) p.after (below (colon + 1) stop rm z) d.behind in
+          let ux : u ≡ part_by s d.from = eu ∙ ap (λ v. part_by v y) (ex ∙ d.first_is) ∙ ap (part_by s) (ey ∙ d.start_is) in
+          let fit = at.fits in
+          let si = d.start_is in
+          subst (λ o. PrefixReads image t base k r o (Ok (Some (record { after = record { 0 = colon + 1 }; s = u })))) (sym q)
+          (rw ux (record {
+            is = some_value image t base k colon p l.item l.rest (part_by s d.from) l.parts
+                (sym (laid_part image t base colon d.from r s p.before d.before));
+            held = (d.place, laid_fits image t base colon d.from r s p.before d.before (omega (arith, fit, si)));
+          }))
 
 -- ---- a run: its items before a range in brackets
 
-module _ (image : List ℕ) (t : Tree) (stop tail r last base s : ℕ) (is : List Item) (a : LastAt image t stop tail r last base s is) (k : ℕ)
-    (e : k ≡ kind_in image t last) where
-  pub mid_bracket : k ≡ 3 → a.mid ≡ (split_range is).mid
-  mid_bracket n =
-      sym (ap (λ l. (split_range l).mid) a.parts
-      ∙ ap (λ (x : Split). x.mid) (range_last a.mid a.item (sym (last_kind image t stop tail r last base s is a k e) ∙ n)))
+-- the run of those before a last item in brackets, or all of it
+abbrev pub BeforeIs : List ℕ → Tree → Run → ℕ → ℕ → Run → Type 0
+BeforeIs image t run last k before =
+    ((k ≡ 3) × (before ≡ record { r = run.r; stop = record { 0 = last }; «end» = record { 0 = start_in image t last } }))
+    ⊎ ((k ≡ 3 → ⊥) × (before ≡ run))
 
-  pub mid_plain : (k ≡ 3 → ⊥) → is ≡ (split_range is).mid
-  mid_plain n =
-      sym (ap (λ l. (split_range l).mid) a.parts
-      ∙ ap (λ (x : Split). x.mid) (range_none a.mid a.item (λ z. n (last_kind image t stop tail r last base s is a k e ∙ z)))
-      ∙ sym a.parts)
+module _ (image : List ℕ) (t : Tree) (run : Run) (last k : ℕ) (before : Run) (b : BeforeIs image t run last k before) (e : k ≡ kind_in image t last) where
+  pub mid_laid : (base s : ℕ) (is : List Item) → LastAt image t run.stop.0 run.«end».0 run.r.0 last base s is
+      → Laid image t base run.stop.0 run.«end».0 run.r.0 s is → Laid image t base before.stop.0 before.«end».0 run.r.0 s (split_range is).mid
+  mid_laid base s is a h = ⊎_elim bracket plain b
+    where
+      kind : k ≡ a.item.kind
+      kind = last_kind image t run.stop.0 run.«end».0 run.r.0 last base s is a k e
 
-  -- the items before the bracket, up to its record's start
-  pub before_laid : (u : ℕ) → u ≡ start_in image t last → Laid image t base last u r s a.mid
-  before_laid u q = subst (λ x. Laid image t base last x r s a.mid) (sym (q ∙ a.stands.start)) a.before
+      bracket : (k ≡ 3) × (before ≡ record { r = run.r; stop = record { 0 = last }; «end» = record { 0 = start_in image t last } }) → Laid image t base before.stop.0 before.«end».0 run.r.0 s (split_range is).mid
+      bracket (n, q) =
+          let m : a.mid ≡ (split_range is).mid = sym (ap (λ l. (split_range l).mid) a.parts ∙ ap (λ (x : Split). x.mid) (range_last a.mid a.item (sym kind ∙ n))) in
+          rw q (subst (λ x. Laid image t base last x run.r.0 s (split_range is).mid) (sym a.stands.start) (subst (Laid image t base last a.from run.r.0 s) m a.before))
 
-pub before_runs : (image : List ℕ) (t : Tree) (stop tail r last s u : ℕ) (w : Runs image t stop tail r s) → LastAt image t stop tail r last w.base s w.items
-    → u ≡ start_in image t last → Runs image t last u r s
-before_runs image t stop tail r last s u w a q =
-    let ld = subst (λ x. Laid image t w.base last x r s a.mid) (sym (q ∙ a.stands.start)) a.before in
-    let si = a.stands.start in
-    let ti = a.tail_is in
-    let rm = a.stands.room in
-    runs_within w.base a.mid w (omega (arith, rm)) (omega (arith, q, si, ti)) ld
+      plain : (k ≡ 3 → ⊥) × (before ≡ run) → Laid image t base before.stop.0 before.«end».0 run.r.0 s (split_range is).mid
+      plain (n, q) =
+          let m : is ≡ (split_range is).mid =
+          sym (ap (λ l. (split_range l).mid) a.parts ∙ ap (λ (x : Split). x.mid) (range_none a.mid a.item (λ z. n (kind ∙ z))) ∙ sym a.parts) in
+          rw q (subst (Laid image t base run.stop.0 run.«end».0 run.r.0 s) m h)
+
+  -- which lies within the image, too
+  pub mid_runs : (s : ℕ) (w : Runs image t run.stop.0 run.«end».0 run.r.0 s) → LastAt image t run.stop.0 run.«end».0 run.r.0 last w.base s w.items
+      → Runs image t before.stop.0 before.«end».0 run.r.0 s
+  mid_runs s w a =
+      let (x, y) = ⊎_elim inside all b in
+      runs_within w.base (split_range w.items).mid w x y (mid_laid w.base s w.items a w.laid)
+    where
+      inside : (k ≡ 3) × (before ≡ record { r = run.r; stop = record { 0 = last }; «end» = record { 0 = start_in image t last } })
+          → (before.stop.0 ≤ run.stop.0) × (before.«end».0 ≤ run.«end».0)
+      inside (n, q) =
+          let si = a.stands.start in
+          let ti = a.tail_is in
+          let rm = a.stands.room in
+          rw q (omega (arith, rm), omega (arith, si, ti))
+
+      all : (k ≡ 3 → ⊥) × (before ≡ run) → (before.stop.0 ≤ run.stop.0) × (before.«end».0 ≤ run.«end».0)
+      all (n, q) = rw q (omega arith, omega arith)

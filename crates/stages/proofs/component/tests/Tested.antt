@@ -1,5 +1,7 @@
 -- Tests of a component: one law for each way through the code.
-use Rattle.std.specs.Prelude.{◌-◌, ◌^◌, ◌&&◌, if◌then◌else◌}
+use Rattle.std.specs.Prelude as Std
+use Rattle.std.specs.Option.{is_some}
+use Rattle.std.specs.Prelude.{Some, None, ◌-◌, ◌^◌, ◌&&◌, if◌then◌else◌}
 use Rattle.std.proofs.Common.{◌≡◌, ◌<◌, ◌⊎◌, sym, refl, ap, ◌∙◌, subst, ⊎_elim, arith, ne_eqb, eqb-true}
 use borrow.Author.Tests.{eqb-false}
 use Rattle.definition.specs.Prelude.{ℕ, Bool, true, false, not, Option, none, some, List, length, drop, ltb, eqb, ℤ, pos, nat_abs, non_neg}
@@ -18,13 +20,9 @@ use Rattle.stages.specs.answer.literal_bits.Put.{bit_of}
 use Rattle.stages.specs.ranges.Values.{Tree, usb_of, end_of, usbr_of}
 use Rattle.stages.specs.ranges.Checks.{end_val, both_of, range_of}
 use Rattle.stages.specs.component.Values.{type_of, component_of}
-use Rattle.stages.specs.component.Tests.{is_range, is_there, full_end}
+use Rattle.stages.specs.component.Tests.{full_end}
 use Rattle.stages.specs.declared.token_tree.types.Part.{Part}
 use Rattle.stages.specs.declared.ranges.types.Usb.{Usb}
-use Rattle.stages.specs.declared.ranges.types.OptionUsb.{OptionUsb}
-use Rattle.stages.specs.declared.ranges.types.OptionUsb.TheVariants as O
-use Rattle.stages.specs.declared.ranges.types.OptionRange.{OptionRange}
-use Rattle.stages.specs.declared.ranges.types.OptionRange.TheVariants as B
 use Rattle.stages.specs.declared.component.types.Bits.{Bits}
 use Rattle.stages.specs.declared.component.types.ComponentType.{ComponentType}
 use Rattle.stages.specs.declared.component.types.ComponentType.TheVariants as T
@@ -42,17 +40,17 @@ unfolding value_of
 high_apart x w l h =
     by_test (ltb x.high (2 ^ 63)) (λ e. rw e (λ n. sym (ne_eqb (bits x) w (λ q. omega arith)))) (λ e. rw e (λ n. untrue n))
 
-module _ (image : List ℕ) (t : Tree) (base : ℕ) (e : OptionUsb) (w : ℕ) where
+module _ (image : List ℕ) (t : Tree) (base : ℕ) (e : Std.Option Usb) (w : ℕ) where
   -- of an end that is no number below 0
-  abbrev pub Given : OptionUsb → Type 0
+  abbrev pub Given : Std.Option Usb → Type 0
   Given e = if_static_end non_neg (record { start = val (pos 0); «end» = end_of image t base e }) ≡ true
 
-  pub ends_none : e ≡ O.None → true ≡ full_end (end_of image t base e) w
-  ends_none p = sym (ap (λ (e : OptionUsb). full_end (end_of image t base e) w) p)
+  pub ends_none : e ≡ None → true ≡ full_end (end_of image t base e) w
+  ends_none p = sym (ap (λ (e : Std.Option Usb). full_end (end_of image t base e) w) p)
 
-  module _ (u : Usb) (p : e ≡ O.Some u) where
+  module _ (u : Usb) (p : e ≡ Some u) where
     there : {b : Bool} → b ≡ at_width w (static_val (usb_of image t base u)) → b ≡ full_end (end_of image t base e) w
-    there h = h ∙ sym (ap (λ (e : OptionUsb). full_end (end_of image t base e) w) p)
+    there h = h ∙ sym (ap (λ (e : Std.Option Usb). full_end (end_of image t base e) w) p)
 
     ends_text : (u.s.len ≡ 0 → ⊥) → false ≡ full_end (end_of image t base e) w
     ends_text h = there (ap (at_width w) (static_no image t base u h))
@@ -80,9 +78,9 @@ module _ (image : List ℕ) (t : Tree) (base : ℕ) (e : OptionUsb) (w : ℕ) wh
 abbrev is_known : Option (ℤ × ℤ) → Bool
 is_known o = elim o [ none ↦ false | some p ↦ true ]
 
-range_known : (r : OptionRange) → is_range r ≡ is_known (range_of r)
-range_known (B.Some x y) = refl
-range_known B.None = refl
+range_known : (r : Std.Option (I128 × I128)) → is_some r ≡ is_known (range_of r)
+range_known (Some p) = refl
+range_known None = refl
 
 both_known : (a b : Bool) (x y : ℤ) → is_known (both_of (if a then some x else none) (if b then some y else none)) ≡ (a && b)
 both_known true true x y = refl
@@ -97,53 +95,58 @@ range_static : (s : D.Usb) (e : Option D.Usb) → is_known (both_of (static_val 
 range_static s none = none_known (is_empty s.s.bytes) s.x
 range_static s (some e) = both_known (is_empty s.s.bytes) (is_empty e.s.bytes) s.x e.x
 
-pub there_is : (image : List ℕ) (t : Tree) (base : ℕ) (e : OptionUsb) (s : D.Usb) → is_there e ≡ has_end (record { start = s; «end» = end_of image t base e })
-there_is image t base (O.Some u) s = refl
-there_is image t base O.None s = refl
+pub there_is : (image : List ℕ) (t : Tree) (base : ℕ) (e : Std.Option Usb) (s : D.Usb) → is_some e ≡ has_end (record { start = s; «end» = end_of image t base e })
+there_is image t base (Some u) s = refl
+there_is image t base None s = refl
 
-module _ (image : List ℕ) (t : Tree) (base at : ℕ) (c : Component) where
+turned : (a b : Bool) → a ≡ not b → b ≡ not a
+turned a true h = rw h refl
+turned a false h = rw h refl
+
+module _ (image : List ℕ) (t : Tree) (base : ℕ) (c : Component) where
   abbrev static_by : ComponentType → Bool
-  static_by k = is_static_literal (record { c_type = type_of image t base at k; range = usbr_of image t base c.range })
+  static_by k = is_static_literal (record { c_type = type_of image t base k; range = usbr_of image t base c.range })
 
-  pub static_literal : (b : Bits) (r : OptionRange) (a : Bool) → c.c_type ≡ T.Literal b → a ≡ is_range r
+  pub static_literal : (b : Bits) (r : Std.Option (I128 × I128)) (a : Bool) → c.c_type ≡ T.Literal b → a ≡ is_some r
       → range_of r ≡ both_of (static_val (usb_of image t base c.range.start)) (end_val (end_of image t base c.range.«end»))
-      → a ≡ is_static_literal (component_of image t base at c)
+      → a ≡ is_static_literal (component_of image t base c)
   static_literal b r a q h g =
       let v = usbr_of image t base c.range in
       h ∙ range_known r ∙ ap is_known g ∙ range_static v.start v.«end» ∙ sym (ap static_by q)
 
-  pub static_variable : (p : Part) → c.c_type ≡ T.Variable p → false ≡ is_static_literal (component_of image t base at c)
+  pub static_variable : (p : Part) → c.c_type ≡ T.Variable p → false ≡ is_static_literal (component_of image t base c)
   static_variable p q = sym (ap static_by q)
 
-  pub static_filler : c.c_type ≡ T.Filler → false ≡ is_static_literal (component_of image t base at c)
+  pub static_filler : c.c_type ≡ T.Filler → false ≡ is_static_literal (component_of image t base c)
   static_filler q = sym (ap static_by q)
 
   -- ---- a full range
 
   abbrev full_by : Bool → ComponentType → Bool
   full_by z k =
-      z && elim (type_of image t base at k) [
+      z && elim (type_of image t base k) [
         | Def.literal l ↦ full_end (end_of image t base c.range.«end») (length l)
         | Def.variable p ↦ not (has_end (usbr_of image t base c.range))
         | Def.filler ↦ has_end (usbr_of image t base c.range)
       ]
 
   module _ (z : Bool) (e : z ≡ is_zero (usb_of image t base c.range.start)) where
-    pub full_not : z ≡ false → false ≡ has_full_range (component_of image t base at c)
+    pub full_not : z ≡ false → false ≡ has_full_range (component_of image t base c)
     full_not h = sym (ap (λ (z : Bool). full_by z c.c_type) (sym e ∙ h))
 
-    full_is : {r : Bool} (k : ComponentType) → z ≡ true → c.c_type ≡ k → r ≡ full_by true k → r ≡ has_full_range (component_of image t base at c)
+    full_is : {r : Bool} (k : ComponentType) → z ≡ true → c.c_type ≡ k → r ≡ full_by true k → r ≡ has_full_range (component_of image t base c)
     full_is k h q g = g ∙ sym (ap (λ (z : Bool). full_by z c.c_type) (sym e ∙ h) ∙ ap (full_by true) q)
 
     pub full_literal : (b : Bits) (r : Bool) → z ≡ true → c.c_type ≡ T.Literal b → r ≡ full_end (end_of image t base c.range.«end») (b.to - b.from)
-        → r ≡ has_full_range (component_of image t base at c)
+        → r ≡ has_full_range (component_of image t base c)
     full_literal b r h q g =
         full_is (T.Literal b) h q
-        (g ∙ ap (full_end (end_of image t base c.range.«end»)) (sym (length_tab (bit_of (drop at image)) b.from (b.to - b.from))))
+        (g ∙ ap (full_end (end_of image t base c.range.«end»)) (sym (length_tab (bit_of (drop b.at image)) b.from (b.to - b.from))))
 
-    pub full_variable : (p : Part) (r : Bool) → z ≡ true → c.c_type ≡ T.Variable p → r ≡ is_there c.range.«end»
-        → not r ≡ has_full_range (component_of image t base at c)
-    full_variable p r h q g = full_is (T.Variable p) h q (ap not (g ∙ there_is image t base c.range.«end» (usb_of image t base c.range.start)))
+    pub full_variable : (p : Part) (r : Bool) → z ≡ true → c.c_type ≡ T.Variable p → is_some c.range.«end» ≡ not r
+        → r ≡ has_full_range (component_of image t base c)
+    full_variable p r h q g = full_is (T.Variable p) h q
+        (turned (is_some c.range.«end») r g ∙ ap not (there_is image t base c.range.«end» (usb_of image t base c.range.start)))
 
-    pub full_filler : (r : Bool) → z ≡ true → c.c_type ≡ T.Filler → r ≡ is_there c.range.«end» → r ≡ has_full_range (component_of image t base at c)
+    pub full_filler : (r : Bool) → z ≡ true → c.c_type ≡ T.Filler → r ≡ is_some c.range.«end» → r ≡ has_full_range (component_of image t base c)
     full_filler r h q g = full_is T.Filler h q (g ∙ there_is image t base c.range.«end» (usb_of image t base c.range.start))

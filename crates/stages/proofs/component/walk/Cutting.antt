@@ -13,7 +13,7 @@ use Rattle.stages.specs.token_tree.Table.{run_in}
 use Rattle.stages.specs.token_tree.Rows.{node_of, Rows, TablesFit}
 use Rattle.stages.specs.component.Parse.{items_read}
 use Rattle.stages.specs.component.Start.{AfterIs}
-use Rattle.stages.specs.component.Read.{without_by}
+use Rattle.stages.specs.component.Read.{without_after}
 use Rattle.stages.specs.declared.token_tree.types.Run.{Run}
 use Rattle.stages.specs.declared.token_tree.types.Tree.{Tree}
 use Rattle.stages.specs.declared.token_tree.types.Tables.{Tables}
@@ -40,14 +40,14 @@ module _ (image : List ℕ) (t : Tree) (after s stop tail r : ℕ) (n : Node) (s
       (from : ℕ) × Laid image t s run.stop.0 run.«end».0 run.r.0 from is × (run.r.0 < run.stop.0)
       × Runs image t run.stop.0 run.«end».0 run.r.0 from
 
-  all_read : (after ≤ r) ⊎ (stop ≤ after) → without_by whole after ≡ whole
+  all_read : (after ≤ r) ⊎ (stop ≤ after) → without_after whole after ≡ whole
   all_read (inl a) = rw (le-leb after r a) refl
   all_read (inr a) = by_test (leb after r) (λ q. rw q refl) (λ q. rw (q, le-leb stop after a) refl)
 
-  cut_whole : (b : Bool) → (after ≤ r) ⊎ (stop ≤ after) → Reads b (items 0 (recs_of n)) (without_by whole after)
+  cut_whole : (b : Bool) → (after ≤ r) ⊎ (stop ≤ after) → Reads b (items 0 (recs_of n)) (without_after whole after)
   cut_whole b a = subst (Reads b (items 0 (recs_of n))) (sym (all_read a)) (s, l, omega (arith, size, e), u)
 
-  cut_behind : (k : ℕ) → after ≡ place_of image t r (suc k) → suc k < length (items 0 (recs_of n)) → Reads true (drop (k + 1) (items 0 (recs_of n))) (without_by whole after)
+  cut_behind : (k : ℕ) → after ≡ place_of image t r (suc k) → suc k < length (items 0 (recs_of n)) → Reads true (drop (k + 1) (items 0 (recs_of n))) (without_after whole after)
   cut_behind k a f =
       let is = items 0 (recs_of n) in
       let one : k + 1 ≡ suc k = omega arith in
@@ -57,14 +57,14 @@ module _ (image : List ℕ) (t : Tree) (after s stop tail r : ℕ) (n : Node) (s
       let low : r < after = rw b (laid_some image t s _ _ r s (take (suc k) is) (omega (arith, len)) p.before).1 in
       let rest : length (drop (suc k) is) ≡ length is - suc k = length-drop (suc k) is in
       let high : after < stop = rw b (laid_some image t s stop tail _ p.from (drop (suc k) is) (omega (arith, rest, f)) p.after).1 in
-      let cut : without_by whole after ≡ record { r = record { 0 = after }; stop = record { 0 = stop }; «end» = record { 0 = tail } } =
+      let cut : without_after whole after ≡ record { r = record { 0 = after }; stop = record { 0 = stop }; «end» = record { 0 = tail } } =
       rw (lt-leb after r low, lt-leb stop after high) refl in
       subst (Reads true (drop (k + 1) is)) (sym cut)
       (p.from, rw (one, b) p.after, high, rw b (runs_within s (drop (suc k) is) u (omega arith) (omega arith) p.after))
 
   cut_scanned : (o : Option Prefix) → prefix_of (node_of n) ≡ o
       → elim o as (λ x. Type 0) [ none ↦ after ≡ 0 | some p ↦ (after ≡ place_of image t r (suc (length p.before))) × (1 ≤ length p.after) ]
-      → Reads true (elim o as (λ x. List Item) [ none ↦ items 0 (recs_of n) | some p ↦ drop (length p.before + 1) (items 0 (recs_of n)) ]) (without_by whole after)
+      → Reads true (elim o as (λ x. List Item) [ none ↦ items 0 (recs_of n) | some p ↦ drop (length p.before + 1) (items 0 (recs_of n)) ]) (without_after whole after)
   cut_scanned none q a = cut_whole true (inl (omega (arith, a)))
   cut_scanned (some p) q (a, b) =
       let c = colon_parts (split_range (items 0 (recs_of n))).mid p q in
@@ -72,11 +72,11 @@ module _ (image : List ℕ) (t : Tree) (after s stop tail r : ℕ) (n : Node) (s
       let k = mid_length (items 0 (recs_of n)) in
       cut_behind (length p.before) a (omega (arith, m, k, b))
 
-  cut_read : (scanned : Bool) → AfterIs image t after r scanned n → Reads scanned (items_read scanned (node_of n)) (without_by whole after)
+  cut_read : (scanned : Bool) → AfterIs image t after r scanned n → Reads scanned (items_read scanned (node_of n)) (without_after whole after)
   cut_read false a = cut_whole false (subst (λ x. (after ≤ r) ⊎ (x ≤ after)) (sym e) a)
   cut_read true a = cut_scanned (prefix_of (node_of n)) refl a
 
-  pub cut_is : (scanned : Bool) (run : Run) → AfterIs image t after r scanned n → run ≡ without_by whole after → Cut image t s scanned n run
+  pub cut_is : (scanned : Bool) (run : Run) → AfterIs image t after r scanned n → run ≡ without_after whole after → Cut image t s scanned n run
   cut_is scanned run a q =
       let (from, x, y, z) = cut_read scanned a in
       rw q (record { from = from; laid = x; some = y; runs = z })
@@ -84,12 +84,12 @@ module _ (image : List ℕ) (t : Tree) (after s stop tail r : ℕ) (n : Node) (s
 -- in the rows of its image
 pub cut_of : (image : List ℕ) (t : Tables) (k r s l x y m after : ℕ) (n : Node) (ns : List Node) (scanned : Bool) → Rows image t k r s l (n ∷ ns)
     → TablesFit image t x y m → AfterIs image t.tree after r scanned n → (size : ℕ) (run cut : Run) → size ≡ u32_at image (t.components + 8 * k)
-    → run ≡ run_in image t r size → cut ≡ without_by run after → Cut image t.tree s scanned n cut × (run.stop.0 ≡ r + length (recs_of n))
+    → run ≡ run_in image t r size → cut ≡ without_after run after → Cut image t.tree s scanned n cut × (run.stop.0 ≡ r + length (recs_of n))
 cut_of image t k r s l x y m after n ns scanned h f a size run cut es er ec =
     let g = (rows_cons image t k r s l n ns h).0 in
     let e : run ≡ record { r = record { 0 = r }; stop = record { 0 = r + length (recs_of n) }; «end» = record { 0 = s + length (text_of (recs_of n)) } } =
     er ∙ ap (run_in image t r) (es ∙ g.size) ∙ run_is image t k r s l n ns h in (
       cut_is image t.tree after s (r + length (recs_of n)) (s + length (text_of (recs_of n))) r n g.some refl (runs_of image t k r s l m x y n ns h f)
-          (root_laid image t k r s l n g) scanned cut a (ec ∙ ap (λ z. without_by z after) e),
+          (root_laid image t k r s l n g) scanned cut a (ec ∙ ap (λ z. without_after z after) e),
       ap (λ (z : Run). z.stop.0) e,
     )

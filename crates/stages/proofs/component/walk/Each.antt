@@ -1,6 +1,7 @@
 -- A stage over a list of placed components and over a tree: what it says, one more in front.
-use Rattle.std.specs.Prelude.{◌&&◌, ◌∷◌}
-use Rattle.std.proofs.Common.{◌≡◌, sym, refl, ap, ◌∙◌}
+use Rattle.std.specs.Prelude as Std
+use Rattle.std.specs.Prelude.{Ok, Err, ◌&&◌, ◌∷◌}
+use Rattle.std.proofs.Common.{◌≡◌, sym, refl, ap, ◌∙◌, arith}
 use Rattle.definition.specs.Prelude.{ℕ, suc, Bool, List, [], length, eqb}
 use Rattle.definition.specs.Basics.{Result, ok, refused, ◌>>=◌, with_places, is_empty}
 use Rattle.definition.specs.Image.{Placed}
@@ -18,6 +19,13 @@ same_verdict (refused q) = refl
 
 pub ok_is : {A : Type 0} (a b : A) → ok a ≡ ok b → a ≡ b
 ok_is a b h = cc
+
+-- the same of std's
+pub same_ok : {A E : Type 0} (a b : A) → ◌≡◌ {A = Std.Result A E} (Ok a) (Ok b) → a ≡ b
+same_ok a b h = cc
+
+pub err_ok : {G A E : Type 0} {q : E} {a : A} → ◌≡◌ {A = Std.Result A E} (Err q) (Ok a) → G
+err_ok h = let z : ◌≡◌ {A = ℕ} 0 1 = cc in absurd (omega arith)
 
 -- a stage whose verdict is `ok`
 pub verdict_ok : {A : Type 0} (m : Result A) → verdict m ≡ ok tt → (a : A) × (m ≡ ok a)

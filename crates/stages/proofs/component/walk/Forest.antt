@@ -1,21 +1,26 @@
 -- The loop over the concatenations: one more in front, none, one that stage 1 refuses; and the whole tree.
-use Rattle.std.specs.Prelude.{◌+◌, ◌*◌, ◌∷◌, ◌++◌}
+use Rattle.std.specs.Prelude as Std
+use Rattle.std.specs.Prelude.{Ok, Err, ◌+◌, ◌∷◌, ◌++◌}
 use Rattle.std.proofs.Common.{◌≡◌, ◌≤◌, sym, refl, ap, ◌∙◌, subst, add-zero, arith, length-append, take_at, drop_at}
 use Rattle.definition.specs.Prelude.{ℕ, suc, true, List, [], map, length, take}
-use Rattle.definition.specs.Basics.{Result, ok, refused, ◌>>=◌, joined}
+use Rattle.definition.specs.Basics as Basics
+use Rattle.definition.specs.Basics.{Result, ok, refused, refusal_of, ◌>>=◌, joined}
 use Rattle.definition.specs.Image.{Placed, Unparsed, parts, tree_of}
 use Rattle.definition.specs.Tree.{Node, recs_of, all_recs, text_of}
 use Rattle.definition.specs.Component as Def
 use Rattle.definition.specs.Component.{each_in, each, stage1_component, simplify}
 use Rattle.prepared.specs.Groups.{text_of_append}
 use Rattle.prepared.specs.Statement.{placed_from, placed_tree}
-use Rattle.errors.specs.Refused.{result_of}
-use Rattle.errors.specs.declared.Checked.{Checked}
-use Rattle.stages.specs.component.Kept.{KeptFrom}
-use Rattle.stages.specs.component.Read.{is_refused_by, verdict, first_stage, second_stage, two_stages, walk_from, TurnsAre, StagesAre}
+use Rattle.errors.specs.Refused.{refused_as, result_of}
+use Rattle.errors.specs.declared.Refusal.{Refusal}
+use Rattle.stages.specs.token_tree.Table.{tables_in}
+use Rattle.stages.specs.component.Kept.{KeptIn, KeptFrom}
+use Rattle.stages.specs.component.Read.{verdict, first_in, first_stage, second_stage, two_stages, walk_from, TurnsAre, StagesAre}
+use Rattle.stages.specs.declared.token_tree.types.Tables.{Tables}
+use Rattle.stages.specs.declared.component.types.Component.{Component}
 use Rattle.stages.specs.declared.component.walk.Walk.{Walk}
-use Rattle.stages.proofs.Cases.{not_passed, never}
-use Rattle.stages.proofs.component.Rows.{kept_none, kept_both, kept_alike}
+use Rattle.stages.proofs.Cases.{never}
+use Rattle.stages.proofs.component.Keeping.{kept_none, kept_both, kept_alike}
 use Rattle.stages.proofs.component.walk.Each.{bind_on, same_verdict, verdict_ok, each_length, tree_verdict, TreeParts, tree_parts, tree_none}
 use Rattle.stages.proofs.component.walk.Rounds.{like_before}
 
@@ -58,20 +63,20 @@ tree_is t = lists_are 0 t
 
 -- ---- the concatenations from the i-th on
 
-pub record StagesFrom (image : List ℕ) (i s : ℕ) (t : List (List Node)) (w : Walk) (q : Checked) (words words' : List ℕ) : Type 0 where
-  pub long : length words' ≡ length words
-  pub before : take (11 * w.k.0) words' ≡ take (11 * w.k.0) words
-  pub answer : result_of q ≡ (each first_stage i (placed_lists s t) >>= λ bss. result_of w.second >>= λ _. verdict (each second_stage i bss))
-  pub kept : (bss dss : List (List (Placed Def.Component))) → each first_stage i (placed_lists s t) ≡ ok bss → each second_stage i bss ≡ ok dss
-      → KeptFrom image words' w.k.0 (joined dss)
+pub record StagesFrom (image : List ℕ) (t : Tables) (i s : ℕ) (cs : List (List Node)) (w : Walk) (q : Std.Result Unit Refusal) (kept kept' : List Component) : Type 0 where
+  pub long : length kept' ≡ length kept
+  pub before : take w.k.0 kept' ≡ take w.k.0 kept
+  pub answer : result_of q ≡ (each first_stage i (placed_lists s cs) >>= λ bss. result_of w.second >>= λ _. verdict (each second_stage i bss))
+  pub are : (bss dss : List (List (Placed Def.Component))) → each first_stage i (placed_lists s cs) ≡ ok bss → each second_stage i bss ≡ ok dss
+      → KeptIn image t.tree kept' w.k.0 (joined dss)
 
-pub stages_are : (image : List ℕ) (t : List (List Node)) (q : Checked) (words words' : List ℕ) → tree_of image ≡ placed_tree t
-    → StagesFrom image 0 0 t walk_from q words words' → StagesAre image q words'
-stages_are image t q words words' e h =
-    let f : tree_of image ≡ placed_lists 0 t = e ∙ tree_is t in
+pub stages_are : (image : List ℕ) (t : Tables) (cs : List (List Node)) (q : Std.Result Unit Refusal) (kept kept' : List Component) → t ≡ tables_in image
+    → tree_of image ≡ placed_tree cs → StagesFrom image t 0 0 cs walk_from q kept kept' → StagesAre image q kept'
+stages_are image t cs q kept kept' here e h =
+    let f : tree_of image ≡ placed_lists 0 cs = e ∙ tree_is cs in
     record {
-      answer = h.answer ∙ go (each first_stage 0 (placed_lists 0 t)) ∙ ap (λ l. verdict (two_stages l)) (sym f);
-      kept = λ dss g. both (each first_stage 0 (placed_lists 0 t)) refl dss (ap two_stages (sym f) ∙ g);
+      answer = h.answer ∙ go (each first_stage 0 (placed_lists 0 cs)) ∙ ap (λ l. verdict (two_stages l)) (sym f);
+      are = λ dss g. both (each first_stage 0 (placed_lists 0 cs)) refl dss (ap two_stages (sym f) ∙ g);
     }
   where
     go : (m : Result (List (List (Placed Def.Component))))
@@ -79,71 +84,74 @@ stages_are image t q words words' e h =
     go (ok a) = refl
     go (refused q) = refl
 
-    both : (m : Result (List (List (Placed Def.Component)))) → each first_stage 0 (placed_lists 0 t) ≡ m → (dss : List (List (Placed Def.Component)))
-        → (each first_stage 0 (placed_lists 0 t) >>= each second_stage 0) ≡ ok dss → KeptFrom image words' 0 (joined dss)
-    both (ok bss) p dss g = h.kept bss dss p (ap (λ m. m >>= each second_stage 0) (sym p) ∙ g)
+    both : (m : Result (List (List (Placed Def.Component)))) → each first_stage 0 (placed_lists 0 cs) ≡ m → (dss : List (List (Placed Def.Component)))
+        → (each first_stage 0 (placed_lists 0 cs) >>= each second_stage 0) ≡ ok dss → KeptFrom image kept' 0 (joined dss)
+    both (ok bss) p dss g =
+        subst (λ (x : Tables). KeptIn image x.tree kept' 0 (joined dss)) here (h.are bss dss p (ap (λ m. m >>= each second_stage 0) (sym p) ∙ g))
     both (refused q) p dss g = never (ap (λ m. m >>= each second_stage 0) (sym p) ∙ g)
 
 -- none are left
-pub stages_none : (image : List ℕ) (i s : ℕ) (w : Walk) (words : List ℕ) → StagesFrom image i s [] w w.second words words
+pub stages_none : (image : List ℕ) (t : Tables) (i s : ℕ) (w : Walk) (kept : List Component) → StagesFrom image t i s [] w w.second kept kept
 unfolding each placed_lists joined
-stages_none image i s w words =
+stages_none image t i s w kept =
     record {
       long = refl;
       before = refl;
       answer = same_verdict (result_of w.second);
-      kept = λ bss dss f g.
-          subst (λ l. KeptFrom image words w.k.0 (joined l))
-          (sym (tree_none (λ last. simplify) i dss (ap (each second_stage i) (sym (tree_none stage1_component i bss f)) ∙ g))) (kept_none image words w.k.0);
+      are = λ bss dss f g.
+          subst (λ l. KeptIn image t.tree kept w.k.0 (joined l))
+          (sym (tree_none (λ last. simplify) i dss (ap (each second_stage i) (sym (tree_none stage1_component i bss f)) ∙ g))) (kept_none image t.tree kept w.k.0);
     }
 
-module _ (image : List ℕ) (i s : ℕ) (c : List Node) (t : List (List Node)) (w m : Walk) (words words₁ : List ℕ)
-    (h : TurnsAre image i s c w m words words₁) where
+module _ (image : List ℕ) (t : Tables) (i s : ℕ) (c : List Node) (cs : List (List Node)) (w : Walk) (o : Std.Result Walk Refusal) (kept kept₁ : List Component)
+    (h : TurnsAre image t i s c w o kept kept₁) where
   abbrev behind : ℕ
   behind = s + length (text_of (all_recs c))
 
-  lists_cons : placed_lists s (c ∷ t) ≡ placed_from s c ∷ placed_lists behind t
+  lists_cons : placed_lists s (c ∷ cs) ≡ placed_from s c ∷ placed_lists behind cs
   unfolding placed_lists
   lists_cons = refl
 
   -- stage 1 of it, then of the others
-  each_cons : each first_stage i (placed_lists s (c ∷ t))
-      ≡ (each_in first_stage i 0 (placed_from s c) >>= λ bs. each first_stage (suc i) (placed_lists behind t) >>= λ bss. ok (bs ∷ bss))
+  each_cons : each first_stage i (placed_lists s (c ∷ cs))
+      ≡ (each_in first_stage i 0 (placed_from s c) >>= λ bs. each first_stage (suc i) (placed_lists behind cs) >>= λ bss. ok (bs ∷ bss))
   unfolding placed_lists each
   each_cons = refl
 
-  parts_of : (bss : List (List (Placed Def.Component))) → each first_stage i (placed_lists s (c ∷ t)) ≡ ok bss
-      → TreeParts stage1_component i (placed_from s c) (placed_lists behind t) bss
-  parts_of bss e = tree_parts stage1_component i (placed_from s c) (placed_lists behind t) bss (ap (each first_stage i) (sym lists_cons) ∙ e)
+  parts_of : (bss : List (List (Placed Def.Component))) → each first_stage i (placed_lists s (c ∷ cs)) ≡ ok bss
+      → TreeParts stage1_component i (placed_from s c) (placed_lists behind cs) bss
+  parts_of bss e = tree_parts stage1_component i (placed_from s c) (placed_lists behind cs) bss (ap (each first_stage i) (sym lists_cons) ∙ e)
 
   -- stage 1 refuses one of its components
-  pub stages_refused : is_refused_by m.first ≡ true → StagesFrom image i s (c ∷ t) w m.first words words₁
-  stages_refused e =
+  pub stages_refused : (x : Refusal) → o ≡ Err x → StagesFrom image t i s (c ∷ cs) w (Err x) kept kept₁
+  stages_refused x e =
+      let first : refused_as x ≡ verdict (each_in first_stage i 0 (placed_from s c)) = ap first_in (sym e) ∙ h.first in
       record {
         long = h.long;
         before = h.before;
-        answer = stays m.first e (each_in first_stage i 0 (placed_from s c)) h.first (λ bs. each first_stage (suc i) (placed_lists behind t) >>= λ bss. ok (bs ∷ bss))
+        answer = stays (refusal_of x.number x.concatenation x.component) (each_in first_stage i 0 (placed_from s c)) first
+            (λ bs. each first_stage (suc i) (placed_lists behind cs) >>= λ bss. ok (bs ∷ bss))
             (λ bss. result_of w.second >>= λ _. verdict (each second_stage i bss))
             ∙ ap (λ x. x >>= λ bss. result_of w.second >>= λ _. verdict (each second_stage i bss)) (sym each_cons);
-        kept = λ bss dss f g. not_passed m.first e (h.first ∙ ap verdict (parts_of bss f).reads);
+        are = λ bss dss f g. never (first ∙ ap verdict (parts_of bss f).reads);
       }
     where
-      stays : {A B : Type 0} (x : Checked) → is_refused_by x ≡ true → (a : Result A) → result_of x ≡ verdict a → (f : A → Result B) (g : B → Result Unit)
-          → result_of x ≡ ((a >>= f) >>= g)
-      stays x q (ok a) e f g = not_passed x q e
-      stays x q (refused w) e f g = e
+      stays : {A B : Type 0} (q : Basics.Refusal) (a : Result A) → refused q ≡ verdict a → (f : A → Result B) (g : B → Result Unit)
+          → refused q ≡ ((a >>= f) >>= g)
+      stays q (ok a) e f g = never e
+      stays q (refused w) e f g = e
 
   joined_one : (ds : List (Placed Def.Component)) (rest dss : List (List (Placed Def.Component))) → dss ≡ ds ∷ rest → joined dss ≡ ds ++ joined rest
   unfolding joined
   joined_one ds rest dss e = ap joined e
 
   -- one more in front of others
-  pub stages_cons : (q : Checked) (words' : List ℕ) → result_of m.first ≡ ok tt → 11 * (w.k.0 + length c) ≤ length words
-      → StagesFrom image (suc i) behind t m q words₁ words' → StagesFrom image i s (c ∷ t) w q words words'
-  stages_cons q words' passed fits r = go (verdict_ok (each_in first_stage i 0 (placed_from s c)) (sym h.first ∙ passed))
+  pub stages_cons : (m : Walk) (q : Std.Result Unit Refusal) (kept' : List Component) → o ≡ Ok m
+      → StagesFrom image t (suc i) behind cs m q kept₁ kept' → StagesFrom image t i s (c ∷ cs) w q kept kept'
+  stages_cons m q kept' passed r = go (verdict_ok (each_in first_stage i 0 (placed_from s c)) (sym h.first ∙ ap first_in passed))
     where
       k : m.k.0 ≡ w.k.0 + length c
-      k = (h.places passed).0
+      k = (h.turned m passed).0
 
       all : (bs : List (Placed Def.Component)) → result_of m.second ≡ (result_of w.second >>= λ _. verdict (each_in second_stage i 0 bs))
           → (x : Result (List (List (Placed Def.Component))))
@@ -155,28 +163,26 @@ module _ (image : List ℕ) (i s : ℕ) (c : List Node) (t : List (List Node)) (
           ∙ bind_on (result_of w.second) (verdict (each_in second_stage i 0 bs)) (verdict (each second_stage (suc i) bss))
           ∙ ap (λ x. result_of w.second >>= λ _. x) (sym (tree_verdict (λ last. simplify) i bs bss))
 
-      kept : (bss dss : List (List (Placed Def.Component))) → each first_stage i (placed_lists s (c ∷ t)) ≡ ok bss → each second_stage i bss ≡ ok dss
-          → KeptFrom image words' w.k.0 (joined dss)
-      kept bss dss e f =
+      are : (bss dss : List (List (Placed Def.Component))) → each first_stage i (placed_lists s (c ∷ cs)) ≡ ok bss → each second_stage i bss ≡ ok dss
+          → KeptIn image t.tree kept' w.k.0 (joined dss)
+      are bss dss e f =
           let p = parts_of bss e in
           let u = tree_parts (λ last. simplify) i p.one p.rest dss (ap (each second_stage i) (sym p.all) ∙ f) in
           let n : length u.one ≡ length c =
           each_length (λ last. simplify) i 0 p.one u.one u.reads ∙ each_length stage1_component i 0 (placed_from s c) p.one p.reads ∙ placed_length s c in
           let z : m.k.0 ≡ w.k.0 + length u.one = k ∙ ap (λ x. w.k.0 + x) (sym n) in
-          let long = h.long in
-          subst (KeptFrom image words' w.k.0) (sym (joined_one u.one u.rest dss u.all))
-          (kept_both image words' w.k.0 u.one (joined u.rest)
-          (kept_alike image words₁ words' w.k.0 u.one (h.kept p.one u.one p.reads u.reads) r.long (omega (arith, fits, n, long))
-          (subst (λ x. take (11 * x) words' ≡ take (11 * x) words₁) z r.before))
-          (subst (λ x. KeptFrom image words' x (joined u.rest)) z (r.kept p.rest u.rest p.others u.others)))
+          subst (KeptIn image t.tree kept' w.k.0) (sym (joined_one u.one u.rest dss u.all))
+          (kept_both image t.tree kept' w.k.0 u.one (joined u.rest)
+          (kept_alike image t.tree kept₁ kept' w.k.0 u.one (h.are p.one u.one p.reads u.reads) (subst (λ x. take x kept' ≡ take x kept₁) z r.before))
+          (subst (λ x. KeptIn image t.tree kept' x (joined u.rest)) z (r.are p.rest u.rest p.others u.others)))
 
-      go : (bs : List (Placed Def.Component)) × (each_in first_stage i 0 (placed_from s c) ≡ ok bs) → StagesFrom image i s (c ∷ t) w q words words'
+      go : (bs : List (Placed Def.Component)) × (each_in first_stage i 0 (placed_from s c) ≡ ok bs) → StagesFrom image t i s (c ∷ cs) w q kept kept'
       go (bs, e) =
           record {
             long = r.long ∙ h.long;
-            before = like_before (11 * w.k.0) (11 * m.k.0) words' words₁ words (let z = k in omega (arith, z)) r.before h.before;
-            answer = r.answer ∙ all bs (h.second bs e) (each first_stage (suc i) (placed_lists behind t))
-                ∙ ap (λ x. (x >>= λ bs. each first_stage (suc i) (placed_lists behind t) >>= λ bss. ok (bs ∷ bss)) >>= λ bss. result_of w.second >>= λ _. verdict (each second_stage i bss)) (sym e)
+            before = like_before w.k.0 m.k.0 kept' kept₁ kept (let z = k in omega (arith, z)) r.before h.before;
+            answer = r.answer ∙ all bs (h.second m bs passed e) (each first_stage (suc i) (placed_lists behind cs))
+                ∙ ap (λ x. (x >>= λ bs. each first_stage (suc i) (placed_lists behind cs) >>= λ bss. ok (bs ∷ bss)) >>= λ bss. result_of w.second >>= λ _. verdict (each second_stage i bss)) (sym e)
                 ∙ ap (λ x. x >>= λ bss. result_of w.second >>= λ _. verdict (each second_stage i bss)) (sym each_cons);
-            kept = kept;
+            are = are;
           }

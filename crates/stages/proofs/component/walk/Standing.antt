@@ -79,12 +79,12 @@ module _ (image : List ℕ) (t : Tables) where
       → m.k.0 ≡ w.k.0 + length ns → m.l ≡ w.l + length (literals_of ns) → WalkFits image t m (length ms) room
   fits_behind w m s room ns ms h f a b =
       let o = fits_list w.k.0 w.r.0 s w.l ns ms h (record { tables = f.tables; literals = f.literals }) in
-      let x = f.words in
+      let x = f.room_fits in
       let y = length-append ns ms in
       record {
         tables = rw (a, b) o.tables;
         literals = rw b o.literals;
-        words = omega (arith, x, y, a);
+        room_fits = omega (arith, x, y, a);
       }
 
   -- those behind the first one
@@ -93,6 +93,6 @@ module _ (image : List ℕ) (t : Tables) where
   fits_next w m s room n ns h f a b =
       let o = fits_one w.k.0 w.r.0 s w.l (length ns) n (rows_cons image t w.k.0 w.r.0 s w.l n ns h).0
       (record { tables = f.tables; literals = f.literals }) in
-      let x = f.words in
+      let x = f.room_fits in
       let k : m.k.0 ≡ suc w.k.0 = omega (arith, a) in
-      record { tables = rw (k, b) o.tables; literals = rw b o.literals; words = omega (arith, x, a) }
+      record { tables = rw (k, b) o.tables; literals = rw b o.literals; room_fits = omega (arith, x, a) }

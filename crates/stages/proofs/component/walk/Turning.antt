@@ -1,117 +1,113 @@
--- One component of the loop: what its answers say.
-use Rattle.std.specs.Prelude.{◌+◌, ◌*◌, ◌^◌, ◌∷◌, ◌++◌}
-use Rattle.std.proofs.Common.{◌≡◌, ◌<◌, ◌≤◌, sym, refl, ap, ◌∙◌, subst, append_assoc, arith, length-take-le, take_at}
-use lib.Seq.{sets, sets-eq, length-sets}
-use Rattle.definition.specs.Prelude.{ℕ, Bool, List, length, take, drop}
-use Rattle.definition.specs.Basics.{Result, ok, refused, ◌>>=◌, with_places}
-use Rattle.definition.specs.Image.{u32_at, bits_at}
+-- One component of the loop: what is said of it by what is read of it.
+use Rattle.std.specs.Prelude as Std
+use Rattle.std.specs.Prelude.{Ok, Err, set, ◌+◌, ◌*◌, ◌^◌, ◌∷◌}
+use Rattle.std.specs.Int.{div_ceil}
+use Rattle.std.specs.Result.{result_and}
+use Rattle.std.proofs.Common.{◌≡◌, ◌<◌, ◌≤◌, sym, refl, ap, ◌∙◌, subst, arith, length-set}
+use Rattle.std.proofs.lemmas.List.{take-set}
+use Rattle.definition.specs.Prelude.{ℕ, Bool, List, length, take}
+use Rattle.definition.specs.Basics.{Result, ok, refused, refusal_of, ◌>>=◌, with_places}
+use Rattle.definition.specs.Image.{u32_at, bits_at, bytes_for}
 use Rattle.definition.specs.Tree.{Node, recs_of}
 use Rattle.definition.specs.Component as Def
 use Rattle.definition.specs.Component.{stage1_component, simplify}
-use Rattle.errors.specs.Refused.{result_of}
+use Rattle.errors.specs.Reasons.{number, refusal}
+use Rattle.errors.specs.Refused.{refused_as, result_of}
+use Rattle.errors.specs.declared.Refusal.{Refusal}
+use Rattle.errors.specs.declared.reasons.Reason.{Reason}
 use Rattle.prepared.specs.Bits.{bits_at_holds}
 use Rattle.stages.specs.token_tree.Rows.{node_of, Rooted, Rows}
-use Rattle.stages.specs.ranges.Values.{Tree}
-use Rattle.stages.specs.component.Values.{component_of, Ordered, TypeFits}
+use Rattle.stages.specs.component.Values.{component_of, ComponentStaged}
 use Rattle.stages.specs.component.Parse.{parse_items, items_read}
-use Rattle.stages.specs.component.Kept.{fields_of, kept_row, RowIs}
-use Rattle.stages.specs.component.Read.{verdict, ReadIs, OrderedRead, KeptBy, first_by, second_by, bytes_by, TurnIs}
+use Rattle.stages.specs.component.Kept.{EndGiven, Is}
+use Rattle.stages.specs.component.Read.{verdict, bytes_by, ReadIs, TurnIs}
 use Rattle.stages.specs.declared.token_tree.types.Tables.{Tables}
-use Rattle.stages.specs.declared.component.types.ComponentType.{ComponentType}
-use Rattle.stages.specs.declared.component.types.ComponentType.TheVariants as T
-use Rattle.stages.specs.declared.component.keep.Row.{Row}
-use Rattle.stages.specs.declared.component.read.ReadResult.{ReadResult}
-use Rattle.stages.specs.declared.component.read.ReadResult.TheVariants as Q
+use Rattle.stages.specs.declared.component.types.Component.{Component}
+use Rattle.stages.specs.declared.component.read.Unread.{Unread}
+use Rattle.stages.specs.declared.component.read.Unread.TheVariants as U
 use Rattle.stages.specs.declared.component.walk.Walk.{Walk}
 use Rattle.stages.proofs.Cases.{never}
 use Rattle.stages.proofs.token_tree.Roots.{rows_cons}
 use Rattle.stages.proofs.component.parse.Splits.{stage_items}
-use Rattle.stages.proofs.component.keep.Rowing.{row_is}
-use Rattle.stages.proofs.component.walk.Each.{ok_is}
+use Rattle.stages.proofs.component.walk.Each.{ok_is, same_ok, err_ok}
 
-pub ordered_read : (image : List ℕ) (t : Tree) (base at : ℕ) (q : ReadResult) (m : Result Def.Component) → ReadIs image t base at q m → OrderedRead q
-ordered_read image t base at (Q.Ok c) m (e, h, g) = go c.c_type h.c_type
-  where
-    go : (x : ComponentType) → TypeFits image t base x → Ordered x
-    go (T.Literal b) f = f.0
-    go (T.Variable p) f = tt
-    go T.Filler f = tt
-ordered_read image t base at (Q.First n) m h = tt
-ordered_read image t base at (Q.Second n) m h = tt
+-- a literal's bytes
+pub rounded : (w : ℕ) → div_ceil w 8 ≡ bytes_by w
+rounded w = omega arith
 
--- what is written from i on leaves what stands before
-take_sets : (l vs : List ℕ) (i : ℕ) → i + length vs ≤ length l → take i (sets l i vs) ≡ take i l
-take_sets l vs i h =
-    ap (take i) (sets-eq vs l i h ∙ append_assoc (take i l) vs (drop (i + length vs) l))
-    ∙ take_at (take i l) (vs ++ drop (i + length vs) l) i (length-take-le i l (omega (arith, h)))
+-- the first refusal of stage 2
+later : (a : Std.Result Unit Refusal) (q : Refusal) → result_of {A = Unit} (result_and a (Err q)) ≡ (result_of a >>= λ _. refused_as q)
+later (Ok tt) q = refl
+later (Err x) q = refl
 
--- the three answers
-pub record Answers (image : List ℕ) (i j k : ℕ) (s : ℕ) (m : Result Def.Component) (before first second : Result Unit) (words words' : List ℕ) : Type 0 where
-  pub long : length words' ≡ length words
-  pub same : take (11 * k) words' ≡ take (11 * k) words
-  pub first_is : first ≡ with_places i j (verdict m)
-  pub second_is : (d : Def.Component) → m ≡ ok d → second ≡ (before >>= λ _. with_places i j (verdict (simplify d)))
-  pub kept : (d : Def.Component) → (m >>= simplify) ≡ ok d
-      → (row : Row) × RowIs image row (record { base = s; value = d }) × (words' ≡ sets words (11 * k) (fields_of row))
+module _ (image : List ℕ) (t : Tables) (i j : ℕ) (scanned : Bool) (s : ℕ) (n : Node) (w : Walk) (kept : List Component) where
+  abbrev first_read : Result Def.Component
+  first_read = stage1_component scanned (node_of n)
 
-passed_first : (i j : ℕ) (m : Result Def.Component) (d : Def.Component) → (m >>= simplify) ≡ ok d → ok tt ≡ with_places i j (verdict m)
-passed_first i j (ok a) d e = refl
-passed_first i j (refused q) d e = never e
+  -- the walk behind it, with the first refusal of stage 2
+  pub record Behind (r : Walk) : Type 0 where
+    pub k : r.k.0 ≡ w.k.0 + 1
+    pub r_is : r.r.0 ≡ w.r.0 + length (recs_of n)
+    pub l : r.l ≡ w.l + bytes_for (length n.bits)
 
-pub answers : (image : List ℕ) (t : Tree) (i j k s at : ℕ) (q : ReadResult) (m : Result Def.Component) (before first second : Result Unit) (words words' : List ℕ)
-    → s < 2 ^ 32 → at ≤ length image → length image < 2 ^ 31 → 11 * k + 11 ≤ length words → ReadIs image t s at q m → KeptBy q k at words words'
-    → first ≡ first_by q i j → second ≡ second_by before q i j → Answers image i j k s m before first second words words'
-answers image t i j k s at (Q.Ok c) m before first second words words' low fits small room (e, h, g) kept f₁ f₂ =
-    let w = kept image t s h g in
-    let row = kept_row image t s c at in
-    record {
-      long = ap {A = List ℕ} length w ∙ length-sets words (11 * k) (fields_of row);
-      same = ap (take (11 * k)) w ∙ take_sets words (fields_of row) (11 * k) room;
-      first_is = f₁ ∙ passed_first i j m (component_of image t s at c) e;
-      second_is = λ d p. f₂ ∙ ap (λ (x : Result Def.Component). before >>= λ _. with_places i j (verdict x)) (sym e ∙ ap (λ x. x >>= simplify) p);
-      kept = λ d p.
-          (row, subst (λ x. RowIs image row (record { base = s; value = x })) (ok_is (component_of image t s at c) d (sym e ∙ p)) (row_is image t s at c h low fits small), w);
-    }
-answers image t i j k s at (Q.First n) m before first second words words' low fits small room e kept f₁ f₂ =
-    record {
-      long = ap {A = List ℕ} length kept;
-      same = ap (take (11 * k)) kept;
-      first_is = f₁ ∙ ap (λ (x : Result Def.Component). with_places i j (verdict x)) (sym e);
-      second_is = λ d p. never (sym e ∙ p);
-      kept = λ d p. never (ap (λ x. x >>= simplify) (sym e) ∙ p);
-    }
-answers image t i j k s at (Q.Second n) m before first second words words' low fits small room (a, e, g) kept f₁ f₂ =
-    record {
-      long = ap {A = List ℕ} length kept;
-      same = ap (take (11 * k)) kept;
-      first_is = f₁ ∙ ap (λ (x : Result Def.Component). with_places i j (verdict x)) (sym e);
-      second_is = λ d p. f₂ ∙ ap (λ (x : Result Def.Component). before >>= λ _. with_places i j (verdict x)) (sym g ∙ ap simplify (ok_is a d (sym e ∙ p)));
-      kept = λ d p. never (sym g ∙ ap (λ x. x >>= simplify) (sym e) ∙ p);
-    }
+  -- stage 1 refuses it
+  pub turn_first : (x : Reason) (q : Refusal) → ReadIs image t.tree s (Err (U.First x)) first_read → refused_as {A = Unit} q ≡ refused (refusal_of (number x) i j)
+      → TurnIs image t i j scanned s n w (Err q) kept kept
+  turn_first x q h e =
+      record {
+        long = refl;
+        before = refl;
+        first = e ∙ ap (λ (y : Result Def.Component). with_places i j (verdict y)) (sym h);
+        turned = λ r f. err_ok f;
+        second = λ r d f g. err_ok f;
+        one = λ d f. never (ap (λ y. y >>= simplify) (sym h) ∙ f);
+      }
 
-pub turn_is : (image : List ℕ) (i j : ℕ) (scanned : Bool) (s : ℕ) (n : Node) (w r : Walk) (words words' : List ℕ) (width : ℕ)
-    → Answers image i j w.k.0 s (stage1_component scanned (node_of n)) (result_of w.second) (result_of r.first) (result_of r.second) words words'
-    → width ≡ length n.bits → r.k.0 ≡ w.k.0 + 1 → r.r.0 ≡ w.r.0 + length (recs_of n) → r.l ≡ w.l + bytes_by width
-    → TurnIs image i j scanned s n w r words words'
-turn_is image i j scanned s n w r words words' width h e a b c =
-    record {
-      k = a;
-      r_is = b;
-      l = c ∙ ap (λ x. w.l + bytes_by x) e;
-      long = h.long;
-      before = h.same;
-      first = h.first_is;
-      second = h.second_is;
-      kept = h.kept;
-    }
+  -- stage 2 does
+  pub turn_second : (x : Reason) (q : Refusal) (r : Walk) → ReadIs image t.tree s (Err (U.Second x)) first_read → Behind r
+      → r.second ≡ result_and w.second (Err q) → q ≡ refusal (number x) i j → TurnIs image t i j scanned s n w (Ok r) kept kept
+  turn_second x q r (a, e, g) b f₂ eq =
+      let h : result_of r.second ≡ (result_of w.second >>= λ _. refused (refusal_of (number x) i j)) =
+      ap result_of (f₂ ∙ ap (λ q. result_and w.second (Err q)) eq) ∙ later w.second (refusal (number x) i j) in
+      record {
+        long = refl;
+        before = refl;
+        first = ap (λ (y : Result Def.Component). with_places i j (verdict y)) (sym e);
+        turned = λ r' f. subst (λ y. (y.k.0 ≡ w.k.0 + 1) × (y.r.0 ≡ w.r.0 + length (recs_of n)) × (y.l ≡ w.l + bytes_for (length n.bits))) (same_ok r r' f) (b.k, b.r_is, b.l);
+        second = λ r' d f p. ap (λ (y : Walk). result_of y.second) (sym (same_ok r r' f)) ∙ h
+            ∙ ap (λ (y : Result Def.Component). result_of w.second >>= λ _. with_places i j (verdict y)) (sym g ∙ ap simplify (ok_is a d (sym e ∙ p)));
+        one = λ d p. never (sym g ∙ ap (λ y. y >>= simplify) (sym e) ∙ p);
+      }
+
+  -- neither does
+  pub turn_kept : (c : Component) (r : Walk) → ReadIs image t.tree s (Ok c) first_read → Behind r → result_of r.second ≡ result_of w.second
+      → TurnIs image t i j scanned s n w (Ok r) kept (set kept w.k.0 c)
+  turn_kept c r (e, staged, ended) b h =
+      record {
+        long = length-set kept w.k.0 c;
+        before = take-set kept w.k.0 c;
+        first = passed first_read e;
+        turned = λ r' f. subst (λ y. (y.k.0 ≡ w.k.0 + 1) × (y.r.0 ≡ w.r.0 + length (recs_of n)) × (y.l ≡ w.l + bytes_for (length n.bits))) (same_ok r r' f) (b.k, b.r_is, b.l);
+        second = λ r' d f p. ap (λ (y : Walk). result_of y.second) (sym (same_ok r r' f)) ∙ h ∙ still (result_of w.second)
+            ∙ ap (λ (y : Result Def.Component). result_of w.second >>= λ _. with_places i j (verdict y)) (sym e ∙ ap (λ y. y >>= simplify) p);
+        one = λ d p. (c, record { value = ok_is (component_of image t.tree s c) d (sym e ∙ p); staged = staged; ended = ended }, refl);
+      }
+    where
+      passed : (m : Result Def.Component) → (m >>= simplify) ≡ ok (component_of image t.tree s c) → ok tt ≡ with_places i j (verdict m)
+      passed (ok a) e = refl
+      passed (refused q) e = never e
+
+      still : (x : Result Unit) → x ≡ (x >>= λ _. ok tt)
+      still (ok tt) = refl
+      still (refused q) = refl
 
 -- what is read of a node's items is stage 1 of the node
-pub staged_read : (image : List ℕ) (t : Tables) (k r s l width : ℕ) (n : Node) (ns : List Node) (scanned : Bool) (q : ReadResult) → Rows image t k r s l (n ∷ ns)
+pub staged_read : (image : List ℕ) (t : Tables) (k r s l width : ℕ) (n : Node) (ns : List Node) (scanned : Bool) (q : Std.Result Component Unread) → Rows image t k r s l (n ∷ ns)
     → width ≡ u32_at image (t.components + 8 * k + 4)
-    → ReadIs image t.tree s (t.literals + l) q (parse_items (items_read scanned (node_of n)) (bits_at image (t.literals + l) width))
-    → ReadIs image t.tree s (t.literals + l) q (stage1_component scanned (node_of n))
+    → ReadIs image t.tree s q (parse_items (items_read scanned (node_of n)) (bits_at image (t.literals + l) width))
+    → ReadIs image t.tree s q (stage1_component scanned (node_of n))
 staged_read image t k r s l width n ns scanned q h e =
-    subst (ReadIs image t.tree s (t.literals + l) q)
+    subst (ReadIs image t.tree s q)
     (ap (parse_items (items_read scanned (node_of n))) (ap (bits_at image (t.literals + l)) (e ∙ g.width) ∙ bits_at_holds image (t.literals + l) n.bits g.bits g.literal)
     ∙ sym (stage_items scanned (node_of n)))
   where

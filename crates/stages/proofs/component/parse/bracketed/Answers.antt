@@ -1,4 +1,5 @@
-use Rattle.std.proofs.Common.{◌+◌, refl, arith}
+use Rattle.std.specs.Prelude.{Ok}
+use Rattle.std.proofs.Common.{◌+◌, refl, ap, ◌∙◌, arith}
 use Rattle.definition.specs.Text.{items}
 use Rattle.definition.specs.Image.{bits_at}
 use Rattle.stages.proofs.component.parse.Types.{bracket_range, bracket_single, bracket_refused}
@@ -63,43 +64,43 @@ single_bit-requires c =
     let p = c.requires in
     let b = bracket_of a.image.now a.tree a.run a.last.0 p.1.0 p.1.1 p.1.2 p.1.3 p.1.4 in (
       single_fits a.image.now a.tree a.run a.last.0 p.0.0 p.0.1 p.1.0 p.1.1 p.1.2 p.1.3 b c.parse_range.result c.parse_range.ensures
-          c.in-NoRange.is,
+          (c.in_ok-range.was ∙ ap Ok c.in-None.is),
       (b.from + 1, inside_runs a.image.now a.tree a.run a.last.0 p.0.0 p.0.1 p.1.0 p.1.1 p.1.2 p.1.3 b),
     )
 
-pub typed-requires-in-NoRange : goal.typed-requires-in-NoRange
-typed-requires-in-NoRange c =
+pub typed-requires-in-None : goal.typed-requires-in-None
+typed-requires-in-None c =
     let a = c.args in
     let p = c.requires in
     let b = bracket_of a.image.now a.tree a.run a.last.0 p.1.0 p.1.1 p.1.2 p.1.3 p.1.4 in
     typed_fits a.image.now a.tree a.run a.last.0 p.0.0 p.0.1 p.1.0 p.1.1 p.1.2 p.1.3 b _ _
     c.start_of-s.ensures c.start_of-t.ensures
 
-pub returns-in-Ok : goal.returns-in-Ok
-returns-in-Ok c base s literal mid i few e =
+pub returns-in-Some : goal.returns-in-Some
+returns-in-Some c base s mid i few e =
     let a = c.args in
     let b = bracket_of a.image.now a.tree a.run a.last.0 base s mid i e in
     let l = typed_laid a.image.now a.tree a.run a.last.0 base s mid i b _ _ c.start_of-s.ensures c.start_of-t.ensures in
     let is = items i.inside_at i.inside in
-    bracket_range a.image.now a.tree base literal mid (bits_at a.image.now literal a.w) e.some _ c.parse_range.result is
-    (c.parse_range.ensures base (b.from + 1) is b.inside) _ c.in-Ok.is
-    (λ fits. c.typed.ensures base literal a.run.r.0 a.last.0 mid few e.some l fits)
+    bracket_range a.image.now a.tree base mid (bits_at a.image.now a.literal.at a.literal.to) e.some _ c.parse_range.result is
+    (c.parse_range.ensures base (b.from + 1) is b.inside) _ (c.in_ok-range.was ∙ ap Ok c.in-Some.is)
+    (λ fits. c.typed.ensures base a.run.r.0 a.last.0 mid few e.some l fits)
 
-pub returns-in-NoRange : goal.returns-in-NoRange
-returns-in-NoRange c base s literal mid i few e =
+pub returns-in-None : goal.returns-in-None
+returns-in-None c base s mid i few e =
     let a = c.args in
     let b = bracket_of a.image.now a.tree a.run a.last.0 base s mid i e in
     let l = typed_laid a.image.now a.tree a.run a.last.0 base s mid i b _ _ c.start_of-s.ensures c.start_of-t.ensures in
     let is = items i.inside_at i.inside in
     let u = c.single_bit.ensures base (b.from + 1) is b.inside in
-    bracket_single a.image.now a.tree base literal mid (bits_at a.image.now literal a.w) e.some _ c.parse_range.result is
-    (c.parse_range.ensures base (b.from + 1) is b.inside) c.single_bit.result c.in-NoRange.is u.0
-    (c.typed-in-NoRange.ensures base literal a.run.r.0 a.last.0 mid few e.some l u.1)
+    bracket_single a.image.now a.tree base mid (bits_at a.image.now a.literal.at a.literal.to) e.some _ c.parse_range.result is
+    (c.parse_range.ensures base (b.from + 1) is b.inside) c.single_bit.result (c.in_ok-range.was ∙ ap Ok c.in-None.is) u.0
+    (c.typed-in-None.ensures base a.run.r.0 a.last.0 mid few e.some l u.1)
 
-pub returns-in-Refused : goal.returns-in-Refused
-returns-in-Refused c base s literal mid i few e =
+pub returns-in_err-range : goal.returns-in_err-range
+returns-in_err-range c base s mid i few e =
     let a = c.args in
     let b = bracket_of a.image.now a.tree a.run a.last.0 base s mid i e in
     let is = items i.inside_at i.inside in
-    bracket_refused a.image.now a.tree base literal mid (bits_at a.image.now literal a.w) e.some _ c.parse_range.result is
-    (c.parse_range.ensures base (b.from + 1) is b.inside) _ c.in-Refused.is refl
+    bracket_refused a.image.now a.tree base mid (bits_at a.image.now a.literal.at a.literal.to) e.some _ c.parse_range.result is
+    (c.parse_range.ensures base (b.from + 1) is b.inside) _ c.in_err-range.was (grind arith)

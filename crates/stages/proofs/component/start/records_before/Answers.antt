@@ -4,7 +4,7 @@ use Rattle.stages.proofs.component.start.Sources.{records_none, records_more, re
 use Rattle.stages.proofs.component.start.records_before.Goals as goal
 
 pub loop-j-init : goal.loop-j-init
-loop-j-init c = let a = c.args in (omega arith, sym (records_none a.image.now a.t))
+loop-j-init c = let a = c.args in sym (records_none a.image.now a.t)
 
 pub records_of-requires : goal.records_of-requires
 records_of-requires c =
@@ -15,23 +15,19 @@ pub overflow_add-r : goal.overflow_add-r
 overflow_add-r c =
     let a = c.args in
     let v = c.loop-j in
-    record { fits = records_small a.image.now a.t a.k.0 v.j c.requires c.loop-j-test.true v.r.0 _ v.invariant.1 c.records_of.ensures }
-
-pub loop-j-smaller : goal.loop-j-smaller
-loop-j-smaller c = let l = c.loop-j-test.true in omega (arith, l)
+    record { fits = records_small a.image.now a.t a.k.0 v.j c.requires c.loop-j-test.true v.r.0 _ v.invariant c.records_of.ensures }
 
 pub loop-j-preserved : goal.loop-j-preserved
 loop-j-preserved c =
     let a = c.args in
     let v = c.loop-j in
-    let l = c.loop-j-test.true in
-    (omega (arith, l), records_more a.image.now a.t v.j v.r.0 _ v.invariant.1 c.records_of.ensures)
+    records_more a.image.now a.t v.j v.r.0 _ v.invariant c.records_of.ensures
 
 pub returns : goal.returns
 returns c =
     let a = c.args in
     let v = c.loop-j in
     let l = c.loop-j-test.false in
-    let o = v.invariant.0 in
+    let o = v.auto.j-end in
     let e : v.j ≡ a.k.0 = omega (arith, l, o) in
-    v.invariant.1 ∙ ap (records_before a.image.now a.t) e
+    v.invariant ∙ ap (records_before a.image.now a.t) e
