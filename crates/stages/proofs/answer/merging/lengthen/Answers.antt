@@ -1,5 +1,9 @@
+use Rattle.std.proofs.Common.{refl}
 use Rattle.stages.proofs.answer.merging.Closing.{lengthened}
 use Rattle.stages.proofs.answer.merging.lengthen.Goals as goal
 
 pub returns : goal.returns
-returns c = let x = c.unwrap_or.ensures in let y = c.wrapping_add-at.ensures in let z = c.append_bits.ensures in ?
+returns c =
+    let a = c.args in
+    lengthened a.image.now a.area.now _ a.b a.s c.unwrap_or-had.result _ _ c.well_formed.0.0 c.requires c.unwrap_or-had.ensures refl
+    c.append_bits.ensures refl
