@@ -3,4 +3,5 @@ pub mod Appended
 pub mod Closing
 pub mod Steps
 pub mod Stored
+pub mod Turns
 pub mod Whole

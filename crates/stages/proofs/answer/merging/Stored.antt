@@ -1,16 +1,14 @@
 -- What the type of a kept component says of the placed component.
-use Rattle.std.specs.Prelude.{◌-◌}
 use Rattle.std.proofs.Common.{◌≡◌, sym, refl, ap, ◌∙◌, subst}
-use Rattle.definition.specs.Prelude.{ℕ, Bool, false, List}
+use Rattle.definition.specs.Prelude.{ℕ, Bool, List}
 use Rattle.definition.specs.Image.{Placed}
 use Rattle.definition.specs.Component as Def
 use Rattle.definition.specs.Concatenation.{bits_of, is_static_literal}
-use Rattle.stages.specs.ranges.Values.{Tree, usbr_of}
+use Rattle.stages.specs.ranges.Values.{Tree}
 use Rattle.stages.specs.component.Kept.{Is}
 use Rattle.stages.specs.component.Values as Values
-use Rattle.stages.specs.component.Values.{TypeFits, BitsFit, component_of, type_of}
+use Rattle.stages.specs.component.Values.{TypeFits, BitsFit, component_of}
 use Rattle.stages.specs.declared.component.types.Bits.{Bits}
-use Rattle.stages.specs.declared.component.types.ComponentType.{ComponentType}
 use Rattle.stages.specs.declared.component.types.ComponentType.TheVariants as T
 use Rattle.stages.specs.declared.component.types.Component.{Component}
 
@@ -25,14 +23,6 @@ module _ (image : List ℕ) (t : Tree) (c : Component) (d : Placed Def.Component
   pub bits_are : (b : Bits) → c.c_type ≡ T.Literal b → bits_of d.value ≡ Values.bits_of image b
   bits_are b e = ap bits_of (sym is.value) ∙ rw e refl
 
-  -- the test of a static literal
-  pub static_is : (x : Bool) → x ≡ is_static_literal (component_of image t d.base c) → is_static_literal d.value ≡ x
-  static_is x e = ap is_static_literal (sym is.value) ∙ sym e
-
-  pub no_static : NoLiteral c → is_static_literal d.value ≡ false
-  no_static other = ap is_static_literal (sym is.value) ∙ go c.c_type refl
-    where
-      go : (x : ComponentType) → x ≡ c.c_type → is_static_literal (record { c_type = type_of image t d.base x; range = usbr_of image t d.base c.range }) ≡ false
-      go (T.Literal b) e = absurd (other b (sym e))
-      go (T.Variable p) e = refl
-      go T.Filler e = refl
+  -- whether it is a static literal
+  pub static_is : (x : Bool) → is_static_literal (component_of image t d.base c) ≡ x → is_static_literal d.value ≡ x
+  static_is x e = ap is_static_literal (sym is.value) ∙ e
