@@ -1,4 +1,4 @@
--- Blocks next to blocks, the bytes of a bound's words, and a row's bytes as the definition's.
+-- Blocks next to blocks, the bytes of a bound, and a component's bytes as the definition's.
+pub mod Components
 pub mod Joins
 pub mod Words
-pub mod Rows

@@ -1,7 +1,7 @@
--- Bits behind others; a component of the store; the end of a run; one component, and all of a concatenation.
+-- Bits and blocks behind others, and the walk over a concatenation.
 pub mod Appended
-pub mod Whole
-pub mod Stored
 pub mod Closing
 pub mod Steps
+pub mod Stored
 pub mod Turns
+pub mod Whole

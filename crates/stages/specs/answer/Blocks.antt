@@ -40,7 +40,7 @@ head_block kind s ends = u32 kind ++ text_block s ++ word_bytes 0 ++ u32 ends
 abbrev pub literal_block : ℕ → ℕ → ℕ → List ℕ
 literal_block bits offset ends = u32 1 ++ word_bytes 0 ++ u32 bits ++ u32 offset ++ u32 ends
 
-abbrev type_block : ComponentType → ℕ → List ℕ
+abbrev pub type_block : ComponentType → ℕ → List ℕ
 type_block (T.Variable s) ends = head_block 2 s ends
 type_block (T.Literal b) ends = head_block 3 no_part ends
 type_block T.Filler ends = head_block 3 no_part ends

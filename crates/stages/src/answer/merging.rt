@@ -10,7 +10,7 @@ ghost use Rattle.stages.specs.ranges.Values.{Tree as TreeIn};
 ghost use Rattle.stages.specs.component.Values.{BitsFit};
 ghost use Rattle.stages.specs.component.Kept.{Is, Are};
 ghost use Rattle.stages.specs.answer.merging.Put.{Room, PutIs};
-ghost use Rattle.stages.specs.answer.merging.State.{LongerIs, CloseIs, OtherIs, StepIs, Writable, Closable, closed_at, behind_by};
+ghost use Rattle.stages.specs.answer.merging.State.{LongerIs, CloseIs, OtherIs, StaticBits, StepIs, Writable, Closable, closed_at, behind_by};
 
 use super::bits::{append_bits, bytes_for};
 use super::blocks::{put_fixed, put_open, put_plain};
@@ -100,15 +100,26 @@ fn put_other(area: &mut [u8], image: &[u8], c: Component, w: Writing) -> Writing
     w.behind(bits)
 }
 
+// The bits of a static literal.
+fn static_bits(c: Component) -> Option<Bits>
+    ensures { StaticBits c result }
+{
+    let ComponentType::Literal(b) = c.c_type else {
+        return None;
+    };
+    if !c.is_static_literal() {
+        return None;
+    }
+    Some(b)
+}
+
 // One component.
 fn put(area: &mut [u8], image: &[u8], c: Component, s: Merging) -> Merging
     requires { (t : TreeIn) × (d : Placed Def.Component) × (cs : List (Placed Def.Component)) × Is image.now t c d × Fixed d
         × Writable area.old s (d ∷ cs) }
     ensures { (t : TreeIn) (d : Placed Def.Component) → Is image.now t c d → Fixed d → StepIs d s result area.old area.new }
 {
-    if let ComponentType::Literal(b) = c.c_type
-        && c.is_static_literal()
-    {
+    if let Some(b) = static_bits(c) {
         return lengthen(area, image, b, s);
     }
     let w = close(area, s);

@@ -1,16 +1,31 @@
--- The words of a bound are the definition's bytes of it.
-use Rattle.std.specs.Prelude.{◌+◌, ◌*◌, ◌/◌, ◌%◌, ◌^◌, ◌∷◌, ◌++◌, if◌then◌else◌}
-use Rattle.std.proofs.Common.{◌≡◌, ◌<◌, sym, refl, ap, ◌∙◌, ap₂, append_assoc, div-one, arith, shr-shr}
+-- Numbers written as bytes, and a bound's parts as the definition's bytes of it.
+use Rattle.std.specs.Prelude as Std
+use Rattle.std.specs.Prelude.{Some, None, ◌+◌, ◌-◌, ◌*◌, ◌/◌, ◌%◌, ◌^◌, ◌∷◌, ◌++◌, if◌then◌else◌}
+use Rattle.std.proofs.Common.{◌≡◌, ◌<◌, ◌≤◌, take, drop, sym, refl, ap, ◌∙◌, ap₂, append_assoc, div-one, add-mul, one-mul, arith, shr-shr}
+use Rattle.std.proofs.lemmas.List.Edits.{sets, sets-eq}
+use borrow.Rule.Slice.PartMut.{put_mid}
 use lib.Pow.{field, mod-mod-pow, high, low}
-use Rattle.definition.specs.Prelude.{ℕ, List, [], length, ℤ}
+use lib.Seq.{drop-drop}
+use Rattle.definition.specs.Prelude.{ℕ, suc, Bool, true, false, none, some, List, [], length, ltb, ℤ, pos, negsuc}
 use Rattle.definition.specs.Basics.{is_empty, tab}
 use Rattle.definition.specs.Tree.{u32}
-use Rattle.definition.specs.Text as Text
-use Rattle.definition.specs.Ranges as Ranges
 use Rattle.definition.specs.Answer.{text_bytes, twos, x_bytes, usb_bytes}
-use Rattle.stages.specs.answer.Blocks.{word_bytes}
-use Rattle.stages.specs.component.Kept.{text_word, WordsAre}
-use Rattle.stages.specs.declared.component.keep.Words.{Words}
+use Rattle.laws.specs.Padded.{length_padded}
+use Rattle.numbers.specs.Value.{bits, value_of}
+use Rattle.numbers.specs.declared.I128.{I128}
+use Rattle.stages.specs.token_tree.Parts.{part_of, bytes_in, PartFits}
+use Rattle.stages.specs.ranges.Values.{Tree, usb_of, UsbFits}
+use Rattle.stages.specs.answer.Blocks.{word_bytes, text_block, usb_block}
+use Rattle.stages.specs.declared.token_tree.types.Part.{Part}
+use Rattle.stages.specs.declared.ranges.types.Usb.{Usb}
+
+-- n bytes written over the part from i on
+pub put_run : (l : List ℕ) (i n : ℕ) (vs : List ℕ) {m s : List ℕ} → m ≡ s → s ≡ vs → length vs ≡ n → i + n ≤ length l
+    → put_mid i (i + n - i) l m ≡ sets l i vs
+put_run l i n vs p q e h =
+    let d : i + n - i ≡ length vs = omega arith in
+    let f : i + length vs ≤ length l = omega arith in
+    rw (p, q, d, drop-drop (length vs) i l) (sym (sets-eq vs l i f ∙ append_assoc (take i l) vs (drop (i + length vs) l)))
 
 -- a byte of a number, and of the number modulo a higher power
 byte : (n m k : ℕ) → n % 2 ^ (m + 8 + k) / 2 ^ k % 2 ^ 8 ≡ n / 2 ^ k % 2 ^ 8
@@ -24,6 +39,16 @@ u32_mod n =
     let c : n % 2 ^ 32 / 65536 % 256 ≡ n / 65536 % 256 = byte n 8 16 in
     let d : n % 2 ^ 32 / 16777216 % 256 ≡ n / 16777216 % 256 = byte n 0 24 in
     cc
+
+-- eight bytes are two numbers of 32 bits
+pub eight_bytes : (n : ℕ)
+    → n % 256 ∷ n / 256 % 256 ∷ n / 65536 % 256 ∷ n / 16777216 % 256 ∷ n / 2 ^ 32 % 256 ∷ n / 2 ^ 40 % 256 ∷ n / 2 ^ 48 % 256 ∷ n / 2 ^ 56 % 256 ∷ []
+    ≡ word_bytes n
+eight_bytes n =
+    let b : n / 2 ^ 32 / 256 ≡ n / 2 ^ 40 = shr-shr n 32 8 in
+    let c : n / 2 ^ 32 / 65536 ≡ n / 2 ^ 48 = shr-shr n 32 16 in
+    let d : n / 2 ^ 32 / 16777216 ≡ n / 2 ^ 56 = shr-shr n 32 24 in
+    rw (← b, ← c, ← d) (ap (λ (l : List ℕ). l ++ u32 (n / 2 ^ 32)) (sym (u32_mod n)))
 
 -- 16 bytes are four numbers of 32 bits
 quarters : (n : ℕ) → tab (λ i. n / 256 ^ i % 256) 0 16 ≡ u32 n ++ u32 (n / 2 ^ 32) ++ u32 (n / 2 ^ 64) ++ u32 (n / 2 ^ 96)
@@ -56,39 +81,43 @@ halves h l k = go (h * 2 ^ 64 + l) (high h 64 k) (low h 64 k)
         let d : u32 (h / 2 ^ 32) ≡ u32 (n / 2 ^ 96) = ap u32 (rw (← p) (shr-shr n 64 32)) in
         ap₂ join a (ap₂ join b (ap₂ join c d)) ∙ sym (quarters n)
 
--- a text's word
-pub text_bytes_lem : (at : ℕ) (bs : List ℕ) → at < 2 ^ 32
-    → word_bytes (if is_empty bs then 0 else at + 2 ^ 32 * length bs) ≡ (if is_empty bs then u32 0 ++ u32 0 else u32 at ++ u32 (length bs))
-text_bytes_lem at [] small = refl
-text_bytes_lem at (x ∷ bs) small =
-    let n : ℕ = length (x ∷ bs) in
-    let lo : (at + 2 ^ 32 * n) % 2 ^ 32 ≡ at = omega (arith, small) in
-    let hi : (at + 2 ^ 32 * n) / 2 ^ 32 ≡ n = omega (arith, small) in
-    rw (lo, hi) refl
-
-pub text_word_lem : (base : ℕ) (p : Text.Part) → base + p.at < 2 ^ 32 → word_bytes (text_word base p) ≡ text_bytes base p
-text_word_lem base p small = text_bytes_lem (base + p.at) p.bytes small
-
--- a number's two words; also of a small one
-x_words : (x : ℤ) → word_bytes (twos x % 2 ^ 64) ++ word_bytes (twos x / 2 ^ 64) ≡ x_bytes x
-x_words x =
-    halves (twos x / 2 ^ 64) (twos x % 2 ^ 64) (small (twos x)) ∙ ap (λ (n : ℕ). tab (λ i. n / 256 ^ i % 256) 0 16) (both (twos x))
-  where
-    small : (n : ℕ) → n % 2 ^ 64 < 2 ^ 64
-    small n = omega arith
-
-    both : (n : ℕ) → n / 2 ^ 64 * 2 ^ 64 + n % 2 ^ 64 ≡ n
-    both n = omega arith
-
 pub x_small : (n : ℕ) → n < 2 ^ 64 → word_bytes n ++ word_bytes 0 ≡ tab (λ i. n / 256 ^ i % 256) 0 16
 x_small n h = halves 0 n h ∙ ap (λ (m : ℕ). tab (λ i. m / 256 ^ i % 256) 0 16) (let z : 0 * 2 ^ 64 + n ≡ n = omega arith in z)
 
--- a bound's three words
-abbrev pub three_bytes : Words → List ℕ
-three_bytes w = word_bytes w.text ++ word_bytes w.low ++ word_bytes w.high
+-- a number's two halves are its two's complement
+turned : (B h l : ℕ) → h < B → l < B → B * B - suc ((B - 1 - h) * B + (B - 1 - l)) ≡ h * B + l
+turned B h l p q = go (B - 1 - h) (omega arith)
+  where
+    go : (k : ℕ) → B ≡ h + k + 1 → B * B - suc (k * B + (B - 1 - l)) ≡ h * B + l
+    go k e =
+        let m : B * B ≡ (h + k + 1) * B = ap (λ (x : ℕ). x * B) e in
+        let n : (h + k + 1) * B ≡ h * B + k * B + B = simp (add-mul, one-mul) in
+        omega arith
 
-pub usb_words : (base : ℕ) (w : Words) (v : Ranges.Usb) → WordsAre base w v → three_bytes w ≡ usb_bytes base v
-usb_words base w v h =
-    rw (h.text, h.low, h.high)
-    (append_assoc (word_bytes (text_word base v.s)) (word_bytes (twos v.x % 2 ^ 64)) (word_bytes (twos v.x / 2 ^ 64))
-    ∙ ap₂ join (text_word_lem base v.s h.small) (x_words v.x))
+twos_bits : (w : I128) → w.high < 2 ^ 64 → w.low < 2 ^ 64 → twos (value_of w) ≡ bits w
+unfolding value_of
+twos_bits w h l = go (ltb w.high (2 ^ 63))
+  where
+    go : (t : Bool) → twos (if t then pos (bits w) else negsuc ((2 ^ 64 - 1 - w.high) * 2 ^ 64 + (2 ^ 64 - 1 - w.low))) ≡ bits w
+    go true = refl
+    go false = turned (2 ^ 64) w.high w.low h l
+
+module _ (image : List ℕ) (t : Tree) (base : ℕ) where
+  -- a text
+  pub text_is : (p : Part) → PartFits image t base p → text_block p ≡ text_bytes base (part_of image t base p)
+  text_is p h = go (bytes_in image t p) (length_padded p.len (drop (t.text + p.at.0) image))
+    where
+      go : (bs : List ℕ) → length bs ≡ p.len
+          → text_block p ≡ (if is_empty bs then u32 0 ++ u32 0 else u32 (base + (p.at.0 - base)) ++ u32 (length bs))
+      go [] e = let z = h.none (sym e) in rw (z, ← e) refl
+      go (x ∷ bs) e =
+          let z = h.some (omega arith) in
+          let at_is : base + (p.at.0 - base) ≡ p.at.0 = omega arith in
+          rw (at_is, e) refl
+
+  -- a bound
+  pub usb_is : (u : Usb) → UsbFits image t base u → usb_block u ≡ usb_bytes base (usb_of image t base u)
+  usb_is u h =
+      append_assoc (text_block u.s) (word_bytes u.x.low) (word_bytes u.x.high)
+      ∙ ap₂ join (text_is u.s h.part)
+      (halves u.x.high u.x.low h.low ∙ ap (λ (n : ℕ). tab (λ i. n / 256 ^ i % 256) 0 16) (sym (twos_bits u.x h.high h.low)))

@@ -2,17 +2,20 @@
 use Rattle.std.specs.Prelude as Std
 use Rattle.std.specs.Prelude.{Some, None, ◌≡◌, ◌<◌, ◌≤◌, ◌+◌, ◌^◌, ◌∷◌}
 use Rattle.std.proofs.lemmas.List.Edits.{sets}
-use Rattle.definition.specs.Prelude.{ℕ, none, some, List, length}
+use Rattle.definition.specs.Prelude.{ℕ, true, false, none, some, List, length}
 use Rattle.definition.specs.Image.{Placed, bytes_for}
 use Rattle.definition.specs.Tree.{packed}
 use Rattle.definition.specs.Component.{Component}
-use Rattle.definition.specs.Concatenation.{bits_of}
+use Rattle.definition.specs.Concatenation.{bits_of, is_static_literal}
 use Rattle.prepared.specs.Bits as Prepared
 use Rattle.answer_facts.specs.merge.Runs.{Run, run_bits, longer, closed, merge_from}
+use Rattle.stages.specs.ranges.Values.{Tree}
 use Rattle.stages.specs.component.Values as Values
 use Rattle.stages.specs.answer.merging.Put.{Room}
 use Rattle.stages.specs.answer.merging.Blocks.{put_one, written_one, Same}
 use Rattle.stages.specs.declared.component.types.Bits.{Bits}
+use Rattle.stages.specs.declared.component.types.ComponentType.TheVariants as T
+use Rattle.stages.specs.declared.component.types.Component.{Component as Now}
 use Rattle.stages.specs.declared.answer.merging.Writing.{Writing}
 use Rattle.stages.specs.declared.answer.merging.Merging.{Merging}
 
@@ -70,6 +73,11 @@ pub record Closable (area : List ℕ) (s : Merging) (ms : List (Placed Component
   pub run : Run
   pub holds : Holds base area s run
   pub room : Room base s.w (closed run ms)
+
+-- a static literal's bits, and none of another component
+abbrev pub StaticBits : Now → Std.Option Bits → Type 0
+StaticBits c (Some b) = (c.c_type ≡ T.Literal b) × ((image : List ℕ) (t : Tree) (base : ℕ) → is_static_literal (Values.component_of image t base c) ≡ true)
+StaticBits c None = (image : List ℕ) (t : Tree) (base : ℕ) → is_static_literal (Values.component_of image t base c) ≡ false
 
 -- a component that is no static literal, where no run is open
 abbrev pub OtherIs : Placed Component → Writing → Writing → List ℕ → List ℕ → Type 0

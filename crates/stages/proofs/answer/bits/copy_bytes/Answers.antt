@@ -1,24 +1,12 @@
-use Rattle.std.proofs.Common.{◌<◌, take, drop, refl, ap, ◌∙◌, le_antisymm, arith, length-set}
-use lib.Seq.{sets}
-use Rattle.stages.proofs.answer.merging.Whole.{copy_next}
+use Rattle.std.proofs.Common.{◌≡◌, ◌+◌, ◌-◌, take, drop, ap, arith, length-take-le, length-drop}
+use Rattle.stages.proofs.answer.blocks.Words.{put_run}
 use Rattle.stages.proofs.answer.bits.copy_bytes.Goals as goal
-
-pub loop-i-init : goal.loop-i-init
-loop-i-init c = (refl, omega arith, refl)
-
-pub loop-i-preserved : goal.loop-i-preserved
-loop-i-preserved c =
-    let a = c.args in
-    let v = c.loop-i in
-    let m : v.i < a.n = c.loop-i-test.true in
-    let p = c.requires.1 in (
-      copy_next a.area.now a.at a.s.now a.from v.i v.area (omega arith) v.invariant.0,
-      omega arith,
-      simp length-set v.invariant.2,
-    )
 
 pub returns : goal.returns
 returns c =
     let a = c.args in
-    let v = c.loop-i in
-    v.invariant.0 ∙ ap (λ k. sets a.area.now a.at (take k (drop a.from a.s.now))) (le_antisymm v.invariant.1 c.loop-i-test.false)
+    let (p, q) = c.requires in
+    let part = drop a.from a.s.now in
+    let left = length-drop a.from a.s.now in
+    let n : a.from + a.n - a.from ≡ a.n = omega arith in
+    put_run a.area.now a.at a.n (take a.n part) c.copy_from_slice.ensures.after (ap (λ k. take k part) n) (length-take-le a.n part (omega arith)) p

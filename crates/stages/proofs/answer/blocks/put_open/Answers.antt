@@ -4,4 +4,4 @@ use Rattle.stages.proofs.answer.blocks.put_open.Goals as goal
 pub returns : goal.returns
 returns c =
     let a = c.args in
-    open_put a.area.now a.words.now a.at a.w a.bits a.offset c.put_literal.ensures c.put_range.ensures
+    open_put a.area.now a.at a.r a.bits a.offset c.is_some.result c.put_literal.ensures c.is_some.ensures c.put_range.ensures

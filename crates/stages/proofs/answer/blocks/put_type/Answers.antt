@@ -4,5 +4,4 @@ use Rattle.stages.proofs.answer.blocks.put_type.Goals as goal
 pub returns : goal.returns
 returns c =
     let a = c.args in
-    type_put a.area.now a.at a.flags a.content c.put_u32.ensures c.put_u64.ensures c.put_u64-2.ensures
-    c.put_u32-2.ensures
+    type_put a.area.now a.at a.kind a.s a.present c.put_u32.ensures c.put_text.ensures c.put_u64.ensures c.put_u32-2.ensures

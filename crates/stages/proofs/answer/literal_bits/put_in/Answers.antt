@@ -6,7 +6,7 @@ use Rattle.stages.proofs.answer.literal_bits.put_in.Goals as goal
 pub blend-requires : goal.blend-requires
 blend-requires c =
     let a = c.args in
-    let w = c.least-w.result in
+    let w = c.min-w.result in
     let l : a.at % 8 + w ≤ 8 = omega arith in (
       l,
       rw c.bits_at.ensures
@@ -17,7 +17,7 @@ blend-requires c =
 pub returns : goal.returns
 returns c =
     let a = c.args in
-    let w = c.least-w.result in
+    let w = c.min-w.result in
     let l : a.at % 8 + w ≤ 8 = omega arith in (
       omega arith,
       λ h. omega arith,

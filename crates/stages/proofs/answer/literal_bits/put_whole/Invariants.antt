@@ -1,10 +1,7 @@
 -- The loop's invariant: the first i bytes are written.
-use Rattle.std.proofs.Common.{◌≡◌, ◌-◌, ◌*◌, ◌≤◌, length}
+use Rattle.std.proofs.Common.{◌≡◌, ◌*◌}
 use Rattle.stages.specs.answer.literal_bits.Put.{with_bits}
 use Rattle.stages.proofs.answer.literal_bits.put_whole.Given as goal
 
 abbrev pub invariant-loop-i : goal.invariant-loop-i
-invariant-loop-i l = (l.i ≤ l.m) × (length l.dst ≡ length l.initial.dst) × (l.dst ≡ with_bits l.initial.dst (8 * l.q) l.src l.from (8 * l.i))
-
-abbrev pub decreases-loop-i : goal.decreases-loop-i
-decreases-loop-i l = l.m - l.i
+invariant-loop-i l = l.dst ≡ with_bits l.initial.dst (8 * l.q) l.src l.from (8 * l.i)
