@@ -1,3 +1,3 @@
 -- Laws that the functions' proofs cite.
-pub mod HeadsAt
-pub mod Summaries
+pub mod Kept
+pub mod Places

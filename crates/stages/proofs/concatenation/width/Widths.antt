@@ -5,8 +5,8 @@ use Rattle.definition.specs.Prelude.{ℕ, none, some, true, false, ltb, nat_abs}
 use Rattle.laws.specs.Tests.{by_test}
 use Rattle.numbers.specs.Value.{value_of, option_usize}
 use Rattle.numbers.specs.declared.I128.{I128}
-use Rattle.numbers.specs.declared.OptionUsize.{OptionUsize}
-use Rattle.numbers.specs.declared.OptionUsize.TheVariants as U
+use Rattle.std.specs.Prelude as Std
+use Rattle.std.specs.Prelude.{Some, None}
 use Rattle.stages.specs.concatenation.width.Fitting.{fitting}
 
 pub fits : (n : ℕ) → n < 2 ^ 64 → some n ≡ fitting n
@@ -24,10 +24,10 @@ pub exceeds_back : (n : ℕ) → fitting n ≡ none → ltb n (2 ^ 64) ≡ false
 exceeds_back n h = by_test (ltb n (2 ^ 64)) (λ t. let e : some n ≡ none = rw t at h in let z : ◌≡◌ {A = ℕ} 0 1 = cc in absurd (omega arith)) (λ t. t)
 
 -- a sum with a magnitude that fits, or does not
-pub sum_known : (o : OptionUsize) (n m k : ℕ) → o ≡ U.Some m → option_usize o ≡ fitting k → fitting (n + m) ≡ fitting (n + k)
+pub sum_known : (o : Std.Option ℕ) (n m k : ℕ) → o ≡ Some m → option_usize o ≡ fitting k → fitting (n + m) ≡ fitting (n + k)
 sum_known o n m k e h = rw (fits_back k m (sym h ∙ ap option_usize e)).1
 
-pub sum_unknown : (o : OptionUsize) (n k : ℕ) → o ≡ U.None → option_usize o ≡ fitting k → none ≡ fitting (n + k)
+pub sum_unknown : (o : Std.Option ℕ) (n k : ℕ) → o ≡ None → option_usize o ≡ fitting k → none ≡ fitting (n + k)
 sum_unknown o n k e h =
     let b : 2 ^ 64 ≤ k = ltb-false k (2 ^ 64) (exceeds_back k (sym h ∙ ap option_usize e)) in
     exceeds (n + k) (omega arith)

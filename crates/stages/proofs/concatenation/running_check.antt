@@ -1,2 +1,0 @@
--- Laws over plain values that the functions' proofs cite.
-pub mod Steps
