@@ -83,7 +83,7 @@ pub(crate) fn single_bit(image: &[u8], tree: Tree, run: Run) -> Usbr
         start: Usb::new_s(s),
         end: Some(Usb {
             s,
-            x: I128 { high: 0, low: 1 },
+            x: I128::ONE,
         }),
     }
 }

@@ -1,4 +1,7 @@
 -- A run of items read as a bound: kept as written where it has no sign, else cut at the sign's record.
+use Rattle.std.specs.Prelude as Std
+use Rattle.std.specs.Prelude.{Ok}
+use Rattle.errors.specs.declared.reasons.Reason.{Reason}
 use Rattle.std.specs.Prelude.{◌+◌, ◌-◌, ◌∷◌, ◌++◌, if◌then◌else◌}
 use Rattle.std.proofs.Common.{◌≡◌, ◌<◌, ◌≤◌, ◌⊎◌, sym, refl, ap, ◌∙◌, subst, inl, inr, arith}
 use Rattle.definition.specs.Prelude.{ℕ, Bool, true, false, not, Option, none, some, List, [], length, eqb, get_or, pos}
@@ -17,8 +20,6 @@ use Rattle.stages.specs.ranges.Sides.{join_parts, join_is, text_in, sides_in}
 use Rattle.stages.specs.declared.token_tree.types.Part.{Part}
 use Rattle.stages.specs.declared.token_tree.types.Tree.{Tree}
 use Rattle.stages.specs.declared.ranges.types.Usb.{Usb}
-use Rattle.stages.specs.declared.ranges.types.UsbResult.{UsbResult}
-use Rattle.stages.specs.declared.ranges.types.UsbResult.TheVariants as U
 use Rattle.stages.proofs.token_tree.Places.{place_above, laid_order, laid_split, Split, token_by}
 use Rattle.stages.proofs.ranges.sides.Texts.{part_fits}
 use Rattle.stages.proofs.ranges.sides.Ways.{made_new}
@@ -128,14 +129,14 @@ module _ (image : List ℕ) (t : Tree) (base stop tail r s : ℕ) (is : List Ite
 
 module _ (image : List ℕ) (t : Tree) (base stop tail r s : ℕ) (is : List Item) (h : Laid image t base stop tail r s is) (one : 1 ≤ r) where
   pub group_whole : base ≤ s → t.text + tail ≤ length image → (at : ℕ) → at ≡ cut_place image t r (cut_bound is) → at ≡ 0
-      → (part : Part) (u : Usb) → part ≡ part_by s tail → u ≡ new_by part → UsbReads image t base (U.Ok u) (read_bound is)
+      → (part : Part) (u : Usb) → part ≡ part_by s tail → u ≡ new_by part → UsbReads image t base (Ok u) (read_bound is)
   group_whole above room at e z part u q w =
       let o = (laid_order image t base stop tail r s is h).1 in
       made_new image t base part u w (rw q (part_fits image t base s tail record { above = above; order = o; room = room }))
       (ap (λ y. ok (Ranges.text (part_of image t base y) (pos 0))) q ∙ bound_whole image t base stop tail r s is h one at e z)
 
   pub group_sign : (at : ℕ) → at ≡ cut_place image t r (cut_bound is) → (at ≡ 0 → ⊥) → (p : ℕ) → p ≡ start_in image t at
-      → (q : UsbResult) → UsbReads image t base q (sides_in image t base p s tail) → UsbReads image t base q (read_bound is)
+      → (q : Std.Result Usb Reason) → UsbReads image t base q (sides_in image t base p s tail) → UsbReads image t base q (read_bound is)
   group_sign at e n p k q u =
       let x = at_sign image t base stop tail r s is h one at e n in
       subst (λ m. UsbReads image t base q m) (ap (λ y. sides_in image t base y s tail) k ∙ x.reads) u

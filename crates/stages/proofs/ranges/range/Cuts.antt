@@ -1,4 +1,8 @@
 -- Both sides of a range's dots stand in the table, and give the range.
+use Rattle.std.specs.Prelude as Std
+use Rattle.std.specs.Prelude.{Ok, Err}
+use Rattle.errors.specs.declared.reasons.Reason.TheVariants as Reasons
+use Rattle.errors.specs.declared.reasons.Reason.{Reason}
 use Rattle.std.specs.Prelude.{◌∷◌}
 use Rattle.std.proofs.Common.{◌≡◌, ◌<◌, ◌≤◌, sym, refl, ap, ◌∙◌, subst, arith, length-drop, take-append-drop, length-take-le}
 use Rattle.definition.specs.Prelude.{ℕ, Bool, true, false, List, [], take, drop, length}
@@ -13,10 +17,6 @@ use Rattle.stages.specs.declared.token_tree.types.Tree.{Tree}
 use Rattle.stages.specs.declared.token_tree.types.Run.{Run}
 use Rattle.stages.specs.declared.ranges.scan.Dots.{Dots}
 use Rattle.stages.specs.declared.ranges.types.Usb.{Usb}
-use Rattle.stages.specs.declared.ranges.types.UsbResult.{UsbResult}
-use Rattle.stages.specs.declared.ranges.types.UsbResult.TheVariants as U
-use Rattle.stages.specs.declared.ranges.types.RangeResult.{RangeResult}
-use Rattle.stages.specs.declared.ranges.types.RangeResult.TheVariants as R
 use Rattle.stages.proofs.token_tree.Places.{laid_split, laid_order, laid_none, laid_some}
 use Rattle.stages.proofs.token_tree.Walks.{runs_within}
 use Rattle.stages.proofs.ranges.range.Bounds.{reads_ok, reads_refused}
@@ -56,10 +56,10 @@ module _ (image : List ℕ) (t : Tree) (base stop tail : ℕ) where
         let c = cut_at n place e (omega (arith, l)) in
         subst (λ x. Laid image t base place x r s (take n is)) (sym (cut_start n place l c).0) c.before
 
-    module _ (lo hi plo phi : ℕ) (inc : Bool) (b : UsbResult) (el : plo ≡ place_of image t r lo) (eh : phi ≡ place_of image t r hi) (most : hi ≤ length is)
+    module _ (lo hi plo phi : ℕ) (inc : Bool) (b : Std.Result Usb Reason) (el : plo ≡ place_of image t r lo) (eh : phi ≡ place_of image t r hi) (most : hi ≤ length is)
         (below : lo < length is)
         (started : (base s : ℕ) (l : List Item) → Laid image t base plo (start_in image t plo) r s l → UsbReads image t base b (parse_start l)) where
-      pub ranged_ok : (u : Usb) (q : RangeResult) → b ≡ U.Ok u
+      pub ranged_ok : (u : Usb) (q : Std.Result (Std.Option Usbr) Reason) → b ≡ Ok u
           → ((base s : ℕ) (l : List Item) → UsbFits image t base u → Laid image t base stop tail phi s l
           → RangeReads image t base q (ended_range inc (usb_of image t base u) l))
           → RangeReads image t base q (ranged_by lo hi inc is)
@@ -77,11 +77,11 @@ module _ (image : List ℕ) (t : Tree) (base stop tail : ℕ) where
 
     -- ---- the ways through parse_range
 
-    pub range_empty : r ≡ stop → RangeReads image t base (R.Refused 12) (parse_range is)
+    pub range_empty : r ≡ stop → RangeReads image t base (Err Reasons.EmptyRange) (parse_range is)
     unfolding parse_range
     range_empty e =
         let n = (laid_none image t base stop tail r s is (omega (arith, e)) h).0 in
-        let g : RangeReads image t base (R.Refused 12) (parse_range []) = record { is = refl; held = tt } in
+        let g : RangeReads image t base (Err Reasons.EmptyRange) (parse_range []) = record { is = refl; held = tt } in
         rw n g
 
     module _ (d : Dots) (some : r ≡ stop → ⊥) (eq : d ≡ dots_in image t r is) where
@@ -98,7 +98,7 @@ module _ (image : List ℕ) (t : Tree) (base stop tail : ℕ) where
       range_cut z y = by.cut z y
 
 module _ (image : List ℕ) (t : Tree) (run : Run) (d : Dots) (some : run.r.0 ≡ run.stop.0 → ⊥) (num : d.number ≡ 0) (yes : d.found ≡ true) where
-  pub range_ranged : (base s : ℕ) (is : List Item) (q : RangeResult) → Laid image t base run.stop.0 run.«end».0 run.r.0 s is
+  pub range_ranged : (base s : ℕ) (is : List Item) (q : Std.Result (Std.Option Usbr) Reason) → Laid image t base run.stop.0 run.«end».0 run.r.0 s is
       → d ≡ dots_in image t run.r.0 is → RangedIs image t run d q → RangeReads image t base q (parse_range is)
   range_ranged base s is q h eq f =
       let c = range_cut image t base run.stop.0 run.«end».0 run.r.0 s is h d some eq num yes in
