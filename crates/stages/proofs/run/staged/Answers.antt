@@ -1,4 +1,6 @@
 -- `stages::run::staged` meets its contract: the starting value, stages 1 and 2, and the later ones. Assumes nothing.
+use Rattle.std.proofs.Common.{ap}
+use Rattle.stages.specs.declared.token_tree.types.Tables.{Tables}
 use Rattle.stages.proofs.run.Starting.{start_text, start_is, start_after, start_refused}
 use Rattle.stages.proofs.run.Outcomes.{unstarted, read_fits, staged_on, staged_off}
 use Rattle.stages.proofs.run.staged.Goals as goal
