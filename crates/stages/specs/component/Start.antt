@@ -8,7 +8,6 @@ use Rattle.definition.specs.Image.{Placed, u32_at, tree_of, component_count}
 use Rattle.definition.specs.Tree as Tree
 use Rattle.definition.specs.Tree.{Node, recs_of}
 use Rattle.definition.specs.Text as Text
-use Rattle.definition.specs.Text.{Item}
 use Rattle.definition.specs.Component.{Prefix, prefix_of, starting_value, source}
 use Rattle.errors.specs.Refused.{refused_as}
 use Rattle.errors.specs.declared.Refusal.{Refusal}

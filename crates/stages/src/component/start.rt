@@ -1,5 +1,5 @@
 // The starting value: "of the most significant component of concatenation 0 only" (10).
-ghost use Rattle.std.specs.Prelude.{◌≡◌, ℕ, ◌+◌, ◌*◌, ◌^◌, ◌<◌, ◌≤◌, List, length};
+ghost use Rattle.std.specs.Prelude.{◌≡◌, ℕ, ◌+◌, ◌<◌, List};
 ghost use Rattle.definition.specs.Text.{Item};
 ghost use Rattle.definition.specs.Component.{split_colon, split_range};
 ghost use Rattle.stages.specs.token_tree.Table.{tables_in};

@@ -128,13 +128,6 @@ module _ (image : List ℕ) (t : Tree) (base stop tail r s : ℕ) (mid : List It
     abbrev Reads : Std.Result (Std.Option Start) Refusal → Type 0
     Reads q = PrefixReads image t base k r (split_colon mid) q
 
-    pub value_none : (colon : Std.Option PBind) → colon ≡ colon_place image t r (split_colon mid) → colon ≡ None → Reads (Ok None)
-    value_none colon e z = go (split_colon mid) (sym z ∙ e)
-      where
-        go : (p : Option Prefix) → None ≡ colon_place image t r p → PrefixReads image t base k r p (Ok None)
-        go none y = record { is = refl; held = (refl, tt) }
-        go (some p) y = let w : ◌≡◌ {A = ℕ} 0 1 = cc in absurd (omega (arith, w))
-
     module _ (colon : ℕ) (e : Some (record { 0 = colon }) ≡ colon_place image t r (split_colon mid)) where
       pub value_refused : colon + 1 ≡ stop → (n : Refusal) → n ≡ record { number = 10; concatenation = 0; component = k } → Reads (Err n)
       value_refused z n en =
