@@ -1,9 +1,9 @@
 -- Components that are kept: none, those of two lists, one that is written, and what is written behind them.
 use Rattle.std.specs.Prelude.{◌+◌, ◌∷◌, ◌++◌}
-use Rattle.std.proofs.Common.{◌≡◌, ◌<◌, set, sym, refl, ap, ◌∙◌, subst, arith, length-append}
+use Rattle.std.proofs.Common.{◌≡◌, ◌<◌, set, sym, refl, ap, ◌∙◌, subst, length-append}
 use Rattle.std.proofs.Math.Seq.{take-add}
 use Rattle.std.proofs.lemmas.List.{drop-drop, drop-take, drop-set}
-use Rattle.definition.specs.Prelude.{ℕ, suc, List, [], length, take, drop}
+use Rattle.definition.specs.Prelude.{ℕ, List, [], length, take, drop}
 use Rattle.definition.specs.Image.{Placed}
 use Rattle.definition.specs.Component as Def
 use Rattle.stages.specs.ranges.Values.{Tree}

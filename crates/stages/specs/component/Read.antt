@@ -1,7 +1,7 @@
 -- Stages 1 and 2 of one component after the other in one loop: what each function of the loop gives.
 use Rattle.std.specs.Prelude as Std
-use Rattle.std.specs.Prelude.{Some, None, Ok, Err, set, ◌≡◌, ◌≤◌, ◌+◌, ◌/◌, if◌then◌else◌}
-use Rattle.definition.specs.Prelude.{ℕ, Bool, true, false, List, length, take, leb}
+use Rattle.std.specs.Prelude.{Ok, Err, set, ◌≡◌, ◌≤◌, ◌+◌, ◌/◌, if◌then◌else◌}
+use Rattle.definition.specs.Prelude.{ℕ, Bool, List, length, take, leb}
 use Rattle.definition.specs.Basics.{Result, ok, refused, refusal_of, ◌>>=◌, with_places, joined}
 use Rattle.definition.specs.Image.{Unparsed, Placed, bytes_for, tree_of}
 use Rattle.definition.specs.Tree.{Node, recs_of, all_recs, literals_of}

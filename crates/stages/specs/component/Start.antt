@@ -1,6 +1,6 @@
 -- The starting value in code, and the record behind its colon.
 use Rattle.std.specs.Prelude as Std
-use Rattle.std.specs.Prelude.{Some, None, Ok, Err, ◌≡◌, ◌<◌, ◌≤◌, ◌⊎◌, ◌+◌, ◌*◌, ◌-◌, ◌^◌, ◌&&◌, ◌∷◌}
+use Rattle.std.specs.Prelude.{Some, None, Ok, Err, ◌≡◌, ◌<◌, ◌≤◌, ◌⊎◌, ◌+◌, ◌*◌, ◌-◌, ◌^◌, ◌&&◌, ◌∷◌, if◌then◌else◌}
 use Rattle.definition.specs.Prelude.{ℕ, suc, Bool, true, false, not, Option, none, some, List, [], length, eqb}
 use Rattle.definition.specs.Basics.{Result, ok, ◌>>=◌, with_places, is_empty, sum, tab}
 use Rattle.definition.specs.Refusals.{need, empty_after_colon}
@@ -8,16 +8,16 @@ use Rattle.definition.specs.Image.{Placed, u32_at, tree_of, component_count}
 use Rattle.definition.specs.Tree as Tree
 use Rattle.definition.specs.Tree.{Node, recs_of}
 use Rattle.definition.specs.Text as Text
-use Rattle.definition.specs.Text.{Item}
 use Rattle.definition.specs.Component.{Prefix, prefix_of, starting_value, source}
 use Rattle.errors.specs.Refused.{refused_as}
 use Rattle.errors.specs.declared.Refusal.{Refusal}
-use Rattle.stages.specs.token_tree.Table.{RecordFits, start_in, tree_in, tables_in}
+use Rattle.stages.specs.token_tree.Table.{RecordFits, kind_in, start_in, tree_in, tables_in}
 use Rattle.stages.specs.token_tree.Laid.{place_of}
 use Rattle.stages.specs.token_tree.Parts.{part_of, PartFits}
 use Rattle.stages.specs.token_tree.Rows.{node_of}
 use Rattle.stages.specs.declared.token_tree.types.Tree.{Tree as Table}
 use Rattle.stages.specs.declared.token_tree.types.Tables.{Tables}
+use Rattle.stages.specs.declared.token_tree.types.Run.{Run}
 use Rattle.stages.specs.declared.component.start.Start.{Start}
 use Rattle.stages.specs.declared.token_tree.types.PBind.{PBind}
 
@@ -29,6 +29,13 @@ pub record RecordsFit (image : List ℕ) (t : Tables) (k : ℕ) : Type 0 where
   pub rows : t.components + 8 * k ≤ length image
   pub few : (j : ℕ) → j ≤ k → records_before image t j < 2 ^ 31
   pub small : length image < 2 ^ 31
+
+-- ---- a run without its last item, where that is in brackets
+
+abbrev pub before_by : List ℕ → Table → Run → ℕ → Run
+before_by image t run last =
+    if eqb (kind_in image t last) 3 then record { r = run.r; stop = record { 0 = last }; «end» = record { 0 = start_in image t last } }
+    else run
 
 -- ---- the colon: its record
 

@@ -1,6 +1,6 @@
 -- A component in code as the definition's: `base` is where its text begins in the text table.
 use Rattle.std.specs.Prelude as Std
-use Rattle.std.specs.Prelude.{Some, None, Ok, Err, ◌≡◌, ◌≤◌, ◌-◌}
+use Rattle.std.specs.Prelude.{Some, None, ◌≡◌, ◌≤◌, ◌-◌}
 use Rattle.definition.specs.Prelude.{ℕ, List, length, drop}
 use Rattle.definition.specs.Basics.{Result}
 use Rattle.definition.specs.Component as Def

@@ -1,5 +1,5 @@
 // Stage 1 of a component: 11 to 17.
-ghost use Rattle.std.specs.Prelude.{◌≡◌, ℕ, ◌+◌, ◌<◌, ◌≤◌, ◌||◌, List, [], ◌∷◌, ◌++◌, length, ◌==◌};
+ghost use Rattle.std.specs.Prelude.{◌≡◌, ℕ, ◌+◌, ◌<◌, ◌≤◌, ◌||◌, List, length, ◌==◌};
 ghost use Rattle.std.proofs.Math.Option.{none, some};
 ghost use Rattle.definition.specs.Basics.{within};
 ghost use Rattle.definition.specs.Image.{bits_at};

@@ -1,8 +1,7 @@
 // Stage 2 of a component: 20 to 28.
-ghost use Rattle.std.specs.Prelude.{◌≡◌, ℕ, ◌≤◌, List, length};
+ghost use Rattle.std.specs.Prelude.{◌≡◌, ℕ, ◌≤◌, List};
 ghost use Rattle.definition.specs.Basics.{ok};
 ghost use Rattle.definition.specs.Image.{bits_at};
-ghost use Rattle.definition.specs.Ranges as Ranges;
 ghost use Rattle.definition.specs.Component.{cut_literal, simplify as simplify_of};
 ghost use Rattle.stages.specs.ranges.Values.{Tree as TreeIn, usbr_of, Measured};
 ghost use Rattle.stages.specs.ranges.Checks.{Positive};

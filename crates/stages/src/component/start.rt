@@ -1,11 +1,11 @@
 // The starting value: "of the most significant component of concatenation 0 only" (10).
-ghost use Rattle.std.specs.Prelude.{◌≡◌, ℕ, ◌+◌, ◌*◌, ◌^◌, ◌<◌, ◌≤◌, List, length};
+ghost use Rattle.std.specs.Prelude.{◌≡◌, ℕ, ◌+◌, ◌<◌, List};
 ghost use Rattle.definition.specs.Text.{Item};
 ghost use Rattle.definition.specs.Component.{split_colon, split_range};
-ghost use Rattle.stages.specs.token_tree.Table.{tables_in};
+ghost use Rattle.stages.specs.token_tree.Table.{RecordFits, tables_in};
 ghost use Rattle.stages.specs.token_tree.Laid.{Laid, Runs};
 ghost use Rattle.stages.specs.token_tree.Grown.{Grown};
-ghost use Rattle.stages.specs.component.Start.{records_before, RecordsFit, colon_place, colon_by, ColonAt, PrefixReads, StartReads};
+ghost use Rattle.stages.specs.component.Start.{records_before, RecordsFit, before_by, colon_place, colon_by, ColonAt, PrefixReads, StartReads};
 
 use crate::token_tree::{
     PBind, PText, PVal, Part, Run, Tables, Tree, behind, components_of, last_item, part_of, record,
@@ -90,28 +90,35 @@ fn value_before(
     Ok(Some(Start { after, s }))
 }
 
-// The starting value of component k, whose records are a run: of its items before a range in brackets.
+// The items before a last one in brackets. A record of kind 3 opens a `[` group.
+fn before_range(image: &[u8], tree: Tree, run: Run, last: PBind) -> Run
+    requires { RecordFits image.now tree last.0 }
+    ensures { result ≡ before_by image.now tree run last.0 }
+{
+    let e = record(image, tree, last);
+    if e.kind == 3 {
+        return Run {
+            r: run.r,
+            stop: last,
+            end: e.start,
+        };
+    }
+    run
+}
+
+// The starting value of component k, whose records are a run.
 fn start_in(image: &[u8], tree: Tree, k: PVal, run: Run) -> Result<Option<Start>, Refusal>
     requires { (run.r.0 < run.stop.0) × ((s : ℕ) × Runs image.now tree run.stop.0 run.«end».0 run.r.0 s) }
     ensures { (base s : ℕ) (is : List Item) → Laid image.now tree base run.stop.0 run.«end».0 run.r.0 s is
         → PrefixReads image.now tree base k.0 run.r.0 (split_colon (split_range is).mid) result }
 {
     let last = last_item(image, tree, run.r, run.stop, run.end);
-    let e = record(image, tree, last);
-    let before = if e.kind == 3 {
-        Run {
-            r: run.r,
-            stop: last,
-            end: e.start,
-        }
-    } else {
-        run
-    };
+    let before = before_range(image, tree, run, last);
     let colon = colon_in(image, tree, run.r, before.stop, before.end);
     value_before(image, tree, k, run.r, colon, before.stop)
 }
 
-// None where the line has no prefix. A record of kind 3 opens a `[` group.
+// None where the line has no prefix.
 pub(crate) fn starting_value(image: &[u8], t: Tables) -> Result<Option<Start>, Refusal>
     requires { Grown image.now × (t ≡ tables_in image.now) }
     ensures { (g : Grown image.now) → StartReads image.now g.tree result }

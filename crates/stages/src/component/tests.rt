@@ -38,7 +38,7 @@ impl Component {
     pub(crate) fn is_unbounded_filler(self) -> bool
         ensures { (image : List ℕ) (t : TreeIn) (base : ℕ) → result ≡ is_unbounded_filler (component_of image t base self) }
     {
-        self.is_filler() & self.range.end.is_none()
+        self.is_filler() && self.range.end.is_none()
     }
 
     // "Unbounded fillers return false". Of an end that is no number below 0.

@@ -1,6 +1,6 @@
 // Stages 1 and 2 of every component in one loop: each is read once and kept. A refusal of stage 1 ends it; the first of stage 2 is
 // remembered.
-ghost use Rattle.std.specs.Prelude.{◌≡◌, ℕ, ◌+◌, ◌*◌, ◌<◌, ◌≤◌, Bool, ◌&&◌, List, ◌∷◌, ◌++◌, length};
+ghost use Rattle.std.specs.Prelude.{◌≡◌, ℕ, ◌+◌, ◌<◌, ◌≤◌, Bool, List, ◌∷◌, ◌++◌, length};
 ghost use Rattle.definition.specs.Image.{counts};
 ghost use Rattle.definition.specs.Tree.{Node};
 ghost use Rattle.stages.specs.token_tree.Table.{tables_in};

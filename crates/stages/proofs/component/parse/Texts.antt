@@ -1,8 +1,7 @@
 -- The text of items that stand in a table, and whether it begins a literal.
 use Rattle.std.specs.Prelude.{◌+◌, ◌&&◌, ◌||◌, ◌∷◌}
-use Rattle.std.proofs.Common.{◌≡◌, ◌<◌, ◌≤◌, sym, refl, ap, ◌∙◌, add-zero, arith, get_or-drop, eq-eqb, ne_eqb, le-leb}
-use borrow.Author.Tests.{lt-leb}
-use Rattle.definition.specs.Prelude.{ℕ, Bool, true, false, not, List, [], length, get_or, drop, eqb, leb}
+use Rattle.std.proofs.Common.{◌≡◌, ◌≤◌, sym, refl, ap, ◌∙◌, add-zero, arith, get_or-drop}
+use Rattle.definition.specs.Prelude.{ℕ, Bool, false, not, List, [], length, get_or, drop, eqb}
 use Rattle.definition.specs.Basics.{within}
 use Rattle.definition.specs.Image.{delimiter}
 use Rattle.definition.specs.Text.{Item, is_group}
@@ -15,15 +14,6 @@ use Rattle.stages.specs.declared.token_tree.types.Tree.{Tree}
 -- `-` or a digit
 abbrev pub begins_by : ℕ → Bool
 begins_by b = eqb b 45 || within 48 57 b
-
-pub begins_minus : (b : ℕ) → b ≡ 45 → true ≡ begins_by b
-begins_minus b h = rw (eq-eqb b 45 h) refl
-
-pub begins_digit : (b : ℕ) → (b ≡ 45 → ⊥) → 48 ≤ b → leb b 57 ≡ begins_by b
-begins_digit b h l = rw (ne_eqb b 45 h, le-leb 48 b l) refl
-
-pub begins_low : (b : ℕ) → (b ≡ 45 → ⊥) → b < 48 → leb 48 b ≡ begins_by b
-begins_low b h l = rw (ne_eqb b 45 h, lt-leb 48 b l) refl
 
 opening_no : (k : ℕ) → begins_by (delimiter k).opening ≡ false
 opening_no k =

@@ -2,7 +2,7 @@
 use Rattle.std.specs.Prelude as Std
 use Rattle.std.specs.Prelude.{Some, None, Ok, Err, ◌+◌, ◌-◌, ◌∷◌}
 use Rattle.std.proofs.Common.{◌≡◌, ◌≤◌, sym, refl, ap, ◌∙◌, subst, arith}
-use Rattle.definition.specs.Prelude.{ℕ, zero, suc, Bool, true, false, none, some, List, [], length, get_or, drop}
+use Rattle.definition.specs.Prelude.{ℕ, zero, suc, Bool, true, false, none, some, List, [], length, get_or}
 use Rattle.definition.specs.Basics.{Result, ok, refused, refusal_of, ◌>>=◌, is_empty, tab}
 use Rattle.definition.specs.Image.{bits_at}
 use Rattle.definition.specs.Text.{Item}
@@ -15,7 +15,6 @@ use Rattle.stages.specs.token_tree.Laid.{Laid}
 use Rattle.stages.specs.ranges.Values.{Tree, unbounded_by, usbr_of, UsbrFits, RangeReads}
 use Rattle.errors.specs.declared.reasons.Reason.{Reason}
 use Rattle.errors.specs.declared.reasons.Reason.TheVariants as Reasons
-use Rattle.stages.specs.answer.literal_bits.Put.{bits_from}
 use Rattle.stages.specs.component.Values.{component_by, bits_of, Whole, ComponentReads}
 use Rattle.stages.specs.declared.token_tree.types.Part.{Part}
 use Rattle.stages.specs.declared.ranges.types.Usbr.{Usbr}

@@ -1,14 +1,13 @@
 -- Stage 2 of a component in code: by its type, and from the range's answer to the component's.
 use Rattle.std.specs.Prelude as Std
 use Rattle.std.specs.Prelude.{Ok, Err}
-use Rattle.std.proofs.Common.{◌≡◌, ◌≤◌, sym, refl, ap, ◌∙◌, subst, arith}
+use Rattle.std.proofs.Common.{◌≡◌, ◌≤◌, sym, refl, ap, ◌∙◌, subst}
 use Rattle.definition.specs.Prelude.{ℕ, List}
-use Rattle.definition.specs.Basics.{Result, ok, refused, refusal_of, ◌>>=◌}
+use Rattle.definition.specs.Basics.{Result, ok, ◌>>=◌}
 use Rattle.definition.specs.Image.{bits_at}
 use Rattle.definition.specs.Ranges as D
 use Rattle.definition.specs.Component.{cut_literal, simplify_literal, simplify_range, simplify}
 use Rattle.laws.specs.Lists.{length_tab}
-use Rattle.errors.specs.Reasons.{number}
 use Rattle.errors.specs.declared.reasons.Reason.{Reason}
 use Rattle.stages.specs.ranges.Values.{Tree, usbr_of, Measured, SimplifiedReads}
 use Rattle.stages.specs.ranges.Checks.{Positive, literal_range, filler_range}

@@ -1,18 +1,19 @@
 -- The text before a starting value's colon, and what stands behind it.
 use Rattle.std.specs.Prelude as Std
 use Rattle.std.specs.Prelude.{Some, None, Ok, Err, ◌+◌, ◌*◌, ◌^◌, ◌&&◌, ◌∷◌}
-use Rattle.std.proofs.Common.{◌≡◌, ◌<◌, ◌≤◌, ◌⊎◌, ⊎_elim, sym, refl, ap, ◌∙◌, subst, arith}
+use Rattle.std.proofs.Common.{◌≡◌, ◌<◌, ◌≤◌, sym, refl, ap, ◌∙◌, subst, arith, eqb-true}
+use borrow.Author.Tests.{eqb-false}
 use Rattle.definition.specs.Prelude.{ℕ, suc, Bool, true, false, not, Option, none, some, List, [], length, eqb}
 use Rattle.definition.specs.Basics.{same_bytes}
 use Rattle.definition.specs.Text as Text
 use Rattle.definition.specs.Text.{Item, is_group}
 use Rattle.definition.specs.Component.{Prefix, Split, split_range, split_colon}
 use Rattle.errors.specs.declared.Refusal.{Refusal}
-use Rattle.laws.specs.Tests.{and_iff}
+use Rattle.laws.specs.Tests.{by_test, and_iff}
 use Rattle.stages.specs.token_tree.Table.{kind_in, start_in, skip_in}
 use Rattle.stages.specs.token_tree.Laid.{Laid, Runs, place_of}
 use Rattle.stages.specs.token_tree.Parts.{part_by, part_of}
-use Rattle.stages.specs.component.Start.{colon_place, ColonFits, ColonAt, prefix_value, start_result, PrefixReads}
+use Rattle.stages.specs.component.Start.{before_by, colon_place, ColonFits, ColonAt, prefix_value, start_result, PrefixReads}
 use Rattle.stages.specs.declared.token_tree.types.Tree.{Tree}
 use Rattle.stages.specs.declared.token_tree.types.Part.{Part}
 use Rattle.stages.specs.declared.token_tree.types.Run.{Run}
@@ -22,7 +23,7 @@ use Rattle.stages.proofs.token_tree.Places.{place_above, place_suc, laid_order, 
 use Rattle.stages.proofs.component.parse.Splits.{colon_parts}
 use Rattle.stages.proofs.token_tree.Walks.{runs_within}
 use Rattle.stages.proofs.token_tree.Written.{laid_part, laid_fits}
-use Rattle.stages.proofs.component.parse.Endings.{range_last, range_none, LastAt, last_kind}
+use Rattle.stages.proofs.component.parse.Endings.{range_last, range_none, LastAt}
 
 pub below : (a b : ℕ) → a ≤ b → (a ≡ b → ⊥) → a < b
 below a b l n = omega (arith, l, n)
@@ -128,13 +129,6 @@ module _ (image : List ℕ) (t : Tree) (base stop tail r s : ℕ) (mid : List It
     abbrev Reads : Std.Result (Std.Option Start) Refusal → Type 0
     Reads q = PrefixReads image t base k r (split_colon mid) q
 
-    pub value_none : (colon : Std.Option PBind) → colon ≡ colon_place image t r (split_colon mid) → colon ≡ None → Reads (Ok None)
-    value_none colon e z = go (split_colon mid) (sym z ∙ e)
-      where
-        go : (p : Option Prefix) → None ≡ colon_place image t r p → PrefixReads image t base k r p (Ok None)
-        go none y = record { is = refl; held = (refl, tt) }
-        go (some p) y = let w : ◌≡◌ {A = ℕ} 0 1 = cc in absurd (omega (arith, w))
-
     module _ (colon : ℕ) (e : Some (record { 0 = colon }) ≡ colon_place image t r (split_colon mid)) where
       pub value_refused : colon + 1 ≡ stop → (n : Refusal) → n ≡ record { number = 10; concatenation = 0; component = k } → Reads (Err n)
       value_refused z n en =
@@ -162,45 +156,37 @@ module _ (image : List ℕ) (t : Tree) (base stop tail r s : ℕ) (mid : List It
 
 -- ---- a run: its items before a range in brackets
 
--- the run of those before a last item in brackets, or all of it
-abbrev pub BeforeIs : List ℕ → Tree → Run → ℕ → ℕ → Run → Type 0
-BeforeIs image t run last k before =
-    ((k ≡ 3) × (before ≡ record { r = run.r; stop = record { 0 = last }; «end» = record { 0 = start_in image t last } }))
-    ⊎ ((k ≡ 3 → ⊥) × (before ≡ run))
+module _ (image : List ℕ) (t : Tree) (run : Run) (last : ℕ) (before : Run) (b : before ≡ before_by image t run last) where
+  bracket : eqb (kind_in image t last) 3 ≡ true → before ≡ record { r = run.r; stop = record { 0 = last }; «end» = record { 0 = start_in image t last } }
+  bracket e = b ∙ rw e refl
 
-module _ (image : List ℕ) (t : Tree) (run : Run) (last k : ℕ) (before : Run) (b : BeforeIs image t run last k before) (e : k ≡ kind_in image t last) where
+  plain : eqb (kind_in image t last) 3 ≡ false → before ≡ run
+  plain e = b ∙ rw e refl
+
   pub mid_laid : (base s : ℕ) (is : List Item) → LastAt image t run.stop.0 run.«end».0 run.r.0 last base s is
       → Laid image t base run.stop.0 run.«end».0 run.r.0 s is → Laid image t base before.stop.0 before.«end».0 run.r.0 s (split_range is).mid
-  mid_laid base s is a h = ⊎_elim bracket plain b
-    where
-      kind : k ≡ a.item.kind
-      kind = last_kind image t run.stop.0 run.«end».0 run.r.0 last base s is a k e
-
-      bracket : (k ≡ 3) × (before ≡ record { r = run.r; stop = record { 0 = last }; «end» = record { 0 = start_in image t last } }) → Laid image t base before.stop.0 before.«end».0 run.r.0 s (split_range is).mid
-      bracket (n, q) =
-          let m : a.mid ≡ (split_range is).mid = sym (ap (λ l. (split_range l).mid) a.parts ∙ ap (λ (x : Split). x.mid) (range_last a.mid a.item (sym kind ∙ n))) in
-          rw q (subst (λ x. Laid image t base last x run.r.0 s (split_range is).mid) (sym a.stands.start) (subst (Laid image t base last a.from run.r.0 s) m a.before))
-
-      plain : (k ≡ 3 → ⊥) × (before ≡ run) → Laid image t base before.stop.0 before.«end».0 run.r.0 s (split_range is).mid
-      plain (n, q) =
+  mid_laid base s is a h =
+      by_test (eqb (kind_in image t last) 3)
+      (λ e.
+          let n : a.item.kind ≡ 3 = sym a.stands.kind ∙ eqb-true _ _ e in
+          let m : a.mid ≡ (split_range is).mid = sym (ap (λ l. (split_range l).mid) a.parts ∙ ap (λ (x : Split). x.mid) (range_last a.mid a.item n)) in
+          rw (bracket e) (subst (λ x. Laid image t base last x run.r.0 s (split_range is).mid) (sym a.stands.start) (subst (Laid image t base last a.from run.r.0 s) m a.before)))
+      (λ e.
+          let n : a.item.kind ≡ 3 → ⊥ = λ z. eqb-false _ _ e (a.stands.kind ∙ z) in
           let m : is ≡ (split_range is).mid =
-          sym (ap (λ l. (split_range l).mid) a.parts ∙ ap (λ (x : Split). x.mid) (range_none a.mid a.item (λ z. n (kind ∙ z))) ∙ sym a.parts) in
-          rw q (subst (Laid image t base run.stop.0 run.«end».0 run.r.0 s) m h)
+          sym (ap (λ l. (split_range l).mid) a.parts ∙ ap (λ (x : Split). x.mid) (range_none a.mid a.item n) ∙ sym a.parts) in
+          rw (plain e) (subst (Laid image t base run.stop.0 run.«end».0 run.r.0 s) m h))
 
   -- which lies within the image, too
   pub mid_runs : (s : ℕ) (w : Runs image t run.stop.0 run.«end».0 run.r.0 s) → LastAt image t run.stop.0 run.«end».0 run.r.0 last w.base s w.items
       → Runs image t before.stop.0 before.«end».0 run.r.0 s
   mid_runs s w a =
-      let (x, y) = ⊎_elim inside all b in
+      let (x, y) = within in
       runs_within w.base (split_range w.items).mid w x y (mid_laid w.base s w.items a w.laid)
     where
-      inside : (k ≡ 3) × (before ≡ record { r = run.r; stop = record { 0 = last }; «end» = record { 0 = start_in image t last } })
-          → (before.stop.0 ≤ run.stop.0) × (before.«end».0 ≤ run.«end».0)
-      inside (n, q) =
+      within : (before.stop.0 ≤ run.stop.0) × (before.«end».0 ≤ run.«end».0)
+      within =
           let si = a.stands.start in
           let ti = a.tail_is in
           let rm = a.stands.room in
-          rw q (omega (arith, rm), omega (arith, si, ti))
-
-      all : (k ≡ 3 → ⊥) × (before ≡ run) → (before.stop.0 ≤ run.stop.0) × (before.«end».0 ≤ run.«end».0)
-      all (n, q) = rw q (omega arith, omega arith)
+          by_test (eqb (kind_in image t last) 3) (λ e. rw (bracket e) (omega (arith, rm), omega (arith, si, ti))) (λ e. rw (plain e) (omega arith, omega arith))

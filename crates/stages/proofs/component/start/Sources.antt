@@ -33,9 +33,6 @@ module _ (image : List ℕ) (t : Tables) where
   pub records_more : (j r n : ℕ) → r ≡ records_before image t j → n ≡ u32_at image (t.components + 8 * j) → r + n ≡ records_before image t (j + 1)
   records_more j r n a b = sym (records_suc j ∙ ap (λ x. x + u32_at image (t.components + 8 * j)) (sym a) ∙ ap (λ x. r + x) (sym b))
 
-  pub records_room : (k j : ℕ) → RecordsFit image t k → j < k → t.components + 8 * j + 8 ≤ length image
-  records_room k j h l = let f = h.rows in omega (arith, f, l)
-
   pub records_small : (k j : ℕ) → RecordsFit image t k → j < k → (r n : ℕ) → r ≡ records_before image t j → n ≡ u32_at image (t.components + 8 * j) → r + n < 2 ^ 32
   records_small k j h l r n a b = let f = h.few (j + 1) (omega (arith, l)) in let e = records_more j r n a b in omega (arith, e, f)
 

@@ -1,16 +1,15 @@
 -- Tests of a component: one law for each way through the code.
 use Rattle.std.specs.Prelude as Std
 use Rattle.std.specs.Option.{is_some}
-use Rattle.std.specs.Prelude.{Some, None, ◌-◌, ◌^◌, ◌&&◌, if◌then◌else◌}
+use Rattle.std.specs.Prelude.{Some, None, ◌-◌, ◌^◌, ◌&&◌}
 use Rattle.std.proofs.Common.{◌≡◌, ◌<◌, ◌⊎◌, sym, refl, ap, ◌∙◌, subst, ⊎_elim, arith, ne_eqb, eqb-true}
 use borrow.Author.Tests.{eqb-false}
 use Rattle.definition.specs.Prelude.{ℕ, Bool, true, false, not, Option, none, some, List, length, drop, ltb, eqb, ℤ, pos, nat_abs, non_neg}
-use Rattle.definition.specs.Basics.{is_empty}
 use Rattle.definition.specs.Ranges as D
-use Rattle.definition.specs.Ranges.{val, static_val, static_range}
+use Rattle.definition.specs.Ranges.{val, static_val}
 use Rattle.definition.specs.Component as Def
 use Rattle.definition.specs.Component.{is_zero, has_end, if_static_end}
-use Rattle.definition.specs.Concatenation.{is_static_literal, has_full_range}
+use Rattle.definition.specs.Concatenation.{has_full_range}
 use Rattle.laws.specs.Lists.{length_tab}
 use Rattle.laws.specs.Tests.{by_test}
 use Rattle.numbers.specs.Value.{bits, value_of}
@@ -18,7 +17,6 @@ use Rattle.numbers.specs.declared.I128.{I128}
 use Rattle.numbers.proofs.Small.{small}
 use Rattle.stages.specs.answer.literal_bits.Put.{bit_of}
 use Rattle.stages.specs.ranges.Values.{Tree, usb_of, end_of, usbr_of}
-use Rattle.stages.specs.ranges.Checks.{end_val, both_of, range_of}
 use Rattle.stages.specs.component.Values.{type_of, component_of}
 use Rattle.stages.specs.component.Tests.{full_end}
 use Rattle.stages.specs.declared.token_tree.types.Part.{Part}
@@ -73,27 +71,7 @@ module _ (image : List ℕ) (t : Tree) (base : ℕ) (e : Std.Option Usb) (w : �
       ends_no h l g =
           ⊎_elim (λ c. h ∙ ends_high c.0 (eqb-false u.x.high 0 (sym c.1 ∙ h)) l g) (λ c. h ∙ ends_text c.0) came
 
--- ---- static literals
-
-abbrev is_known : Option (ℤ × ℤ) → Bool
-is_known o = elim o [ none ↦ false | some p ↦ true ]
-
-range_known : (r : Std.Option (I128 × I128)) → is_some r ≡ is_known (range_of r)
-range_known (Some p) = refl
-range_known None = refl
-
-both_known : (a b : Bool) (x y : ℤ) → is_known (both_of (if a then some x else none) (if b then some y else none)) ≡ (a && b)
-both_known true true x y = refl
-both_known true false x y = refl
-both_known false b x y = refl
-
-none_known : (a : Bool) (x : ℤ) → is_known (both_of (if a then some x else none) none) ≡ (a && false)
-none_known true x = refl
-none_known false x = refl
-
-range_static : (s : D.Usb) (e : Option D.Usb) → is_known (both_of (static_val s) (end_val e)) ≡ static_range (record { start = s; «end» = e })
-range_static s none = none_known (is_empty s.s.bytes) s.x
-range_static s (some e) = both_known (is_empty s.s.bytes) (is_empty e.s.bytes) s.x e.x
+-- ---- a full range
 
 pub there_is : (image : List ℕ) (t : Tree) (base : ℕ) (e : Std.Option Usb) (s : D.Usb) → is_some e ≡ has_end (record { start = s; «end» = end_of image t base e })
 there_is image t base (Some u) s = refl
@@ -104,24 +82,6 @@ turned a true h = rw h refl
 turned a false h = rw h refl
 
 module _ (image : List ℕ) (t : Tree) (base : ℕ) (c : Component) where
-  abbrev static_by : ComponentType → Bool
-  static_by k = is_static_literal (record { c_type = type_of image t base k; range = usbr_of image t base c.range })
-
-  pub static_literal : (b : Bits) (r : Std.Option (I128 × I128)) (a : Bool) → c.c_type ≡ T.Literal b → a ≡ is_some r
-      → range_of r ≡ both_of (static_val (usb_of image t base c.range.start)) (end_val (end_of image t base c.range.«end»))
-      → a ≡ is_static_literal (component_of image t base c)
-  static_literal b r a q h g =
-      let v = usbr_of image t base c.range in
-      h ∙ range_known r ∙ ap is_known g ∙ range_static v.start v.«end» ∙ sym (ap static_by q)
-
-  pub static_variable : (p : Part) → c.c_type ≡ T.Variable p → false ≡ is_static_literal (component_of image t base c)
-  static_variable p q = sym (ap static_by q)
-
-  pub static_filler : c.c_type ≡ T.Filler → false ≡ is_static_literal (component_of image t base c)
-  static_filler q = sym (ap static_by q)
-
-  -- ---- a full range
-
   abbrev full_by : Bool → ComponentType → Bool
   full_by z k =
       z && elim (type_of image t base k) [

@@ -1,8 +1,8 @@
 -- The loop over the concatenations: one more in front, none, one that stage 1 refuses; and the whole tree.
 use Rattle.std.specs.Prelude as Std
 use Rattle.std.specs.Prelude.{Ok, Err, ◌+◌, ◌∷◌, ◌++◌}
-use Rattle.std.proofs.Common.{◌≡◌, ◌≤◌, sym, refl, ap, ◌∙◌, subst, add-zero, arith, length-append, take_at, drop_at}
-use Rattle.definition.specs.Prelude.{ℕ, suc, true, List, [], map, length, take}
+use Rattle.std.proofs.Common.{◌≡◌, sym, refl, ap, ◌∙◌, subst, add-zero, arith, length-append, take_at, drop_at}
+use Rattle.definition.specs.Prelude.{ℕ, suc, List, [], map, length, take}
 use Rattle.definition.specs.Basics as Basics
 use Rattle.definition.specs.Basics.{Result, ok, refused, refusal_of, ◌>>=◌, joined}
 use Rattle.definition.specs.Image.{Placed, Unparsed, parts, tree_of}

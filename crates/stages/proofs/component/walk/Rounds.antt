@@ -1,8 +1,8 @@
 -- The components of a concatenation one after the other: one more in front, none, and one that stage 1 refuses.
 use Rattle.std.specs.Prelude as Std
-use Rattle.std.specs.Prelude.{Ok, Err, ◌+◌, ◌*◌, ◌&&◌, ◌∷◌}
-use Rattle.std.proofs.Common.{◌≡◌, ◌<◌, ◌≤◌, set, sym, refl, ap, ◌∙◌, subst, add-zero, arith, length-append, take-take}
-use Rattle.definition.specs.Prelude.{ℕ, suc, true, List, [], length, take, eqb}
+use Rattle.std.specs.Prelude.{Ok, Err, ◌+◌, ◌&&◌, ◌∷◌}
+use Rattle.std.proofs.Common.{◌≡◌, ◌<◌, ◌≤◌, sym, refl, ap, ◌∙◌, subst, add-zero, arith, length-append, take-take}
+use Rattle.definition.specs.Prelude.{ℕ, suc, List, [], length, take, eqb}
 use Rattle.definition.specs.Basics.{Result, ok, ◌>>=◌, with_places, is_empty, joined}
 use Rattle.definition.specs.Image.{Placed, Unparsed}
 use Rattle.definition.specs.Tree.{Node, recs_of, all_recs, literals_of, text_of, packed}
@@ -10,7 +10,7 @@ use Rattle.definition.specs.Component as Def
 use Rattle.definition.specs.Component.{each_in, stage1_component, simplify}
 use Rattle.prepared.specs.Bits.{length_packed}
 use Rattle.prepared.specs.Statement.{placed_from}
-use Rattle.errors.specs.Refused.{refused_as, result_of}
+use Rattle.errors.specs.Refused.{result_of}
 use Rattle.errors.specs.declared.Refusal.{Refusal}
 use Rattle.stages.specs.token_tree.Rows.{node_of}
 use Rattle.stages.specs.component.Kept.{KeptIn}

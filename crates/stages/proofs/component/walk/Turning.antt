@@ -1,11 +1,11 @@
 -- One component of the loop: what is said of it by what is read of it.
 use Rattle.std.specs.Prelude as Std
-use Rattle.std.specs.Prelude.{Ok, Err, set, ◌+◌, ◌*◌, ◌^◌, ◌∷◌}
+use Rattle.std.specs.Prelude.{Ok, Err, set, ◌+◌, ◌*◌, ◌∷◌}
 use Rattle.std.specs.Int.{div_ceil}
 use Rattle.std.specs.Result.{result_and}
-use Rattle.std.proofs.Common.{◌≡◌, ◌<◌, ◌≤◌, sym, refl, ap, ◌∙◌, subst, arith, length-set}
+use Rattle.std.proofs.Common.{◌≡◌, sym, refl, ap, ◌∙◌, subst, arith, length-set}
 use Rattle.std.proofs.lemmas.List.{take-set}
-use Rattle.definition.specs.Prelude.{ℕ, Bool, List, length, take}
+use Rattle.definition.specs.Prelude.{ℕ, Bool, List, length}
 use Rattle.definition.specs.Basics.{Result, ok, refused, refusal_of, ◌>>=◌, with_places}
 use Rattle.definition.specs.Image.{u32_at, bits_at, bytes_for}
 use Rattle.definition.specs.Tree.{Node, recs_of}
@@ -17,9 +17,8 @@ use Rattle.errors.specs.declared.Refusal.{Refusal}
 use Rattle.errors.specs.declared.reasons.Reason.{Reason}
 use Rattle.prepared.specs.Bits.{bits_at_holds}
 use Rattle.stages.specs.token_tree.Rows.{node_of, Rooted, Rows}
-use Rattle.stages.specs.component.Values.{component_of, ComponentStaged}
+use Rattle.stages.specs.component.Values.{component_of}
 use Rattle.stages.specs.component.Parse.{parse_items, items_read}
-use Rattle.stages.specs.component.Kept.{EndGiven, Is}
 use Rattle.stages.specs.component.Read.{verdict, bytes_by, ReadIs, TurnIs}
 use Rattle.stages.specs.declared.token_tree.types.Tables.{Tables}
 use Rattle.stages.specs.declared.component.types.Component.{Component}

@@ -1,8 +1,8 @@
 -- The loop over all concatenations: where it stands, and what is said of the whole tree once the rest is done.
 use Rattle.std.specs.Prelude as Std
 use Rattle.std.specs.Prelude.{Ok, Err, ◌+◌, ◌*◌, ◌∷◌, ◌++◌}
-use Rattle.std.proofs.Common.{◌≡◌, ◌<◌, ◌≤◌, sym, refl, ap, subst, add-one, arith, length-append}
-use Rattle.definition.specs.Prelude.{ℕ, suc, true, List, [], length}
+use Rattle.std.proofs.Common.{◌≡◌, ◌<◌, ◌≤◌, sym, refl, ap, subst, add-one, arith}
+use Rattle.definition.specs.Prelude.{ℕ, suc, List, [], length}
 use Rattle.definition.specs.Basics.{joined}
 use Rattle.definition.specs.Image.{u32_at, counts}
 use Rattle.definition.specs.Tree.{Node, all_recs, text_of}

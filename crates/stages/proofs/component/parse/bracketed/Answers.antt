@@ -1,5 +1,5 @@
 use Rattle.std.specs.Prelude.{Ok}
-use Rattle.std.proofs.Common.{◌+◌, refl, ap, ◌∙◌, arith}
+use Rattle.std.proofs.Common.{◌+◌, ap, ◌∙◌, arith}
 use Rattle.definition.specs.Text.{items}
 use Rattle.definition.specs.Image.{bits_at}
 use Rattle.stages.proofs.component.parse.Types.{bracket_range, bracket_single, bracket_refused}

@@ -1,6 +1,5 @@
 use Rattle.std.specs.Prelude.{Ok}
-use Rattle.std.proofs.Common.{◌≡◌, subst, arith}
-use Rattle.stages.specs.component.Values.{ComponentReads}
+use Rattle.std.proofs.Common.{◌≡◌, arith}
 use Rattle.stages.proofs.component.read.Verdicts.{read_is}
 use Rattle.stages.proofs.component.read.read.Goals as goal
 

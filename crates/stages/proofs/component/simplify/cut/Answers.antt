@@ -1,6 +1,5 @@
 use Rattle.std.specs.Prelude.{◌^◌}
-use Rattle.std.proofs.Common.{◌≡◌, ◌<◌, sym, ap, ◌∙◌, subst, arith}
-use Rattle.stages.specs.ranges.Checks.{range_of}
+use Rattle.std.proofs.Common.{◌≡◌, ◌<◌, sym, subst, arith}
 use Rattle.stages.specs.declared.ranges.types.Usb.{Usb}
 use Rattle.stages.proofs.component.simplify.Cuts.{cut_fits, end_small, cut_none, cut_end, cut_numbers}
 use Rattle.stages.proofs.component.simplify.cut.Goals.{then-end-eq0, else-end-eq0}

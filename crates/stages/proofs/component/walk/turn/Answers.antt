@@ -1,5 +1,5 @@
 use Rattle.std.specs.Prelude.{Ok, Err}
-use Rattle.std.proofs.Common.{◌+◌, refl, ap, ◌∙◌, arith}
+use Rattle.std.proofs.Common.{◌+◌, refl, ap, ◌∙◌}
 use Rattle.errors.specs.Refused.{refused_as, result_of}
 use Rattle.stages.specs.component.Read.{bytes_by}
 use Rattle.stages.specs.component.Start.{after_of}

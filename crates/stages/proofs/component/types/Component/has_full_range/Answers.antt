@@ -1,5 +1,3 @@
-use Rattle.std.proofs.Common.{subst}
-use Rattle.stages.specs.component.Values.{Ordered}
 use Rattle.stages.proofs.component.tests.Tested.{full_not, full_literal, full_variable, full_filler}
 use Rattle.stages.proofs.component.types.Component.has_full_range.Goals as goal
 
@@ -7,10 +5,6 @@ pub returns-then-not-is_guaranteed_zero : goal.returns-then-not-is_guaranteed_ze
 returns-then-not-is_guaranteed_zero c image t base g =
     let z = c.is_guaranteed_zero in
     full_not image t base c.args.self z.result (z.ensures image t base) (c.if-not-is_guaranteed_zero.true)
-
-pub overflow_sub-b : goal.overflow_sub-b
-overflow_sub-b c =
-    subst Ordered c.in-Literal.is c.requires
 
 pub returns-in-Literal : goal.returns-in-Literal
 returns-in-Literal c image t base g =
