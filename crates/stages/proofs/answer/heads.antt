@@ -1,3 +1,3 @@
--- The words of a concatenation as its block, the blocks of all, and the head.
-pub mod Listed
+-- The block of a concatenation, the blocks of all, and the head.
 pub mod Headed
+pub mod Listed

@@ -1,3 +1,2 @@
 -- The merged components of every concatenation, and the answer's four parts.
 pub mod Placing
-pub mod Parts

@@ -82,7 +82,7 @@ pub(crate) fn put_head(area: &mut [u8], c: u32, m: u32, o: Overall, s: Option<St
         (flag_of o.deterministic 1 + flag_of o.nonzero 2 + flag_of (is_given s) 4) (align_number (align_of o.align)) (start_part s)) }
 {
     let text = match s {
-        Some(s) => s.s,
+        Some(start) => start.s,
         None => no_text(),
     };
     put_u32(area, 0, c);

@@ -1,38 +1,17 @@
-use Rattle.std.proofs.Common.{arith}
-use Rattle.stages.proofs.answer.heads.Listed.{sum_start, sum_next, sum_end}
+use Rattle.std.proofs.Common.{refl, map, arith, drop_of_length-le}
+use Rattle.definition.specs.Basics.{sum}
+use Rattle.stages.proofs.answer.heads.Listed.{size_of, sizes_next, sizes_end}
 use Rattle.stages.proofs.answer.heads.merged_of.Goals as goal
 
-pub loop-i-init : goal.loop-i-init
-loop-i-init c = (omega arith, omega arith, λ ds n h k. sum_start ds)
+pub loop-x-init : goal.loop-x-init
+loop-x-init c = (omega arith, λ image kept ds are. record { left = ds; are = are; sum_is = omega arith })
 
-pub bounds-heads-i : goal.bounds-heads-i
-bounds-heads-i c =
-    let (few, room) = c.requires in
-    let t = c.loop-i-test.true in
-    omega arith
-
-pub overflow_add-m : goal.overflow_add-m
-overflow_add-m c =
-    let (few, room) = c.requires in
-    let t = c.loop-i-test.true in
-    let s = c.loop-i.invariant.1 in
-    let e = c.head_size.ensures in
-    omega arith
-
-pub loop-i-preserved : goal.loop-i-preserved
-loop-i-preserved c =
-    let a = c.args in
-    let l = c.loop-i in
-    let t = c.loop-i-test.true in
-    let e = c.head_size.ensures in
-    let s = l.invariant.1 in (
-      omega arith,
-      omega arith,
-      λ ds n h k. sum_next a.heads.now ds l.i l.m c.head_size.result (omega arith) h k e (l.invariant.2 ds n h k),
-    )
+pub loop-x-preserved : goal.loop-x-preserved
+loop-x-preserved c =
+    let l = c.loop-x in
+    (omega arith, λ image kept ds are. sizes_next image kept c.args.heads.now l.x-index _ (sum (map size_of ds)) l.m c.loop-x-test.true (l.invariant.1 image kept ds are))
 
 pub returns : goal.returns
-returns c =
-    let l = c.loop-i in
-    let t = c.loop-i-test.false in
-    λ ds n h k. sum_end ds l.i l.m (omega arith) (l.invariant.2 ds n h k)
+returns c image kept ds are =
+    let l = c.loop-x in
+    sizes_end image kept c.args.heads.now l.x-index (sum (map size_of ds)) l.m (drop_of_length-le c.args.heads.now c.loop-x-test.false) (l.invariant.1 image kept ds are)

@@ -1,15 +1,15 @@
--- Before turn i the sum of the first i sizes.
-use Rattle.std.proofs.Common.{◌≡◌, ◌-◌, ◌*◌, ◌≤◌, List, map, length, take}
+-- Before turn i the sizes of the concatenations from i on are left.
+use Rattle.std.proofs.Common.{◌*◌, ◌≤◌, map}
+use Rattle.definition.specs.Prelude.{ℕ, List}
 use Rattle.definition.specs.Basics.{sum}
 use Rattle.definition.specs.Concatenation.{Concatenation}
-use Rattle.stages.specs.concatenation.Heads.{HeadsAre, AllChecked}
-use Rattle.stages.proofs.answer.heads.Listed.{size_of}
+use Rattle.stages.specs.concatenation.Heads.{HeadsAre}
+use Rattle.stages.specs.declared.component.types.Component.{Component}
+use Rattle.stages.proofs.answer.heads.Listed.{size_of, Sizes}
 use Rattle.stages.proofs.answer.heads.merged_of.Given as goal
 
-abbrev pub invariant-loop-i : goal.invariant-loop-i
-invariant-loop-i l =
-    (l.i ≤ l.c) × (l.m ≤ 4294967296 * l.i)
-    × ((ds : List Concatenation) → length ds ≡ l.c → HeadsAre l.heads ds → AllChecked ds → l.m ≡ sum (map size_of (take l.i ds)))
-
-abbrev pub decreases-loop-i : goal.decreases-loop-i
-decreases-loop-i l = l.c - l.i
+abbrev pub invariant-loop-x : goal.invariant-loop-x
+invariant-loop-x l =
+    (l.m ≤ 4294967296 * l.x-index)
+    × ((image : List ℕ) (kept : List Component) (ds : List Concatenation) → HeadsAre image kept l.heads ds
+    → Sizes image kept l.heads l.x-index (sum (map size_of ds)) l.m)

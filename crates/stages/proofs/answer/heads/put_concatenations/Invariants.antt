@@ -1,15 +1,13 @@
--- Before turn i the blocks of the first i concatenations stand in the area.
-use Rattle.std.proofs.Common.{◌≡◌, ◌-◌, ◌≤◌, List, length, take}
-use lib.Seq.{sets}
+-- Before turn i the concatenations from i on are left.
+use Rattle.definition.specs.Prelude.{ℕ, List}
 use Rattle.definition.specs.Concatenation.{Concatenation}
-use Rattle.stages.specs.concatenation.Heads.{HeadsAre, AllChecked}
-use Rattle.stages.proofs.answer.heads.Listed.{blocks}
+use Rattle.std.proofs.lemmas.List.Edits.{sets}
+use Rattle.stages.specs.concatenation.Heads.{HeadsAre}
+use Rattle.stages.specs.declared.component.types.Component.{Component}
+use Rattle.stages.proofs.answer.heads.Listed.{blocks, Blocks}
 use Rattle.stages.proofs.answer.heads.put_concatenations.Given as goal
 
 abbrev pub invariant-loop-i : goal.invariant-loop-i
 invariant-loop-i l =
-    (l.i ≤ l.c) × (length l.area ≡ length l.initial.area)
-    × ((ds : List Concatenation) → length ds ≡ l.c → HeadsAre l.heads ds → AllChecked ds → l.area ≡ sets l.initial.area 32 (blocks (take l.i ds)))
-
-abbrev pub decreases-loop-i : goal.decreases-loop-i
-decreases-loop-i l = l.c - l.i
+    (image : List ℕ) (kept : List Component) (ds : List Concatenation) → HeadsAre image kept l.heads ds
+    → Blocks image kept l.heads l.i (sets l.initial.area 32 (blocks ds)) l.area

@@ -1,21 +1,15 @@
--- Before turn i what is still to be written are the concatenations from i on.
-use Rattle.std.proofs.Common.{◌≡◌, ◌-◌, ◌≤◌, List, length}
+-- Before a turn what is still to be written are the concatenations from x-index on.
+use Rattle.definition.specs.Prelude.{List}
 use Rattle.definition.specs.Basics.{joined}
-use Rattle.definition.specs.Image.{Placed}
-use Rattle.definition.specs.Component.{Component}
+use Rattle.definition.specs.Concatenation.{Concatenation}
 use Rattle.answer_facts.specs.fits.Fixed.{AllFixed}
-use Rattle.stages.specs.token_tree.Rows.{Sizes}
-use Rattle.stages.specs.component.Kept.{KeptFrom}
+use Rattle.stages.specs.concatenation.Heads.{HeadsAre}
 use Rattle.stages.specs.answer.merging.Put.{Room}
-use Rattle.stages.specs.answer.Stage5.{merged_all}
+use Rattle.stages.specs.answer.Stage5.{merged_all, comps_of}
 use Rattle.stages.proofs.answer.stage5.Placing.{Placing}
 use Rattle.stages.proofs.answer.stage5.put_components.Given as goal
 
-abbrev pub invariant-loop-i : goal.invariant-loop-i
-invariant-loop-i l =
-    (l.i ≤ l.c) × (length l.area ≡ length l.initial.area)
-    × ((u : List (List (Placed Component))) → length u ≡ l.c → Sizes l.image 0 u → KeptFrom l.image l.words 0 (joined u) → AllFixed (joined u)
-    → Room l.initial.area l.initial.w (merged_all u) → Placing l.image l.words l.c l.i l.k.0 (length (joined u)) l.initial.area l.initial.w (merged_all u) l.area l.w)
-
-abbrev pub decreases-loop-i : goal.decreases-loop-i
-decreases-loop-i l = l.c - l.i
+abbrev pub invariant-loop-x : goal.invariant-loop-x
+invariant-loop-x l =
+    (ds : List Concatenation) → HeadsAre l.image l.kept l.heads ds → AllFixed (joined (comps_of ds)) → Room l.initial.area l.fn.from (merged_all (comps_of ds))
+    → Placing l.image l.kept l.initial.area l.fn.from (merged_all (comps_of ds)) l.heads l.x-index l.area l.w
