@@ -1,12 +1,12 @@
 -- Kept components and the placed ones that they are, and concatenations likewise, one by one: how many, and the one at a place.
 use Rattle.std.specs.Prelude.{◌+◌, ◌∷◌, ◌++◌}
-use Rattle.std.proofs.Common.{◌≡◌, ◌<◌, ◌≤◌, refl, ap, ◌∙◌, add-one, arith}
+use Rattle.std.proofs.Common.{◌≡◌, ◌<◌, ◌≤◌, refl, ap, ◌∙◌, add-one, arith, drop-drop}
 use Rattle.definition.specs.Prelude.{ℕ, zero, suc, List, [], length, get_or, take, drop}
 use Rattle.definition.specs.Component as Def
 use Rattle.definition.specs.Image.{Placed}
 use Rattle.definition.specs.Concatenation.{Concatenation}
 use Rattle.stages.specs.ranges.Values.{Tree}
-use Rattle.stages.specs.component.Kept.{Is, Are}
+use Rattle.stages.specs.component.Kept.{Is, Are, KeptIn}
 use Rattle.stages.specs.concatenation.Heads.{HeadIs, HeadsAre}
 use Rattle.stages.specs.declared.component.types.Component.{Component}
 use Rattle.stages.specs.declared.concatenation.stage3.Concatenation.{Concatenation as Now}
@@ -35,6 +35,26 @@ module _ (image : List ℕ) (t : Tree) where
   kth (c ∷ cs) (p ∷ ps) (suc k) h l =
       let r = kth cs ps k h.1 (omega arith) in
       record { one = r.one; rest = further r.one p ps k r.rest; is = r.is }
+
+-- those of one list, then those of another
+module _ (image : List ℕ) (t : Tree) where
+  are_front : (l : List Component) (ps qs : List (Placed Def.Component)) → Are image t (take (length (ps ++ qs)) l) (ps ++ qs) → Are image t (take (length ps) l) ps
+  are_front l [] qs h = tt
+  are_front [] (p ∷ ps) qs h = absurd h
+  are_front (c ∷ l) (p ∷ ps) qs h = (h.0, are_front l ps qs h.1)
+
+  are_back : (l : List Component) (ps qs : List (Placed Def.Component)) → Are image t (take (length (ps ++ qs)) l) (ps ++ qs)
+      → Are image t (take (length qs) (drop (length ps) l)) qs
+  are_back l [] qs h = h
+  are_back [] (p ∷ ps) qs h = absurd h
+  are_back (c ∷ l) (p ∷ ps) qs h = are_back l ps qs h.1
+
+  module _ (kept : List Component) (k : ℕ) (ps qs : List (Placed Def.Component)) (h : KeptIn image t kept k (ps ++ qs)) where
+    pub kept_first : KeptIn image t kept k ps
+    kept_first = are_front (drop k kept) ps qs h
+
+    pub kept_then : KeptIn image t kept (k + length ps) qs
+    kept_then = rw (drop-drop (length ps) k kept) at (are_back (drop k kept) ps qs h)
 
 module _ (image : List ℕ) (kept : List Component) where
   pub heads_length : (xs : List Now) (ds : List Concatenation) → HeadsAre image kept xs ds → length xs ≡ length ds
