@@ -1,5 +1,5 @@
 -- The loop keeps what Signing says.
-use Rattle.std.proofs.Common.{ℕ, ◌-◌, ◌≤◌, List}
+use Rattle.std.proofs.Common.{ℕ, ◌-◌, List}
 use Rattle.definition.specs.Text.{Item}
 use Rattle.stages.specs.token_tree.Laid.{Laid, Runs}
 use Rattle.stages.proofs.ranges.signs.Signing.{Signing}
