@@ -28,9 +28,6 @@ moved_text x v = with_x overflow no_text (x +ℤ v)
 abbrev pub raised_one : Usb → Result Usb
 raised_one e = with_x bound_overflow e.s (e.x +ℤ pos 1)
 
-abbrev pub raised_by : Bool → Result Usb → Result Usb
-raised_by inclusive u = u >>= λ e. if inclusive then raised_one e else ok e
-
 -- where the right side is no number
 abbrev pub text_kept : Part → Part → Part → Result Usb
 text_kept original before kept = elim (number_in before) [ some l ↦ ok (text kept l) | none ↦ ok (text original (pos 0)) ]

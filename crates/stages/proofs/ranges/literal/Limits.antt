@@ -1,18 +1,16 @@
 -- Tests of a number that may be unknown against a literal's width, and 25 to 27 of a range that has an end.
 use Rattle.std.specs.Prelude as Std
-use Rattle.std.specs.Prelude.{Some, None, Ok, Err}
+use Rattle.std.specs.Prelude.{Some, Ok, Err}
 use Rattle.errors.specs.declared.reasons.Reason.TheVariants as Reasons
-use Rattle.std.proofs.Common.{◌≡◌, Bool, true, false, not, sym, refl, ap, ◌∙◌, subst, arith, ltb-false, ltb-true, lt-ltb, le-leb}
+use Rattle.std.proofs.Common.{◌≡◌, Bool, true, false, not, sym, refl, ap, ◌∙◌, arith, lt-ltb}
 use lib.Dec.{eqb-suc-zero}
-use borrow.Author.Tests.{lt-leb}
-use Rattle.definition.specs.Prelude.{ℕ, zero, suc, Option, none, some, List, ltb, leb, ℤ, pos, negsuc, lt_z, le_z, non_neg}
+use Rattle.definition.specs.Prelude.{ℕ, zero, suc, Option, none, some, List, ℤ, pos, negsuc, lt_z, le_z, non_neg}
 use Rattle.definition.specs.Basics.{Result, ok, ◌>>=◌}
 use Rattle.definition.specs.Refusals.{need, end_above_width, range_above_width, end_zero}
 use Rattle.definition.specs.Ranges as D
 use Rattle.definition.specs.Ranges.{static_val, static_width}
 use Rattle.definition.specs.Component.{if_static_end, if_known, is_zero}
-use Rattle.laws.specs.Tests.{by_test}
-use Rattle.numbers.specs.Value.{value_of, option_of}
+use Rattle.numbers.specs.Value.{option_of}
 use Rattle.numbers.specs.declared.I128.{I128}
 use Rattle.stages.specs.ranges.Values.{Tree, usb_of, end_of, usbr_of, Measured, SimplifiedReads}
 use Rattle.stages.specs.ranges.Checks.{passes, end_val, ends_in_zero, Positive, end_checked}

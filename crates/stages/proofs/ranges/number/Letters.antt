@@ -1,9 +1,9 @@
 -- A text that begins above `9` is no number: no sign, no `0` before a radix, and no decimal digit.
 use Rattle.std.specs.Prelude.{◌+◌, ◌*◌, ◌-◌, ◌∷◌, if◌then◌else◌}
 use mathlib.Core.Bool.{and-false}
-use Rattle.std.proofs.Common.{◌≡◌, ◌<◌, ◌≤◌, refl, ap, ◌∙◌, arith, length-drop, le-ltb, ne_eqb}
+use Rattle.std.proofs.Common.{◌≡◌, ◌<◌, ◌≤◌, refl, ap, ◌∙◌, arith, le-ltb, ne_eqb}
 use borrow.Author.Tests.{lt-leb}
-use Rattle.definition.specs.Prelude.{ℕ, zero, suc, Bool, true, false, Option, none, some, List, []}
+use Rattle.definition.specs.Prelude.{ℕ, zero, suc, Bool, true, false, Option, none, some, List}
 use Rattle.definition.specs.Prelude.{length, get_or, take, drop, leb, ltb, eqb}
 use Rattle.definition.specs.Basics.{within}
 use Rattle.definition.specs.Numbers.{digit_worth, digit_in, digits_from, inner, unsigned_parse, try_parse}

@@ -54,18 +54,6 @@ module _ (original before after kept : Text.Part) (negative : Bool) where
   join_kept : number_in after ≡ none → text_kept original before kept ≡ join_parts original before after kept negative
   join_kept e = rw (e, join_parts)
 
--- where the kept text starts
-module _ (p from : ℕ) (negative : Bool) where
-  pub from_minus : negative ≡ true → from ≡ p → from ≡ (if negative then p else p + 1)
-  from_minus n e = rw n e
-
-  pub from_plus : negative ≡ false → from ≡ p + 1 → from ≡ (if negative then p else p + 1)
-  from_plus n e = rw n e
-
-pub kept_from : (p e : ℕ) (negative : Bool) (from : ℕ) → p < e → from ≡ (if negative then p else p + 1) → from ≤ e
-kept_from p e true from l q = omega (arith, l, q)
-kept_from p e false from l q = omega (arith, l, q)
-
 module _ (image : List ℕ) (t : Tree) (base : ℕ) where
   -- an answer that holds a text and a number
   pub made : (s : Part) (x : I128) {m : Result Ranges.Usb} → PartFits image t base s → x.low < 2 ^ 64 → x.high < 2 ^ 64
@@ -76,15 +64,6 @@ module _ (image : List ℕ) (t : Tree) (base : ℕ) where
       → ok (Ranges.text (part_of image t base s) (pos 0)) ≡ m → UsbReads image t base (Ok u) m
   made_new s u {m} q f e =
       rw q (made s zero_i f (omega arith) (omega arith) (ap (λ z. ok (Ranges.text (part_of image t base s) z)) zero_value ∙ e))
-
-  -- ---- with_x
-
-  pub with_some : (s : Part) (n : Std.Option I128) (x : I128) → n ≡ Some x → x.low < 2 ^ 64 → x.high < 2 ^ 64 → PartFits image t base s
-      → UsbReads image t base (Ok (record { s = s; x = x })) (bound_of (part_of image t base s) (option_of n))
-  with_some s n x e l h f = made s x f l h (rw e)
-
-  pub with_none : (s : Part) (n : Std.Option I128) → n ≡ None → UsbReads image t base (Err Reasons.BoundOverflow) (bound_of (part_of image t base s) (option_of n))
-  with_none s n e = record { is = rw e; held = tt }
 
   -- ---- number_right: the left side a number, or a text
 
@@ -117,23 +96,6 @@ module _ (image : List ℕ) (t : Tree) (base : ℕ) where
       (n : option_of l ≡ number_in (text_in image t base s p)) where
     abbrev kept : Text.Part
     kept = if negative then text_in image t base p e else text_in image t base (p + 1) e
-
-    pub kept_number : (part : Part) (x : I128) (from : ℕ) → l ≡ Some x → x.low < 2 ^ 64 → x.high < 2 ^ 64
-        → from ≡ (if negative then p else p + 1) → part ≡ part_by from e
-        → UsbReads image t base (Ok (record { s = part; x = x })) (text_kept (text_in image t base s e) (text_in image t base s p) kept)
-    kept_number part x from h low high g d =
-        made part x (rw d (part_fits image t base from e (within negative g))) low high
-        (ap (λ y. ok (Ranges.text (part_of image t base y) (value_of x))) (d ∙ ap (λ y. part_by y e) g) ∙ same negative
-        ∙ kept_some (text_in image t base s e) (text_in image t base s p) kept (value_of x) (number_is l x n h))
-      where
-        within : (m : Bool) → from ≡ (if m then p else p + 1) → Between image t base from e
-        within true q = let a = b.above in record { above = omega (arith, a, o, q); order = omega (arith, below, q); room = b.room }
-        within false q = let a = b.above in record { above = omega (arith, a, o, q); order = omega (arith, below, q); room = b.room }
-
-        same : (m : Bool) → ok (Ranges.text (text_in image t base (if m then p else p + 1) e) (value_of x))
-            ≡ ok (Ranges.text (if m then text_in image t base p e else text_in image t base (p + 1) e) (value_of x))
-        same true = refl
-        same false = refl
 
     pub kept_whole : (part : Part) (u : Usb) → l ≡ None → part ≡ part_by s e → u ≡ new_by part
         → UsbReads image t base (Ok u) (text_kept (text_in image t base s e) (text_in image t base s p) kept)

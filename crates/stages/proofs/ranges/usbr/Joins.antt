@@ -1,16 +1,15 @@
 -- Stage 2 of a range in code: the width, both bounds one after the other, then the tests.
 use Rattle.std.specs.Prelude as Std
 use Rattle.errors.specs.declared.reasons.Reason.{Reason}
-use Rattle.std.specs.Prelude.{Some, None, Ok, Err, ◌-ℤ◌, if◌then◌else◌}
-use Rattle.std.proofs.Common.{◌≡◌, Bool, true, false, sym, refl, ap, ◌∙◌, subst, arith}
+use Rattle.std.specs.Prelude.{Some, Ok, Err, ◌-ℤ◌, if◌then◌else◌}
+use Rattle.std.proofs.Common.{◌≡◌, Bool, true, false, sym, ap, ◌∙◌, subst}
 use Rattle.definition.specs.Prelude.{ℕ, Option, none, some, List, ℤ}
 use Rattle.definition.specs.Basics.{Result, ok, ◌>>=◌, same_bytes}
 use Rattle.definition.specs.Numbers.{narrow}
 use Rattle.definition.specs.Ranges as D
 use Rattle.definition.specs.Ranges.{static_width}
 use Rattle.definition.specs.Component.{simplify_usb, simplify_end, simplify_range}
-use Rattle.numbers.specs.Value.{value_of, option_of}
-use Rattle.numbers.specs.declared.I128.{I128}
+use Rattle.numbers.specs.Value.{value_of}
 use Rattle.stages.specs.token_tree.Parts.{bytes_in}
 use Rattle.stages.specs.ranges.Values.{Tree, usb_of, end_of, usbr_of, UsbFits, EndFits, UsbReads, EndReads, UsbrReads, SimplifiedReads}
 use Rattle.stages.specs.ranges.Checks.{both_simple, checked_range}
