@@ -1,6 +1,6 @@
 -- What the stages come to, way by way.
 use Rattle.std.specs.Prelude as Std
-use Rattle.std.specs.Prelude.{Some, None, Ok, Err, ◌&&◌, ◌||◌, ◌∷◌}
+use Rattle.std.specs.Prelude.{Some, None, Ok, Err, is_some, ◌&&◌, ◌||◌, ◌∷◌}
 use Rattle.std.proofs.Common.{◌≡◌, ◌≤◌, sym, refl, ap, ◌∙◌, ap₂, arith}
 use lib.Seq.{sets}
 use Rattle.definition.specs.Prelude.{ℕ, Bool, true, false, not, Option, none, some, List, [], map, length, take, leb}
@@ -153,6 +153,11 @@ few_bytes image h =
 given_is : (image : List ℕ) (s : Std.Option Start) → (elim (init_of image s) [ none ↦ false | some q ↦ true ]) ≡ is_given s
 given_is image None = refl
 given_is image (Some s) = refl
+
+-- whether a starting value is given, or held
+pub given : (s : Std.Option Start) (held b : Bool) → b ≡ is_some s → (b || held) ≡ (is_given s || held)
+given None held b e = rw e
+given (Some s) held b e = rw e
 
 -- the stages' own choices stand for those of some call
 some_choices : (told : Told) → (how : Choices) × StandsFor told how
