@@ -21,10 +21,7 @@ use Rattle.stages.specs.answer.merging.Literals.{AppendIs}
 abbrev pub is_near : ℕ → ℕ → Bool
 is_near k n = ltb k (2 ^ 36) && ltb n (2 ^ 36)
 
-pub far_first : (k n : ℕ) → 2 ^ 36 ≤ k → false ≡ is_near k n
-far_first k n h = rw (le-ltb k (2 ^ 36) h)
-
-pub near_second : (k n : ℕ) → k < 2 ^ 36 → ltb n (2 ^ 36) ≡ is_near k n
+near_second : (k n : ℕ) → k < 2 ^ 36 → ltb n (2 ^ 36) ≡ is_near k n
 near_second k n h = rw (lt-ltb k (2 ^ 36) h)
 
 pub record Near (k n : ℕ) : Type 0 where

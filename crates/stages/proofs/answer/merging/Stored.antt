@@ -17,9 +17,6 @@ NoLiteral c = (b : Bits) → c.c_type ≡ T.Literal b → ⊥
 
 module _ (image : List ℕ) (t : Tree) (c : Component) (d : Placed Def.Component) (is : Is image t c d) where
   -- a literal's bits in the image
-  pub bits_fit : (b : Bits) → c.c_type ≡ T.Literal b → BitsFit image b
-  bits_fit b e = subst (TypeFits image t d.base) e is.staged.c_type
-
   pub bits_are : (b : Bits) → c.c_type ≡ T.Literal b → bits_of d.value ≡ Values.bits_of image b
   bits_are b e = ap bits_of (sym is.value) ∙ rw e refl
 
