@@ -1,4 +1,4 @@
-use Rattle.std.proofs.Common.{◌+◌, ◌/◌, sym, true≢false, arith, leb-true}
+use Rattle.std.proofs.Common.{◌+◌, ◌/◌, arith, leb-true}
 use Rattle.stages.proofs.answer.bits.whole.Goals as goal
 
 pub returns : goal.returns

@@ -1,5 +1,4 @@
 -- The three parts of the byte, by powers of two. Their sum is below 256, so each is.
-use Rattle.std.proofs.Common.{◌+◌, ◌*◌, ◌/◌, ◌%◌, ◌<◌, arith}
 use Rattle.stages.proofs.answer.literal_bits.blend.Goals as goal
 
 pub returns : goal.returns

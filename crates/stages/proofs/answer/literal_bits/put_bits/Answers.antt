@@ -1,6 +1,6 @@
 use Rattle.std.proofs.Common.{◌≡◌, ℕ, ◌+◌, List, sym, ap, ◌∙◌, arith}
 use Rattle.stages.specs.answer.literal_bits.Put.{with_bits}
-use Rattle.stages.specs.answer.literal_bits.Places.{with_bits_none, with_bits_more, length_with_bits, put_fits, put_over, put_over_from}
+use Rattle.stages.specs.answer.literal_bits.Places.{with_bits_none, with_bits_more, put_fits, put_over, put_over_from}
 use Rattle.stages.proofs.answer.literal_bits.put_bits.Goals as goal
 
 pub returns-then-n-at : goal.returns-then-n-at
