@@ -1,6 +1,6 @@
 -- Bits behind others: zeros for the new bytes, and then the bits.
 use Rattle.std.specs.Prelude.{◌+◌, ◌*◌, ◌-◌, ◌^◌, ◌&&◌, ◌∷◌, ◌++◌}
-use Rattle.std.proofs.Common.{◌≡◌, ◌<◌, ◌≤◌, replicate, sym, refl, ap, ◌∙◌, true≢false, append-nil, add-zero, zero-add, arith, length-append, length-drop, take-append-drop, drop_of_length-le, take_all, ltb-true, le-ltb, lt-ltb}
+use Rattle.std.proofs.Common.{◌≡◌, ◌<◌, ◌≤◌, replicate, sym, refl, ap, ◌∙◌, true≢false, append-nil, add-zero, zero-add, arith, length-append, length-drop, take-append-drop, drop_of_length-le, take_all, ltb-true, lt-ltb}
 use lib.Seq.{sets, length-sets}
 use Rattle.definition.specs.Prelude.{ℕ, zero, suc, Bool, true, false, not, List, [], length, take, drop, ltb}
 use Rattle.definition.specs.Image.{padded, bytes_at, bytes_for}

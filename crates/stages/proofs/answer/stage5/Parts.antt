@@ -4,7 +4,6 @@ use Rattle.std.specs.Prelude.{Some, None, ◌+◌, ◌*◌, ◌^◌, ◌∷◌, 
 use Rattle.std.proofs.Common.{◌≡◌, ◌<◌, ◌≤◌, sym, refl, ap, ◌∙◌, add-zero, zero-add, arith}
 use Rattle.std.proofs.lemmas.List.Edits.{sets}
 use mathlib.Core.List.{map-map}
-use lib.ListN.{length-map}
 use lib.Seq.{length-sets}
 use Rattle.definition.specs.Prelude.{ℕ, suc, Option, none, some, List, [], map, length}
 use Rattle.definition.specs.Basics.{sum, joined}
