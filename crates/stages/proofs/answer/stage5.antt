@@ -1,2 +1,3 @@
 -- The merged components of every concatenation, and the answer's four parts.
 pub mod Placing
+pub mod Parts

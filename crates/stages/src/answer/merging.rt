@@ -1,7 +1,7 @@
 // Merged components, one kept component after the other: the bits of a run of static literals are written as they come, its block when
 // it ends. "Every maximal run of literals with static ranges becomes one literal from 0 to its width, the sum of the run's widths, the
 // lowest component's bits lowest."
-ghost use Rattle.std.specs.Prelude.{◌≡◌, ℕ, ◌+◌, ◌/◌, ◌^◌, ◌<◌, ◌≤◌, false, List, ◌∷◌, length};
+ghost use Rattle.std.specs.Prelude.{◌≡◌, ◌+◌, ◌/◌, ◌^◌, ◌<◌, false, List, ◌∷◌};
 ghost use Rattle.definition.specs.Image.{Placed};
 ghost use Rattle.definition.specs.Component as Def;
 ghost use Rattle.definition.specs.Concatenation.{is_static_literal, merge};

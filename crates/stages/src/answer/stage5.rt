@@ -1,5 +1,5 @@
 // Stage 5: the whole answer.
-ghost use Rattle.std.specs.Prelude.{◌≡◌, ℕ, List, length};
+ghost use Rattle.std.specs.Prelude.{ℕ, List, length};
 ghost use Rattle.definition.specs.Concatenation as Def;
 ghost use Rattle.stages.specs.answer.Stage5.{PutAllIs, PutFits, Answers, Stage5Is};
 

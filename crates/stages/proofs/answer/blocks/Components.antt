@@ -12,7 +12,6 @@ use Rattle.definition.specs.Concatenation.{bits_of, whole_literal}
 use Rattle.definition.specs.Answer.{text_bytes, usb_bytes, component_bytes}
 use Rattle.stages.specs.token_tree.Parts.{part_of}
 use Rattle.stages.specs.ranges.Values.{Tree, usb_of, end_of, EndFits, UsbrFits}
-use Rattle.stages.specs.component.Kept.{Is}
 use Rattle.stages.specs.component.Values as Values
 use Rattle.stages.specs.component.Values.{end_or, component_of, ComponentStaged}
 use Rattle.stages.specs.answer.Blocks.{word_bytes, usb_block, range_block, present, plain_block, open_block, literal_block, fixed_block}

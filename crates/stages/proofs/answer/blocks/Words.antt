@@ -1,15 +1,14 @@
 -- Numbers written as bytes, and a bound's parts as the definition's bytes of it.
-use Rattle.std.specs.Prelude as Std
-use Rattle.std.specs.Prelude.{Some, None, ◌+◌, ◌-◌, ◌*◌, ◌/◌, ◌%◌, ◌^◌, ◌∷◌, ◌++◌, if◌then◌else◌}
+use Rattle.std.specs.Prelude.{◌+◌, ◌-◌, ◌*◌, ◌/◌, ◌%◌, ◌^◌, ◌∷◌, ◌++◌, if◌then◌else◌}
 use Rattle.std.proofs.Common.{◌≡◌, ◌<◌, ◌≤◌, take, drop, sym, refl, ap, ◌∙◌, ap₂, append_assoc, div-one, add-mul, one-mul, arith, shr-shr}
 use Rattle.std.proofs.lemmas.List.Edits.{sets, sets-eq}
 use borrow.Rule.Slice.PartMut.{put_mid}
 use lib.Pow.{field, mod-mod-pow, high, low}
 use lib.Seq.{drop-drop}
-use Rattle.definition.specs.Prelude.{ℕ, suc, Bool, true, false, none, some, List, [], length, ltb, ℤ, pos, negsuc}
+use Rattle.definition.specs.Prelude.{ℕ, suc, Bool, true, false, none, some, List, [], length, ltb, pos, negsuc}
 use Rattle.definition.specs.Basics.{is_empty, tab}
 use Rattle.definition.specs.Tree.{u32}
-use Rattle.definition.specs.Answer.{text_bytes, twos, x_bytes, usb_bytes}
+use Rattle.definition.specs.Answer.{text_bytes, twos, usb_bytes}
 use Rattle.laws.specs.Padded.{length_padded}
 use Rattle.numbers.specs.Value.{bits, value_of}
 use Rattle.numbers.specs.declared.I128.{I128}

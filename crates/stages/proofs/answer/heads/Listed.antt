@@ -1,5 +1,5 @@
 -- The blocks of concatenations, one after the other, and how many components they have after merging.
-use Rattle.std.specs.Prelude.{◌+◌, ◌*◌, ◌∷◌, ◌++◌}
+use Rattle.std.specs.Prelude.{◌+◌, ◌*◌, ◌∷◌}
 use Rattle.std.proofs.Common.{◌≡◌, ◌<◌, get_or, drop, sym, refl, ap, ◌∙◌, add-zero, arith, length-append}
 use Rattle.std.proofs.lemmas.List.{drop_more}
 use Rattle.std.proofs.lemmas.List.Edits.{sets}

@@ -1,6 +1,6 @@
 -- Bits behind others: zeros for the new bytes, and then the bits.
 use Rattle.std.specs.Prelude.{◌+◌, ◌*◌, ◌-◌, ◌^◌, ◌&&◌, ◌∷◌, ◌++◌}
-use Rattle.std.proofs.Common.{◌≡◌, ◌<◌, ◌≤◌, replicate, sym, refl, ap, ◌∙◌, true≢false, append-nil, add-zero, zero-add, arith, length-append, length-drop, take-append-drop, drop_of_length-le, take_all, ltb-true, le-ltb, lt-ltb}
+use Rattle.std.proofs.Common.{◌≡◌, ◌<◌, ◌≤◌, replicate, sym, refl, ap, ◌∙◌, true≢false, append-nil, add-zero, zero-add, arith, length-append, length-drop, take-append-drop, drop_of_length-le, take_all, ltb-true, lt-ltb}
 use lib.Seq.{sets, length-sets}
 use Rattle.definition.specs.Prelude.{ℕ, zero, suc, Bool, true, false, not, List, [], length, take, drop, ltb}
 use Rattle.definition.specs.Image.{padded, bytes_at, bytes_for}
@@ -21,10 +21,7 @@ use Rattle.stages.specs.answer.merging.Literals.{AppendIs}
 abbrev pub is_near : ℕ → ℕ → Bool
 is_near k n = ltb k (2 ^ 36) && ltb n (2 ^ 36)
 
-pub far_first : (k n : ℕ) → 2 ^ 36 ≤ k → false ≡ is_near k n
-far_first k n h = rw (le-ltb k (2 ^ 36) h)
-
-pub near_second : (k n : ℕ) → k < 2 ^ 36 → ltb n (2 ^ 36) ≡ is_near k n
+near_second : (k n : ℕ) → k < 2 ^ 36 → ltb n (2 ^ 36) ≡ is_near k n
 near_second k n h = rw (lt-ltb k (2 ^ 36) h)
 
 pub record Near (k n : ℕ) : Type 0 where

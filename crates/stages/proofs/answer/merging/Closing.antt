@@ -123,15 +123,6 @@ block_first base w m ms after r room p q =
 
 -- ---- the end of a run
 
-pub close_none : (s : Merging) (area : List ℕ) → s.run ≡ None → CloseIs s s.w area area
-close_none s area t base none ms h room =
-    record {
-      area = base;
-      holds = record { run_is = refl; are_bits = h.are_bits; written = h.written };
-      same = record { bytes = refl; place = refl; room = room };
-    }
-close_none s area t base (some b) ms h room = none_some (sym t ∙ h.run_is)
-
 -- there is room for its block
 pub close_room : (s : Merging) (area : List ℕ) (ms : List (Placed Def.Component)) (bits : ℕ) → s.run ≡ Some bits → Closable area s ms
     → s.w.at + 72 ≤ length area

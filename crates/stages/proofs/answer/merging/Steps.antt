@@ -1,6 +1,5 @@
 -- A component that is no static literal, and a component of either kind.
-use Rattle.std.specs.Prelude as Std
-use Rattle.std.specs.Prelude.{Some, None, ◌+◌, ◌*◌, ◌%◌, ◌^◌, ◌∷◌, ◌++◌}
+use Rattle.std.specs.Prelude.{◌+◌, ◌%◌, ◌^◌, ◌∷◌, ◌++◌}
 use Rattle.std.specs.Option.{unwrap_or}
 use Rattle.std.proofs.Common.{◌≡◌, ◌<◌, ◌≤◌, sym, refl, ap, ◌∙◌, subst, arith, length-append}
 use lib.Seq.{sets}
@@ -13,16 +12,14 @@ use Rattle.definition.specs.Answer.{component_bytes}
 use Rattle.answer_facts.specs.fits.Statement.{literals_of}
 use Rattle.answer_facts.specs.merge.Runs.{Run, run_bits, literal_of, longer, closed, merge_from, from_end, from_static, from_other}
 use Rattle.laws.specs.Tests.{by_test}
-use Rattle.prepared.specs.Bits as Prepared
 use Rattle.prepared.specs.Bits.{length_packed}
 use Rattle.stages.specs.ranges.Values.{Tree}
 use Rattle.stages.specs.component.Kept.{Is}
 use Rattle.stages.specs.component.Values as Values
-use Rattle.stages.specs.component.Values.{component_of}
 use Rattle.stages.specs.answer.Blocks.{plain_block, open_block}
 use Rattle.stages.specs.answer.merging.Put.{Room}
-use Rattle.stages.specs.answer.merging.Blocks.{put_one, written_one, Same, same_then, length_literals}
-use Rattle.stages.specs.answer.merging.State.{Holds, run_by, closed_at, LongerIs, Closes, CloseIs, OtherIs, Goes, StepIs, Writable, Closable}
+use Rattle.stages.specs.answer.merging.Blocks.{Same, same_then, length_literals}
+use Rattle.stages.specs.answer.merging.State.{Holds, closed_at, LongerIs, Closes, CloseIs, OtherIs, Goes, StepIs, Writable, Closable}
 use Rattle.stages.specs.declared.component.types.Bits.{Bits}
 use Rattle.stages.specs.declared.component.types.ComponentType.TheVariants as T
 use Rattle.stages.specs.declared.component.types.Component.{Component}

@@ -9,17 +9,12 @@ use Rattle.definition.specs.Basics.{tab}
 use Rattle.definition.specs.Image.{bytes_for}
 use Rattle.definition.specs.Tree.{packed}
 use Rattle.definition.specs.Ranges.{Usbr, val}
-use Rattle.definition.specs.Component.{ComponentType, literal, variable, filler}
 use Rattle.prepared.specs.Bits as Prepared
 use Rattle.stages.specs.answer.literal_bits.Put.{bits_from}
 
 -- the range of a literal of so many bits that stage 2 or stage 5 leaves
 abbrev pub fixed_range : ℕ → Usbr
 fixed_range n = record { start = val (pos 0); «end» = some (val (pos n)) }
-
--- the bits of a component by its type
-abbrev pub type_bits : ComponentType → List ℕ
-type_bits t = elim t [ literal b ↦ b | variable p ↦ [] | filler ↦ [] ]
 
 module _ {A : Type 0} (f : ℕ → A) where
   pub take_tab : (k from n : ℕ) → take k (tab f from n) ≡ tab f from (min k n)

@@ -24,9 +24,6 @@ overflow_add-k c =
     let n = near_is a.k a.n c.near.result c.near.ensures c.if-not-near.false-raw in
     omega (arith, n.had, n.new)
 
-pub overflow_sub-has : goal.overflow_sub-has
-overflow_sub-has c = omega (arith, c.bytes_for-had.ensures.0, c.bytes_for-has.ensures.0)
-
 pub returns : goal.returns
 returns c =
     let a = c.args in

@@ -1,4 +1,4 @@
-use Rattle.std.proofs.Common.{refl, map, arith, drop_of_length-le}
+use Rattle.std.proofs.Common.{map, arith, drop_of_length-le}
 use Rattle.definition.specs.Basics.{sum}
 use Rattle.stages.proofs.answer.heads.Listed.{size_of, sizes_next, sizes_end}
 use Rattle.stages.proofs.answer.heads.merged_of.Goals as goal

@@ -1,6 +1,6 @@
 use Rattle.std.proofs.Common.{◌≡◌, ℕ, ◌+◌, List, sym, ap, ◌∙◌, arith}
 use Rattle.stages.specs.answer.literal_bits.Put.{with_bits}
-use Rattle.stages.specs.answer.literal_bits.Places.{with_bits_none, with_bits_more, length_with_bits, put_fits, put_over, put_over_from}
+use Rattle.stages.specs.answer.literal_bits.Places.{with_bits_none, with_bits_more, put_fits, put_over, put_over_from}
 use Rattle.stages.proofs.answer.literal_bits.put_bits.Goals as goal
 
 pub returns-then-n-at : goal.returns-then-n-at
@@ -20,21 +20,6 @@ loop-i-init c =
       sym (with_bits_none a.dst.now a.at a.src.now a.from (λ q. (c.slice_known-1.given q).fits)),
     )
 
-pub overflow_add-at : goal.overflow_add-at
-overflow_add-at c = omega arith
-
-pub overflow_add-from : goal.overflow_add-from
-overflow_add-from c = omega arith
-
-pub overflow_sub-n-in-loop-i : goal.overflow_sub-n-in-loop-i
-overflow_sub-n-in-loop-i c = omega arith
-
-pub overflow_add-i : goal.overflow_add-i
-overflow_add-i c = omega arith
-
-pub loop-i-smaller : goal.loop-i-smaller
-loop-i-smaller c = omega (arith, c.put_some-i.ensures.1 (omega arith))
-
 pub loop-i-preserved : goal.loop-i-preserved
 loop-i-preserved c =
     let l = c.loop-i in
@@ -44,9 +29,6 @@ loop-i-preserved c =
           ∙ ap (λ (d : List ℕ). with_bits d (a.at + l.i) a.src.now (a.from + l.i) c.put_some-i.result) l.invariant.1
           ∙ with_bits_more a.dst.now a.at a.src.now a.from l.i c.put_some-i.result,
     )
-
-pub shape_of-dst : goal.shape_of-dst
-shape_of-dst c = rw c.loop-i.invariant.1 (length_with_bits _ _ _ _ _)
 
 pub returns : goal.returns
 returns c =

@@ -12,12 +12,6 @@ returns-then-dst-q c =
       sym (with_bits_past a.dst.now a.at a.src.now a.from a.n (λ q. (c.slice_known-1.given q).fits) (omega arith)),
     )
 
-pub put_whole-requires : goal.put_whole-requires
-put_whole-requires c =
-    let w = c.whole-m in
-    let p : 0 < w.result = omega arith in
-    (omega arith, (w.ensures.2 p).1)
-
 pub returns : goal.returns
 returns c =
     let w = c.whole-m in

@@ -1,4 +1,4 @@
-use Rattle.std.proofs.Common.{◌≡◌, ℕ, ◌+◌, ◌*◌, List, set, sym, ap, ◌∙◌, arith}
+use Rattle.std.proofs.Common.{ℕ, ◌+◌, ◌*◌, List, set, sym, ap, ◌∙◌, arith}
 use Rattle.stages.specs.answer.literal_bits.Places.{with_bits_none, whole_more}
 use Rattle.stages.proofs.answer.literal_bits.put_whole.Goals as goal
 

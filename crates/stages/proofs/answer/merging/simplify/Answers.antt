@@ -1,4 +1,4 @@
-use Rattle.std.proofs.Common.{arith, drop_of_length-le}
+use Rattle.std.proofs.Common.{drop_of_length-le}
 use Rattle.definition.specs.Concatenation.{merge}
 use Rattle.stages.proofs.answer.merging.Turns.{walk_starts, put_at, goes_at, walk_ends, to_end}
 use Rattle.stages.proofs.answer.merging.simplify.Goals as goal
