@@ -1,6 +1,6 @@
 -- Kept components and the placed ones that they are, and concatenations likewise, one by one: how many, and the one at a place.
 use Rattle.std.specs.Prelude.{◌+◌, ◌∷◌, ◌++◌}
-use Rattle.std.proofs.Common.{◌≡◌, ◌<◌, ◌≤◌, refl, ap, ◌∙◌, add-one, arith, drop-drop}
+use Rattle.std.proofs.Common.{◌≡◌, ◌<◌, refl, ap, ◌∙◌, add-one, arith, drop-drop}
 use Rattle.definition.specs.Prelude.{ℕ, zero, suc, List, [], length, get_or, take, drop}
 use Rattle.definition.specs.Component as Def
 use Rattle.definition.specs.Image.{Placed}

@@ -2,7 +2,7 @@
 use Rattle.std.specs.Prelude.{◌&&◌}
 use Rattle.std.proofs.Common.{◌≡◌}
 use Rattle.definition.specs.Prelude.{ℕ, Bool, true, false, not, List, length, leb}
-use Rattle.definition.specs.Basics.{Result, ok, Refusal, refused}
+use Rattle.definition.specs.Basics.{ok, Refusal, refused}
 use Rattle.definition.specs.Concatenation.{Concatenation, is_align, align_multiple}
 use Rattle.definition.specs.Overall.{Overall, overall_from, overall_start, middle_from, opposite_from, stage4}
 use Rattle.stages.specs.concatenation.Overall.{common_of, only_of, checks_of}

@@ -95,13 +95,6 @@ module _ (bare : Bool) (i : ℕ) (d : Concatenation) where
   pub source_none : none ≡ filler_in d → ok tt ≡ check_source bare i d
   source_none e = ap (source_as bare i) e
 
-  pub source_free : (bare && eqb i 0) ≡ false → ok tt ≡ check_source bare i d
-  source_free t = go (filler_in d)
-    where
-      go : (p : Option ℕ) → ok tt ≡ source_as bare i p
-      go none = refl
-      go (some k) = rw t
-
 abbrev middle_as : ℕ → Option ℕ → Result Unit
 middle_as i p = elim p [ none ↦ ok tt | some k ↦ with_places i k (refuse middle_filler) ]
 
@@ -111,9 +104,6 @@ module _ (i : ℕ) (d : Concatenation) where
 
   pub middle_none : is_align d.align align_mid ≡ true → none ≡ unbounded_in d → ok tt ≡ middle_at i d
   middle_none t e = rw t (ap (middle_as i) e)
-
-  pub middle_other : is_align d.align align_mid ≡ false → ok tt ≡ middle_at i d
-  middle_other t = rw t
 
   module _ (later : List Concatenation) where
     pub opposite_found : (j : ℕ) → some j ≡ place_from (is_opposite d) (i + 1) later → refused (refusal_of (number_of opposite_fillers) i j) ≡ opposite_at i d later

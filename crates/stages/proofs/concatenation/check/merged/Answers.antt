@@ -1,4 +1,4 @@
-use Rattle.std.proofs.Common.{ℕ, ◌+◌, ◌≤◌, ◌&&◌, length, sym, ap, ◌∙◌, arith, ◌≡◌}
+use Rattle.std.proofs.Common.{◌+◌, length, sym, ap, ◌∙◌, arith, ◌≡◌}
 use Rattle.definition.specs.Concatenation.{is_static_literal}
 use Rattle.stages.proofs.concatenation.Kept.{are_length, kth}
 use Rattle.stages.proofs.concatenation.check.Counts.{one_more_if}

@@ -3,11 +3,8 @@ use Rattle.definition.specs.Overall.{place_from, is_filler}
 use Rattle.stages.specs.component.Values.{component_of}
 use Rattle.stages.specs.declared.component.types.Component.{Component}
 use Rattle.stages.specs.token_tree.Table.{tree_in}
-use Rattle.stages.proofs.concatenation.stage4.Places.{filler_place, source_found, source_none, source_free}
+use Rattle.stages.proofs.concatenation.stage4.Places.{filler_place, source_found, source_none}
 use Rattle.stages.proofs.concatenation.stage4.check_source.Goals as goal
-
-pub returns-then-not-bare-i : goal.returns-then-not-bare-i
-returns-then-not-bare-i c image d h = source_free c.args.bare c.args.i d c.if-not-bare-i.true
 
 pub returns-in-Some : goal.returns-in-Some
 returns-in-Some c image d h =

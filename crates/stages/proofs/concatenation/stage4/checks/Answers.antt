@@ -1,4 +1,4 @@
-use Rattle.std.proofs.Common.{rules, arith, ◌≡◌, true, false, length, sym, ap, ◌∙◌, Err}
+use Rattle.std.proofs.Common.{rules, arith, ◌≡◌, true, false, ap, ◌∙◌, Err}
 use Rattle.definition.specs.Concatenation.{is_align, align_multiple}
 use Rattle.stages.specs.concatenation.alignment.Align.{align_of}
 use Rattle.stages.specs.concatenation.Overall.{overall_of, only_of}

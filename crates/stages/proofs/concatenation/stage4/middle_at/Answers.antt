@@ -1,17 +1,12 @@
-use Rattle.std.proofs.Common.{rules, arith, ◌≡◌, true, false, sym, ap, ◌∙◌}
+use Rattle.std.proofs.Common.{rules, ◌≡◌, true, ap, ◌∙◌}
 use Rattle.definition.specs.Concatenation.{is_align, align_mid, is_unbounded_filler}
 use Rattle.definition.specs.Overall.{place_from}
 use Rattle.stages.specs.component.Values.{component_of}
 use Rattle.stages.specs.concatenation.alignment.Align.{align_of}
 use Rattle.stages.specs.declared.component.types.Component.{Component}
 use Rattle.stages.specs.token_tree.Table.{tree_in}
-use Rattle.stages.proofs.concatenation.stage4.Places.{unbounded_place, middle_found, middle_none, middle_other}
+use Rattle.stages.proofs.concatenation.stage4.Places.{unbounded_place, middle_found, middle_none}
 use Rattle.stages.proofs.concatenation.stage4.middle_at.Goals as goal
-
-pub returns-then-ne : goal.returns-then-ne
-returns-then-ne c image d h =
-    let other : is_align (align_of c.args.x.running.align) align_mid ≡ false = search rules in
-    middle_other c.args.i d (rw h.summary.align_is at other)
 
 pub returns-in-Some : goal.returns-in-Some
 returns-in-Some c image d h =

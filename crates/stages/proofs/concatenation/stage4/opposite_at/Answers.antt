@@ -1,6 +1,4 @@
-use Rattle.std.proofs.Common.{rules, ◌≡◌, ◌+◌, ◌∷◌, drop, get_or, sym, ap, ◌∙◌}
-use Rattle.stages.specs.concatenation.alignment.Align.{align_of}
-use Rattle.stages.proofs.concatenation.Kept.{ith}
+use Rattle.std.proofs.Common.{rules, ◌+◌, drop, get_or, ◌∙◌}
 use Rattle.stages.proofs.concatenation.stage4.Places.{opposite_to, opposite_place, opposite_found, opposite_none, nowhere, align_here}
 use Rattle.stages.proofs.concatenation.stage4.opposite_at.Goals as goal
 
