@@ -34,7 +34,8 @@ module _ (i : ℕ) (l : List Concatenation) (d : Concatenation) (here : drop i l
     unfolding overall_from
     over_off q e = rw (here, ← e)
 
-    pub over_source : (p : Overall) (q : Refusal) → ok p ≡ join_width i d o → refused q ≡ check_source bare i d → refused q ≡ overall_from bare i (drop i l) o
+    pub over_source : (p : Overall) (q : Refusal) → ok p ≡ join_width i d o → refused q ≡ check_source bare i d
+        → refused q ≡ overall_from bare i (drop i l) o
     unfolding overall_from
     over_source p q e f = rw (here, ← e, ← f)
 

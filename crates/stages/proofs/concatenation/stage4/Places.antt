@@ -59,7 +59,8 @@ module _ (image : List ℕ) (t : Tree) where
   unbounded_type base T.Filler x y e = ap not e
 
   unbounded_alike : (c : Component) (base : ℕ) → is_unbounded_filler (component_of image t 0 c) ≡ is_unbounded_filler (component_of image t base c)
-  unbounded_alike c base = unbounded_type base c.c_type (there (end_of image t 0 c.range.end)) (there (end_of image t base c.range.end)) (ends_alike base c.range.end)
+  unbounded_alike c base =
+      unbounded_type base c.c_type (there (end_of image t 0 c.range.end)) (there (end_of image t base c.range.end)) (ends_alike base c.range.end)
 
   places_alike : (p : Component → Bool) (q : Def.Component → Bool) → ((c : Component) (base : ℕ) → p c ≡ q (component_of image t base c))
       → (cs : List Component) (ps : List (Placed Def.Component)) (n : ℕ) → Are image t cs ps
@@ -74,10 +75,12 @@ module _ (image : List ℕ) (kept : List Component) (x : Now) (d : Concatenation
   comps_are : Are image (tree_in image) (take x.len (drop x.first.0 kept)) d.comps
   comps_are = rw h.len_is h.comps
 
-  pub filler_place : place_from (λ (c : Component). is_filler (component_of image (tree_in image) 0 c)) 0 (take x.len (drop x.first.0 kept)) ≡ filler_in d
+  pub filler_place : place_from (λ (c : Component). is_filler (component_of image (tree_in image) 0 c)) 0 (take x.len (drop x.first.0 kept))
+      ≡ filler_in d
   filler_place = places_alike image (tree_in image) _ is_filler (filler_alike image (tree_in image)) _ d.comps 0 comps_are
 
-  pub unbounded_place : place_from (λ (c : Component). is_unbounded_filler (component_of image (tree_in image) 0 c)) 0 (take x.len (drop x.first.0 kept)) ≡ unbounded_in d
+  pub unbounded_place : place_from (λ (c : Component). is_unbounded_filler (component_of image (tree_in image) 0 c)) 0 (take x.len (drop x.first.0 kept))
+      ≡ unbounded_in d
   unbounded_place = places_alike image (tree_in image) _ is_unbounded_filler (unbounded_alike image (tree_in image)) _ d.comps 0 comps_are
 
 -- ---- what is said where one is found, and where none is
@@ -86,7 +89,8 @@ abbrev source_as : Bool → ℕ → Option ℕ → Result Unit
 source_as bare i p = elim p [ none ↦ ok tt | some k ↦ with_places 0 k (need (not (bare && eqb i 0)) filler_without_start) ]
 
 module _ (bare : Bool) (i : ℕ) (d : Concatenation) where
-  pub source_found : (k : ℕ) → some k ≡ filler_in d → (bare && eqb i 0) ≡ true → refused (refusal_of (number_of filler_without_start) 0 k) ≡ check_source bare i d
+  pub source_found : (k : ℕ) → some k ≡ filler_in d → (bare && eqb i 0) ≡ true
+      → refused (refusal_of (number_of filler_without_start) 0 k) ≡ check_source bare i d
   source_found k e t = here t ∙ ap (source_as bare i) e
     where
       here : (bare && eqb i 0) ≡ true → refused (refusal_of (number_of filler_without_start) 0 k) ≡ source_as bare i (some k)
@@ -99,14 +103,16 @@ abbrev middle_as : ℕ → Option ℕ → Result Unit
 middle_as i p = elim p [ none ↦ ok tt | some k ↦ with_places i k (refuse middle_filler) ]
 
 module _ (i : ℕ) (d : Concatenation) where
-  pub middle_found : (k : ℕ) → is_align d.align align_mid ≡ true → some k ≡ unbounded_in d → refused (refusal_of (number_of middle_filler) i k) ≡ middle_at i d
+  pub middle_found : (k : ℕ) → is_align d.align align_mid ≡ true → some k ≡ unbounded_in d
+      → refused (refusal_of (number_of middle_filler) i k) ≡ middle_at i d
   middle_found k t e = rw t (ap (middle_as i) e)
 
   pub middle_none : is_align d.align align_mid ≡ true → none ≡ unbounded_in d → ok tt ≡ middle_at i d
   middle_none t e = rw t (ap (middle_as i) e)
 
   module _ (later : List Concatenation) where
-    pub opposite_found : (j : ℕ) → some j ≡ place_from (is_opposite d) (i + 1) later → refused (refusal_of (number_of opposite_fillers) i j) ≡ opposite_at i d later
+    pub opposite_found : (j : ℕ) → some j ≡ place_from (is_opposite d) (i + 1) later
+        → refused (refusal_of (number_of opposite_fillers) i j) ≡ opposite_at i d later
     opposite_found j e = ap (opposite_as i) (e ∙ ap (λ n. place_from (is_opposite d) n later) (add-one i))
 
     pub opposite_none : none ≡ place_from (is_opposite d) (i + 1) later → ok tt ≡ opposite_at i d later
