@@ -1,6 +1,6 @@
 -- Kept components and the placed ones that they are, and concatenations likewise, one by one: how many, and the one at a place.
 use Rattle.std.specs.Prelude.{◌+◌, ◌∷◌, ◌++◌}
-use Rattle.std.proofs.Common.{◌≡◌, ◌<◌, ◌≤◌, refl, ap, ◌∙◌, add-one, arith, drop-drop}
+use Rattle.std.proofs.Common.{◌≡◌, ◌<◌, refl, ap, ◌∙◌, add-one, arith, drop-drop}
 use Rattle.definition.specs.Prelude.{ℕ, zero, suc, List, [], length, get_or, take, drop}
 use Rattle.definition.specs.Component as Def
 use Rattle.definition.specs.Image.{Placed}
@@ -38,7 +38,8 @@ module _ (image : List ℕ) (t : Tree) where
 
 -- those of one list, then those of another
 module _ (image : List ℕ) (t : Tree) where
-  are_front : (l : List Component) (ps qs : List (Placed Def.Component)) → Are image t (take (length (ps ++ qs)) l) (ps ++ qs) → Are image t (take (length ps) l) ps
+  are_front : (l : List Component) (ps qs : List (Placed Def.Component)) → Are image t (take (length (ps ++ qs)) l) (ps ++ qs)
+      → Are image t (take (length ps) l) ps
   are_front l [] qs h = tt
   are_front [] (p ∷ ps) qs h = absurd h
   are_front (c ∷ l) (p ∷ ps) qs h = (h.0, are_front l ps qs h.1)

@@ -1,3 +1,4 @@
 -- Laws that the functions' proofs cite.
-pub mod Loops
 pub mod Ends
+pub mod Loops
+pub mod Places

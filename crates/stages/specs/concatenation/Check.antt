@@ -2,7 +2,7 @@
 use Rattle.std.specs.Prelude as Std
 use Rattle.std.specs.Prelude.{Ok, Err}
 use Rattle.definition.specs.Prelude.{List}
-use Rattle.definition.specs.Basics.{Result, ok, refused}
+use Rattle.definition.specs.Basics.{Result, ok}
 use Rattle.definition.specs.Image.{Placed}
 use Rattle.definition.specs.Component.{Component}
 use Rattle.definition.specs.Concatenation.{Concatenation, Running}

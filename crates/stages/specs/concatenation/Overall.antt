@@ -1,13 +1,13 @@
 -- What stage 4 reads of a concatenation, its answer in code, and its steps.
-use Rattle.definition.specs.Prelude.{ℕ, suc, Bool, true, false, not, Option, none, some, List, [], length, eqb}
+use Rattle.definition.specs.Prelude.{ℕ, suc, Bool, true, false, not, Option, none, some, List, length, eqb}
 use Rattle.std.specs.Prelude as Std
-use Rattle.std.specs.Prelude.{Some, None, Ok, Err, ◌≡◌, ◌&&◌, ◌||◌, ◌∷◌, if◌then◌else◌}
-use Rattle.definition.specs.Basics.{Result, ok, refused, refusal_of, ◌>>=◌, with_places}
+use Rattle.std.specs.Prelude.{Some, None, Ok, Err, ◌≡◌, ◌&&◌, ◌||◌, if◌then◌else◌}
+use Rattle.definition.specs.Basics.{Result, ok, ◌>>=◌, with_places}
 use Rattle.definition.specs.Refusals.{need, refuse, no_common_width, only_source, middle_filler, opposite_fillers}
 use Rattle.definition.specs.Image.{Placed}
 use Rattle.definition.specs.Component.{Component}
 use Rattle.definition.specs.Concatenation.{Concatenation, FillerAlign, is_align, align_mid, align_multiple, is_unbounded_filler}
-use Rattle.definition.specs.Overall.{Overall, place_from, is_filler, join_align, join_width, check_source, middle_from, opposite_from, is_sided}
+use Rattle.definition.specs.Overall.{Overall, place_from, is_filler, join_align, middle_from, opposite_from, is_sided}
 use Rattle.numbers.specs.Value.{option_usize}
 use Rattle.errors.specs.Refused.{refused_as}
 use Rattle.errors.specs.declared.Refusal.{Refusal}
@@ -48,10 +48,6 @@ joined c at w o =
 abbrev pub and_then : {A : Type 0} → Result Unit → Result A → Result A
 and_then a r = a >>= λ _. r
 
--- one turn of overall_from
-abbrev pub turn : Bool → ℕ → Concatenation → Overall → Result Overall
-turn bare i c o = join_width i c o >>= λ o'. check_source bare i c >>= λ _. ok o'
-
 -- what middle_from says of one concatenation
 abbrev pub middle_at : ℕ → Concatenation → Result Unit
 middle_at i c = if is_align c.align align_mid then elim (unbounded_in c) [ none ↦ ok tt | some k ↦ with_places i k (refuse middle_filler) ] else ok tt
@@ -84,7 +80,3 @@ abbrev pub checks_of : ℕ → List Concatenation → Overall → Result Overall
 checks_of mode l o =
     and_then (common_of mode o.width) (and_then (only_of (length l) o.deterministic) (and_then (middle_of o.deterministic l)
     (and_then (opposite_of o.deterministic o.align l) (ok o))))
-
--- a refusal at a place, if there is one
-abbrev pub refused_by : ℕ → ℕ → Option ℕ → Result Unit
-refused_by number i p = elim p [ none ↦ ok tt | some k ↦ refused (refusal_of number i k) ]

@@ -59,11 +59,12 @@ pub(crate) fn stage3(
         let len = components_of(image, i);
         let first = k.0 as usize;
         let comps = &kept[first..first + len as usize];
+        let running = check(i, comps)?;
         heads[i as usize] = Concatenation {
             first: k,
             len,
             merged: merged(comps),
-            running: check(i, comps)?,
+            running,
         };
         k = PVal(k.0 + len);
     }

@@ -1,6 +1,6 @@
 -- The loops over the kept components of a concatenation: one turn, and the end.
 use Rattle.std.specs.Prelude.{◌+◌, ◌-◌, ◌&&◌, ◌∷◌}
-use Rattle.std.proofs.Common.{◌≡◌, ◌<◌, ◌≤◌, sym, refl, ap, ◌∙◌, add-zero, zero-add, add-one, arith, length-drop, eq-eqb, ne_eqb}
+use Rattle.std.proofs.Common.{◌≡◌, ◌<◌, ◌≤◌, sym, ap, ◌∙◌, add-zero, zero-add, add-one, arith, length-drop, eq-eqb, ne_eqb}
 use Rattle.definition.specs.Prelude.{ℕ, suc, Bool, true, false, not, List, [], length, drop, eqb}
 use Rattle.definition.specs.Basics.{Result, ok, Refusal, refused, ◌>>=◌, with_places, is_empty}
 use Rattle.definition.specs.Component as Def

@@ -1,6 +1,6 @@
 -- Stage 3 after i concatenations: those that are done, with their heads, and what is left to come.
 use Rattle.std.specs.Prelude.{◌+◌, ◌∷◌, ◌++◌, set}
-use Rattle.std.proofs.Common.{◌≡◌, ◌<◌, ◌≤◌, sym, refl, ap, ◌∙◌, subst, append_assoc, append-nil, add-one, arith, length-append}
+use Rattle.std.proofs.Common.{◌≡◌, ◌<◌, sym, refl, ap, ◌∙◌, subst, append_assoc, append-nil, add-one, arith}
 use Rattle.std.proofs.lemmas.List.{take_more_set}
 use Rattle.definition.specs.Prelude.{ℕ, suc, List, [], length, take, drop}
 use Rattle.definition.specs.Basics.{Result, ok, Refusal, refused, ◌>>=◌}
@@ -52,7 +52,8 @@ module _ (image : List ℕ) (kept : List Component) where
 
   module _ (heads : List Now) (i : ℕ) (tree : List (List (Placed Def.Component))) (h : Done image kept heads i tree) where
     module _ (cs : List (Placed Def.Component)) (here : drop i tree ≡ cs ∷ drop (i + 1) tree) where
-      pub done_more : (x : Now) (d : Concatenation) → HeadIs image kept x d → ok d ≡ check i cs → i < length heads → Done image kept (set heads i x) (i + 1) tree
+      pub done_more : (x : Now) (d : Concatenation) → HeadIs image kept x d → ok d ≡ check i cs → i < length heads
+          → Done image kept (set heads i x) (i + 1) tree
       unfolding stage3
       done_more x d is said l =
           record {

@@ -68,11 +68,13 @@ pub record Room (k n room : ℕ) : Type 0 where
   pub inside : k + n ≤ room
   pub few : k + n ≤ 256
 
-pub room_for : (image : List ℕ) (cc : List (List (Placed Def.Component))) (c : ℕ) (kept : List Component) (heads : ℕ) → CountsFit image cc c kept heads
-    → (k i n : ℕ) → k + length (joined (drop i cc)) ≡ length (joined cc) → i < c → n ≡ u32_at image (40 + 4 * i) → Room k n (length kept)
-room_for image cc c kept heads f k i n at l e =
+pub room_for : (image : List ℕ) (c : ℕ) (kept : List Component) (heads : ℕ) → ((cc : List (List (Placed Def.Component))) × CountsFit image cc c kept heads)
+    → (k i n : ℕ)
+    → ((cc : List (List (Placed Def.Component))) → length cc ≡ c → Sizes image 0 cc → k + length (joined (drop i cc)) ≡ length (joined cc))
+    → i < c → n ≡ u32_at image (40 + 4 * i) → Room k n (length kept)
+room_for image c kept heads (cc, f) k i n left l e =
     let p = part_at image i cc f.sizes (rw f.count l) in
-    let a = left_on image cc k i n p e at in
+    let a = left_on image cc k i n p e (left cc f.count f.sizes) in
     let b = f.few_components in
     let d = f.kept_fit in
     record { inside = omega (arith, a, d); few = omega (arith, a, b) }

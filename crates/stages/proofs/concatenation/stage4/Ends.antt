@@ -1,32 +1,39 @@
 -- The checks of stage 4 after its loop, and its end.
 use Rattle.std.specs.Prelude.{◌&&◌}
-use mathlib.Core.Bool.{or-true}
-use Rattle.std.proofs.Common.{◌≡◌, eq-eqb, ne_eqb}
-use Rattle.definition.specs.Refusals.{number_of, no_common_width}
-use Rattle.definition.specs.Basics.{ok, Refusal, refused, refusal_of}
-use Rattle.definition.specs.Overall.{Overall, overall_from, overall_start, stage4}
-use Rattle.definition.specs.Concatenation.{Concatenation}
-use Rattle.definition.specs.Prelude.{ℕ, Option, none, some, Bool, true, not, List, leb, eqb}
-use Rattle.laws.specs.Tests.{and_iff, eqb_iff}
-use Rattle.stages.specs.concatenation.Overall.{common_of, checks_of}
+use Rattle.std.proofs.Common.{◌≡◌}
+use Rattle.definition.specs.Prelude.{ℕ, Bool, true, false, not, List, length, leb}
+use Rattle.definition.specs.Basics.{ok, Refusal, refused}
+use Rattle.definition.specs.Concatenation.{Concatenation, is_align, align_multiple}
+use Rattle.definition.specs.Overall.{Overall, overall_from, overall_start, middle_from, opposite_from, stage4}
+use Rattle.stages.specs.concatenation.Overall.{common_of, only_of, checks_of}
 
-pub common_known : (mode : ℕ) (p : Option ℕ) (w : ℕ) → p ≡ some w → ok tt ≡ common_of mode p
-common_known mode p w e = rw (e, or-true (not (eqb mode 2)))
+module _ (mode : ℕ) (l : List Concatenation) (o : Overall) (common : ok tt ≡ common_of mode o.width) where
+  pub only_off : (q : Refusal) → refused q ≡ only_of (length l) o.deterministic → refused q ≡ checks_of mode l o
+  only_off q e = rw (← common, ← e)
 
-pub common_lacking : (mode : ℕ) (p : Option ℕ) → p ≡ none → mode ≡ 2 → refused (refusal_of (number_of no_common_width) 0 0) ≡ common_of mode p
-common_lacking mode p e h = rw (e, eq-eqb mode 2 h)
+  module _ (only : ok tt ≡ only_of (length l) o.deterministic) where
+    pub settled : o.deterministic ≡ true → ok o ≡ checks_of mode l o
+    settled t = rw (← common, ← only, t)
 
-pub common_free : (mode : ℕ) (p : Option ℕ) → p ≡ none → (mode ≡ 2 → ⊥) → ok tt ≡ common_of mode p
-common_free mode p e h = rw (e, ne_eqb mode 2 h)
+    module _ (unsure : o.deterministic ≡ false) where
+      pub middle_off : (q : Refusal) → refused q ≡ middle_from 0 l → refused q ≡ checks_of mode l o
+      middle_off q e = rw (← common, ← only, unsure, ← e)
 
-pub first_of : (bare : Bool) (i : ℕ) → (bare && eqb i 0) ≡ true → i ≡ 0
-first_of bare i t = (eqb_iff i 0).0 ((and_iff bare (eqb i 0)).0 t).1
+      module _ (middle : ok tt ≡ middle_from 0 l) where
+        pub one_sided : is_align o.align align_multiple ≡ false → ok o ≡ checks_of mode l o
+        one_sided t = rw (← common, ← only, unsure, ← middle, t)
+
+        pub opposite_off : is_align o.align align_multiple ≡ true → (q : Refusal) → refused q ≡ opposite_from 0 l → refused q ≡ checks_of mode l o
+        opposite_off t q e = rw (← common, ← only, unsure, ← middle, t, ← e)
+
+        pub passed : is_align o.align align_multiple ≡ true → ok tt ≡ opposite_from 0 l → ok o ≡ checks_of mode l o
+        passed t e = rw (← common, ← only, unsure, ← middle, t, ← e)
 
 module _ (mode : ℕ) (given : Bool) (l : List Concatenation) where
-  pub ends : (o : Overall) → overall_from (leb 1 mode && not given) 0 l (overall_start l) ≡ ok o → checks_of mode l o ≡ stage4 mode given l
+  pub ends : (o : Overall) → ok o ≡ overall_from (leb 1 mode && not given) 0 l (overall_start l) → checks_of mode l o ≡ stage4 mode given l
   unfolding stage4
-  ends o e = rw e
+  ends o e = rw (← e)
 
-  pub refuses : (q : Refusal) → overall_from (leb 1 mode && not given) 0 l (overall_start l) ≡ refused q → refused q ≡ stage4 mode given l
+  pub refuses : (q : Refusal) → refused q ≡ overall_from (leb 1 mode && not given) 0 l (overall_start l) → refused q ≡ stage4 mode given l
   unfolding stage4
-  refuses q e = rw e
+  refuses q e = rw (← e)

@@ -1,6 +1,6 @@
 -- `stages::run::later` meets its contract: stage 3, and what comes behind it. Assumes nothing.
 use Rattle.std.specs.Prelude.{Err}
-use Rattle.std.proofs.Common.{◌≡◌, rules}
+use Rattle.std.proofs.Common.{◌≡◌, ◌≤◌, rules, arith}
 use Rattle.stages.proofs.run.Outcomes.{read_counts, few_heads, judged_fits, later_on, later_off}
 use Rattle.stages.proofs.run.later.Goals as goal
 
@@ -8,7 +8,10 @@ pub stage3-requires : goal.stage3-requires
 stage3-requires c = let (fits, f) = c.requires in (f.cc, read_counts fits f 16 (few_heads fits f))
 
 pub slice_bounds-heads-end : goal.slice_bounds-heads-end
-slice_bounds-heads-end c = ?
+slice_bounds-heads-end c =
+    let (fits, f) = c.requires in
+    let few = few_heads fits f in
+    omega (arith, few, c.stage3.auto.heads)
 
 pub judged-requires : goal.judged-requires
 judged-requires c =

@@ -1,13 +1,12 @@
 -- What stage 3 asks of a component, the running check in code, and one step of it.
 use Rattle.definition.specs.Prelude.{ℕ, Bool, true, false, not, Option, none, some, ltb, eqb, ℤ, nat_abs}
 use Rattle.std.specs.Prelude as Std
-use Rattle.std.specs.Prelude.{Some, Ok, Err, ◌≡◌, ◌+◌, ◌^◌, ◌&&◌, ◌||◌, if◌then◌else◌}
+use Rattle.std.specs.Prelude.{Some, Ok, Err, ◌+◌, ◌^◌, ◌&&◌}
 use Rattle.definition.specs.Basics.{Result, ok, refused, ◌>>=◌, with_places}
-use Rattle.definition.specs.Refusals.{need, literal_in_sink, lone_filler_sink, second_filler, zero_total_width, sum_overflow}
-use Rattle.definition.specs.Ranges.{static_width}
-use Rattle.definition.specs.Component.{Component, ComponentType, literal, variable, filler, has_end}
-use Rattle.definition.specs.Concatenation.{Running, add_width, check_type, has_full_range, is_align, align_none, align_of as placed_align}
-use Rattle.numbers.specs.Value.{option_of, option_usize}
+use Rattle.definition.specs.Refusals.{need, lone_filler_sink, second_filler, zero_total_width, sum_overflow}
+use Rattle.definition.specs.Component.{Component}
+use Rattle.definition.specs.Concatenation.{Running, add_width, check_type, is_align, align_none, align_of as placed_align}
+use Rattle.numbers.specs.Value.{option_usize}
 use Rattle.errors.specs.Refused.{refused_as}
 use Rattle.errors.specs.declared.Refusal.{Refusal}
 use Rattle.stages.specs.concatenation.alignment.Align.{align_of}

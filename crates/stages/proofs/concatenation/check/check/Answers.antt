@@ -1,6 +1,5 @@
-use Rattle.std.proofs.Common.{ℕ, ◌+◌, length, eqb, sym, ap, ◌∙◌, arith, Ok, Err, ◌≡◌}
-use Rattle.definition.specs.Basics.{Result, ok, refusal_of}
-use Rattle.errors.specs.Refused.{result_of}
+use Rattle.std.proofs.Common.{length, sym, ◌∙◌, arith, Err, ◌≡◌}
+use Rattle.definition.specs.Basics.{refusal_of}
 use Rattle.stages.specs.concatenation.running_check.Running.{running_of}
 use Rattle.stages.proofs.concatenation.Kept.{are_length, kth}
 use Rattle.stages.proofs.concatenation.check.Turns.{ordered, check_on, check_off, checked_off, checked_end}

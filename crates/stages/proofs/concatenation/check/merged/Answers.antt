@@ -1,4 +1,4 @@
-use Rattle.std.proofs.Common.{ℕ, ◌+◌, ◌≤◌, ◌&&◌, length, sym, ap, ◌∙◌, arith, ◌≡◌}
+use Rattle.std.proofs.Common.{◌+◌, length, sym, ap, ◌∙◌, arith, ◌≡◌}
 use Rattle.definition.specs.Concatenation.{is_static_literal}
 use Rattle.stages.proofs.concatenation.Kept.{are_length, kth}
 use Rattle.stages.proofs.concatenation.check.Counts.{one_more_if}
@@ -29,5 +29,8 @@ loop-c-preserved c =
     }
 
 pub returns : goal.returns
-returns c = (omega arith, λ image t cs a. count_end cs c.loop-c.c-index (length c.args.comps.now) c.loop-c.m c.loop-c.was (sym (are_length image t c.args.comps.now cs a))
-    c.loop-c-test.false (c.loop-c.invariant.counts image t cs a))
+returns c = (
+  omega arith,
+  λ image t cs a. count_end cs c.loop-c.c-index (length c.args.comps.now) c.loop-c.m c.loop-c.was (sym (are_length image t c.args.comps.now cs a))
+      c.loop-c-test.false (c.loop-c.invariant.counts image t cs a),
+)

@@ -11,5 +11,5 @@ abbrev pub invariant-loop-c : goal.invariant-loop-c
 invariant-loop-c l = record {
   few : l.m ≤ l.c-index;
   counts : (image : List ℕ) (t : TreeIn) (cs : List (Placed Def.Component)) → Are image t l.comps cs
-      → l.m + count_from l.was (drop l.c-index cs) ≡ length (merge cs)
+      → l.m + count_from l.was (drop l.c-index cs) ≡ length (merge cs);
 }

@@ -1,10 +1,6 @@
-use Rattle.std.proofs.Common.{◌+◌, sym, ap, ◌∙◌, add-zero, arith}
-use Rattle.definition.specs.Overall.{place_from}
+use Rattle.std.proofs.Common.{sym, ◌∙◌}
 use Rattle.stages.proofs.concatenation.Places.{place_here, place_next, place_end}
 use Rattle.stages.proofs.concatenation.position.position.Goals as goal
-
-pub loop-i-init : goal.loop-i-init
-loop-i-init g c p h = ap (λ n. place_from p n c.args.items.now) (add-zero c.args.n)
 
 pub returns-then-test : goal.returns-then-test
 returns-then-test g c p h =

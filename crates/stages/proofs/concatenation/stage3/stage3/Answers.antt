@@ -1,4 +1,4 @@
-use Rattle.std.proofs.Common.{rules, ◌≡◌, ◌+◌, ◌-◌, ◌≤◌, length, take, drop, ◌∙◌, sym, zero-add, arith, Err, length-take, length-drop}
+use Rattle.std.proofs.Common.{rules, ◌≡◌, ◌-◌, length, take, ◌∙◌, zero-add, arith, Err}
 use Rattle.definition.specs.Basics.{joined, refusal_of}
 use Rattle.definition.specs.Concatenation.{stage3}
 use Rattle.stages.specs.token_tree.Table.{tree_in}
@@ -19,22 +19,18 @@ loop-i-init c =
 
 pub slice_bounds-comps-end : goal.slice_bounds-comps-end
 slice_bounds-comps-end c =
-    let s = c.args in
-    let (cc, f) = c.requires in
     let v = c.loop-i in
-    let room = room_for s.image.now cc s.c s.kept.now (length s.heads.now) f v.k.0 v.i c.components_of-len.result
-    (v.invariant.left cc f.count f.sizes) c.loop-i-test.true c.components_of-len.ensures in
+    let n = c.components_of-len in
+    let room = room_for _ _ _ _ c.requires v.k.0 v.i n.result v.invariant.left c.loop-i-test.true n.ensures in
     let a = room.inside in
     search rules
 
 pub merged-requires : goal.merged-requires
 merged-requires c =
-    let s = c.args in
-    let (cc, f) = c.requires in
     let v = c.loop-i in
     let n = c.components_of-len in
-    let room = room_for s.image.now cc s.c s.kept.now (length s.heads.now) f v.k.0 v.i n.result (v.invariant.left cc f.count f.sizes) c.loop-i-test.true n.ensures in
-    slice_few s.kept.now v.k.0 n.result room
+    let room = room_for _ _ _ _ c.requires v.k.0 v.i n.result v.invariant.left c.loop-i-test.true n.ensures in
+    slice_few c.args.kept.now v.k.0 n.result room
 
 pub check-requires : goal.check-requires
 check-requires c =
@@ -43,44 +39,46 @@ check-requires c =
     let v = c.loop-i in
     let n = c.components_of-len in
     let p = part_at s.image.now v.i cc f.sizes (rw f.count c.loop-i-test.true) in
-    let room = room_for s.image.now cc s.c s.kept.now (length s.heads.now) f v.k.0 v.i n.result (v.invariant.left cc f.count f.sizes) c.loop-i-test.true n.ensures in
-    let h = (v.invariant.done cc f.count f.sizes f.are).0 in
-    (s.image.now, tree_in s.image.now, p.here, part_are s.image.now s.kept.now v.k.0 v.i cc p h n.result (n.ensures ∙ p.size), slice_few s.kept.now v.k.0 n.result room)
+    let room = room_for _ _ _ _ c.requires v.k.0 v.i n.result v.invariant.left c.loop-i-test.true n.ensures in
+    let h = (v.invariant.done cc f.count f.sizes f.are).0 in (
+      s.image.now,
+      tree_in s.image.now,
+      p.here,
+      part_are s.image.now s.kept.now v.k.0 v.i cc p h n.result (n.ensures ∙ p.size),
+      slice_few s.kept.now v.k.0 n.result room,
+    )
 
 pub overflow_add-k : goal.overflow_add-k
 overflow_add-k c =
-    let s = c.args in
-    let (cc, f) = c.requires in
     let v = c.loop-i in
     let n = c.components_of-len in
-    let room = room_for s.image.now cc s.c s.kept.now (length s.heads.now) f v.k.0 v.i n.result (v.invariant.left cc f.count f.sizes) c.loop-i-test.true n.ensures in
+    let room = room_for _ _ _ _ c.requires v.k.0 v.i n.result v.invariant.left c.loop-i-test.true n.ensures in
     let few = room.few in
     omega (arith, few)
 
-pub returns-in_err-check : goal.returns-in_err-check
-returns-in_err-check c cc e z h =
+pub returns-in_err-running : goal.returns-in_err-running
+returns-in_err-running c cc e z h =
     let s = c.args in
     let v = c.loop-i in
     let n = c.components_of-len in
     let w = v.invariant.done cc e z h in
     let p = part_at s.image.now v.i cc z (rw e c.loop-i-test.true) in
-    let q = c.in_err-check.field-0.0 in
+    let q = c.in_err-running.field-0.0 in
     let same : c.from_residual.result ≡ Err q = grind arith in
     rw same
     (refused_is s.image.now s.kept.now (take s.c v.heads) (stage3 0 cc) (refusal_of q.number q.concatenation q.component)
-    (done_off s.image.now s.kept.now v.heads v.i cc w.1 p.here p.rest _ (c.in_err-check.ensures s.image.now (tree_in s.image.now) p.here
+    (done_off s.image.now s.kept.now v.heads v.i cc w.1 p.here p.rest _ (c.in_err-running.ensures s.image.now (tree_in s.image.now) p.here
     (part_are s.image.now s.kept.now v.k.0 v.i cc p w.0 n.result (n.ensures ∙ p.size)))))
 
 pub loop-i-preserved : goal.loop-i-preserved
 loop-i-preserved c =
     let s = c.args in
-    let (cf, f) = c.requires in
     let v = c.loop-i in
     let l = c.loop-i-test.true in
     let n = c.components_of-len in
-    let r = c.in_ok-check.field-0 in
-    let room = room_for s.image.now cf s.c s.kept.now (length s.heads.now) f v.k.0 v.i n.result (v.invariant.left cf f.count f.sizes) l n.ensures in
-    let fit = f.heads_fit in
+    let r = c.in_ok-running.running in
+    let room = room_for _ _ _ _ c.requires v.k.0 v.i n.result v.invariant.left c.loop-i-test.true n.ensures in
+    let fit = c.requires.1.heads_fit in
     let long = v.auto.heads in
     record {
       left = λ cc e z. left_on s.image.now cc v.k.0 v.i n.result (part_at s.image.now v.i cc z (rw e l)) n.ensures (v.invariant.left cc e z);
@@ -94,7 +92,7 @@ loop-i-preserved c =
             rw y (rest_kept s.image.now s.kept.now v.k.0 v.i cc p w.0),
             done_more s.image.now s.kept.now v.heads v.i cc w.1 p.here p.rest _ (concatenation_with p.here (running_of r))
                 (head_is s.image.now s.kept.now v.k n.result c.merged.result r p.here m y room k)
-                (c.in_ok-check.ensures s.image.now (tree_in s.image.now) p.here a) (omega (arith, fit, long, l)),
+                (c.in_ok-running.ensures s.image.now (tree_in s.image.now) p.here a) (omega (arith, fit, long, l)),
           );
     }
 
