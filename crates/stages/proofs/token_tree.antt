@@ -7,6 +7,7 @@ pub mod Made
 pub mod Places
 pub mod Roots
 pub mod Same
+pub mod Stepping
 pub mod Trees
 pub mod Walks
 pub mod Written

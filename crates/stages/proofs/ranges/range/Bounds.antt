@@ -15,7 +15,6 @@ use Rattle.stages.specs.ranges.Sides.{raised_one}
 use Rattle.stages.specs.declared.token_tree.types.Tree.{Tree}
 use Rattle.stages.specs.declared.ranges.types.Usb.{Usb}
 use Rattle.stages.proofs.token_tree.Places.{laid_first, laid_none}
-use Rattle.stages.proofs.token_tree.Walks.{runs_order}
 use Rattle.stages.proofs.ranges.Bounds.{zero_is, zero_fits}
 
 module _ (image : List ℕ) (t : Tree) (base : ℕ) where
@@ -72,11 +71,6 @@ module _ (image : List ℕ) (t : Tree) (base : ℕ) where
       end_raised i v e f = record { is = ap (λ (m : Result Ranges.Usb). m >>= λ e. ok (some e)) f.is ∙ raised_end i e; held = f.held }
 
 -- ---- what parse_usb asks
-
-pub runs_some : (image : List ℕ) (t : Tree) (stop tail r s : ℕ) → (r ≡ stop → ⊥) → Runs image t stop tail r s → r < stop
-runs_some image t stop tail r s z h =
-    let o = (runs_order image t stop tail r s h).0 in
-    omega (arith, o, z)
 
 pub runs_to : (image : List ℕ) (t : Tree) (stop tail tail' r s : ℕ) → tail' ≡ tail → Runs image t stop tail r s → Runs image t stop tail' r s
 runs_to image t stop tail tail' r s e h = rw e h

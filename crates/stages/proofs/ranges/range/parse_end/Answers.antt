@@ -1,7 +1,8 @@
 use Rattle.std.specs.Prelude.{Err}
 use Rattle.std.proofs.Common.{◌≡◌, sym, arith, eqb-true}
 use Rattle.std.proofs.lemmas.Bool.{eqb-false}
-use Rattle.stages.proofs.ranges.range.Bounds.{end_none, end_refused, end_kept, end_over, end_raised, runs_some}
+use Rattle.stages.proofs.ranges.range.Bounds.{end_none, end_refused, end_kept, end_over, end_raised}
+use Rattle.stages.proofs.token_tree.Walks.{runs_some}
 use Rattle.stages.proofs.ranges.range.parse_end.Goals as goal
 
 pub returns-then-eq : goal.returns-then-eq

@@ -1,7 +1,8 @@
 use Rattle.std.proofs.Common.{sym, subst, eqb-true}
 use Rattle.std.proofs.lemmas.Bool.{eqb-false}
 use Rattle.stages.specs.token_tree.Laid.{Laid}
-use Rattle.stages.proofs.ranges.range.Bounds.{start_none, start_some, runs_some, runs_to}
+use Rattle.stages.proofs.ranges.range.Bounds.{start_none, start_some, runs_to}
+use Rattle.stages.proofs.token_tree.Walks.{runs_some}
 use Rattle.stages.proofs.ranges.range.parse_start.Goals as goal
 
 pub returns-then-eq : goal.returns-then-eq
