@@ -1,7 +1,7 @@
 -- The concatenations that stage 3 leaves, and stage 3 of all of them.
 use Rattle.std.specs.Prelude as Std
 use Rattle.std.specs.Prelude.{◌≡◌, ◌≤◌, ◌+◌, ◌*◌, ◌∷◌}
-use Rattle.definition.specs.Prelude.{ℕ, some, List, [], length, take}
+use Rattle.definition.specs.Prelude.{ℕ, List, [], length, take}
 use Rattle.definition.specs.Basics.{ok, joined}
 use Rattle.definition.specs.Image.{Placed}
 use Rattle.definition.specs.Component as Def
