@@ -54,7 +54,8 @@ fn cut(literal: Bits, m: Simplified) -> Component
         return cut_both(literal, x, y, m.width);
     }
     let end = end_or_zero(m.range.end);
-    let to = if end.s.len == 0 {
+    let number = end.s.len == 0;
+    let to = if number {
         end.x.low as u32
     } else {
         literal.to
