@@ -1,7 +1,7 @@
 use Rattle.std.specs.Prelude.{◌^◌}
-use Rattle.std.proofs.Common.{◌≡◌, ◌<◌, sym, subst, arith}
+use Rattle.std.proofs.Common.{◌≡◌, ◌<◌, sym, ◌∙◌, subst, arith}
 use Rattle.stages.specs.declared.ranges.types.Usb.{Usb}
-use Rattle.stages.proofs.component.simplify.Cuts.{cut_fits, end_small, cut_none, cut_end, cut_numbers}
+use Rattle.stages.proofs.component.simplify.Cuts.{or_zero, cut_fits, end_small, cut_none, cut_end, cut_numbers}
 use Rattle.stages.proofs.component.simplify.cut.Goals.{then-number, else-number}
 use Rattle.stages.proofs.component.simplify.cut.Goals as goal
 
@@ -16,7 +16,7 @@ pub overflow_cast-to : goal.overflow_cast-to
 overflow_cast-to c =
     let a = c.args in
     let (few, (image, t, base, h)) = c.requires in
-    let same = c.end_or_zero-end.ensures in
+    let same = c.unwrap_or-end.ensures ∙ or_zero a.m.range.«end» _ c.zero.ensures in
     let empty = subst (λ (u : Usb). u.s.len ≡ 0) same c.if-number.true in
     let small = end_small image t base a.literal.to (omega (arith, few)) a.m.range.start a.m.range.«end» h empty in
     record { fits = subst (λ (u : Usb). u.x.low < 2 ^ 32) (sym same) small }
@@ -30,7 +30,7 @@ returns-in-Some c image t base whole h m =
 pub returns : goal.returns
 returns c image t base whole h m =
     let a = c.args in
-    let same = c.end_or_zero-end.ensures in
+    let same = c.unwrap_or-end.ensures ∙ or_zero a.m.range.«end» _ c.zero.ensures in
     let known = c.in_default.ensures image t base in
     elim c.if-number.branch [
       | then-number w ↦
