@@ -1,4 +1,4 @@
--- A component in code as the definition's, the steps of stages 1 and 2, the starting value, the kept words, and the loop that keeps them.
+-- A component in code as the definition's, the steps of stages 1 and 2, the starting value, and the loop that keeps components.
 pub mod Kept
 pub mod Parse
 pub mod Read

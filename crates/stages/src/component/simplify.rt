@@ -5,7 +5,7 @@ ghost use Rattle.definition.specs.Image.{bits_at};
 ghost use Rattle.definition.specs.Component.{cut_literal, simplify as simplify_of};
 ghost use Rattle.stages.specs.ranges.Values.{Tree as TreeIn, usbr_of, Measured};
 ghost use Rattle.stages.specs.ranges.Checks.{Positive};
-ghost use Rattle.stages.specs.component.Values.{type_of, component_of, TypeParsed, ComponentParsed, StagedReads, Whole, end_or};
+ghost use Rattle.stages.specs.component.Values.{type_of, component_of, TypeParsed, ComponentParsed, StagedReads, Whole};
 ghost use Rattle.stages.specs.component.Stage2.{Within, CutFits, cut_both_by, by_type};
 
 use super::types::{Bits, Component, ComponentType};
@@ -13,12 +13,6 @@ use crate::ranges::{Simplified, Usb, Usbr};
 use crate::token_tree::Tree;
 use errors::Reason;
 use numbers::I128;
-
-fn end_or_zero(end: Option<Usb>) -> Usb
-    ensures { result ≡ end_or «end» }
-{
-    end.unwrap_or(Usb::zero())
-}
 
 // Both bounds are numbers: the bits between them, with the range from 0.
 fn cut_both(literal: Bits, x: I128, y: I128, width: Option<I128>) -> Component
@@ -53,12 +47,9 @@ fn cut(literal: Bits, m: Simplified) -> Component
     if let Some((x, y)) = m.range.static_range() {
         return cut_both(literal, x, y, m.width);
     }
-    let end = end_or_zero(m.range.end);
-    let to = if end.s.len == 0 {
-        end.x.low as u32
-    } else {
-        literal.to
-    };
+    let end = m.range.end.unwrap_or(Usb::zero());
+    let number = end.s.len == 0;
+    let to = if number { end.x.low as u32 } else { literal.to };
     Component {
         c_type: ComponentType::Literal(Bits {
             at: literal.at,

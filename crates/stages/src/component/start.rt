@@ -54,7 +54,8 @@ fn colon_in(image: &[u8], tree: Tree, r: PBind, stop: PBind, end: PText) -> Opti
     while at < stop {
         let next = behind(image, tree, at);
         let t = start_or(image, tree, next, stop, end);
-        if single(image, tree, s, t) == b':' {
+        let colon = single(image, tree, s, t) == b':';
+        if colon {
             seen = opened(seen, at);
         } else if seen.is_some() {
             return seen;

@@ -1,6 +1,7 @@
 -- The cut of a literal's bits by a range whose numbers are places among them: one law for each way through the code.
 use Rattle.std.specs.Prelude as Std
 use Rattle.std.specs.Prelude.{Some, None, Ok, ◌-◌, ◌^◌, ◌-ℤ◌, if◌then◌else◌}
+use Rattle.std.specs.Option.{unwrap_or}
 use Rattle.std.proofs.Common.{◌≡◌, ◌<◌, ◌≤◌, min, sym, refl, ap, ◌∙◌, zero-add, arith}
 use Rattle.definition.specs.Prelude.{ℕ, Option, none, some, List, [], length, take, drop, ℤ, pos, nat_abs}
 use Rattle.definition.specs.Basics.{ok, same_bytes, tab}
@@ -45,6 +46,11 @@ module _ (image : List ℕ) (at w : ℕ) where
       ap (drop m) (first_bits n h) ∙ drop_tab (bit_of (drop at image)) m 0 (n - 0) ∙ rw (zero-add m, e)
 
 -- ---- both numbers, or one
+
+-- no end as an end at 0
+pub or_zero : (o : Std.Option Usb) (u : Usb) → u ≡ zero_by → unwrap_or o u ≡ end_or o
+or_zero (Some e) u h = refl
+or_zero None u h = h
 
 both_inv : (a b : Option ℤ) (x y : ℤ) → some (x, y) ≡ both_of a b → (a ≡ some x) × (b ≡ some y)
 both_inv none b x y h = none_some (sym h)

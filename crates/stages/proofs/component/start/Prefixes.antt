@@ -168,14 +168,14 @@ module _ (image : List ℕ) (t : Tree) (run : Run) (last : ℕ) (before : Run) (
   mid_laid base s is a h =
       by_test (eqb (kind_in image t last) 3)
       (λ e.
-          let n : a.item.kind ≡ 3 = sym a.stands.kind ∙ eqb-true _ _ e in
-          let m : a.mid ≡ (split_range is).mid = sym (ap (λ l. (split_range l).mid) a.parts ∙ ap (λ (x : Split). x.mid) (range_last a.mid a.item n)) in
-          rw (bracket e) (subst (λ x. Laid image t base last x run.r.0 s (split_range is).mid) (sym a.stands.start) (subst (Laid image t base last a.from run.r.0 s) m a.before)))
+      let n : a.item.kind ≡ 3 = sym a.stands.kind ∙ eqb-true _ _ e in
+      let m : a.mid ≡ (split_range is).mid = sym (ap (λ l. (split_range l).mid) a.parts ∙ ap (λ (x : Split). x.mid) (range_last a.mid a.item n)) in
+      rw (bracket e) (subst (λ x. Laid image t base last x run.r.0 s (split_range is).mid) (sym a.stands.start) (subst (Laid image t base last a.from run.r.0 s) m a.before)))
       (λ e.
-          let n : a.item.kind ≡ 3 → ⊥ = λ z. eqb-false _ _ e (a.stands.kind ∙ z) in
-          let m : is ≡ (split_range is).mid =
-          sym (ap (λ l. (split_range l).mid) a.parts ∙ ap (λ (x : Split). x.mid) (range_none a.mid a.item n) ∙ sym a.parts) in
-          rw (plain e) (subst (Laid image t base run.stop.0 run.«end».0 run.r.0 s) m h))
+      let n : a.item.kind ≡ 3 → ⊥ = λ z. eqb-false _ _ e (a.stands.kind ∙ z) in
+      let m : is ≡ (split_range is).mid =
+      sym (ap (λ l. (split_range l).mid) a.parts ∙ ap (λ (x : Split). x.mid) (range_none a.mid a.item n) ∙ sym a.parts) in
+      rw (plain e) (subst (Laid image t base run.stop.0 run.«end».0 run.r.0 s) m h))
 
   -- which lies within the image, too
   pub mid_runs : (s : ℕ) (w : Runs image t run.stop.0 run.«end».0 run.r.0 s) → LastAt image t run.stop.0 run.«end».0 run.r.0 last w.base s w.items

@@ -16,9 +16,11 @@ colon_in-colon-requires c =
     let a = c.args in
     let p = c.requires in
     let w = p.1.1 in
-    let l = c.last_item-last in
-    (p.1.0, mid_runs a.image.now a.tree a.run l.result.0 _ c.before_range-before.ensures p.1.0 w
-        (last_at a.image.now a.tree a.run.stop.0 a.run.«end».0 a.run.r.0 l.result.0 p.0 l.ensures w.base p.1.0 w.items w.laid))
+    let l = c.last_item-last in (
+      p.1.0,
+      mid_runs a.image.now a.tree a.run l.result.0 _ c.before_range-before.ensures p.1.0 w
+          (last_at a.image.now a.tree a.run.stop.0 a.run.«end».0 a.run.r.0 l.result.0 p.0 l.ensures w.base p.1.0 w.items w.laid),
+    )
 
 pub value_before-requires : goal.value_before-requires
 value_before-requires c =

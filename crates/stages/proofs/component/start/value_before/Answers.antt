@@ -6,7 +6,7 @@ use Rattle.stages.proofs.component.start.value_before.Goals as goal
 pub returns-then-eq : goal.returns-then-eq
 returns-then-eq c base s tail mid h e =
     let a = c.args in
-    value_refused a.image.now a.tree base a.to.0 tail a.r.0 s mid h a.k.0 c.in-Some.colon.0 (sym c.in-Some.is ∙ e) 
+    value_refused a.image.now a.tree base a.to.0 tail a.r.0 s mid h a.k.0 c.in-Some.colon.0 (sym c.in-Some.is ∙ e)
     (eqb-true _ _ (sym c.if-eq.ensures)) _ c.at.ensures
 
 pub returns : goal.returns
