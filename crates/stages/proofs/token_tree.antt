@@ -3,7 +3,6 @@ pub mod Chunks
 pub mod Forests
 pub mod Insides
 pub mod Lasts
-pub mod Made
 pub mod Places
 pub mod Roots
 pub mod Same

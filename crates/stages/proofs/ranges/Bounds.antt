@@ -1,9 +1,8 @@
 -- Bounds in code and in the definition: a text's emptiness, the number of a bound, and what simplifying and raising give.
 use Rattle.std.specs.Prelude as Std
 use Rattle.std.specs.Option.{option_zip}
-use Rattle.std.specs.Prelude.{Some, None, Ok, Err}
+use Rattle.std.specs.Prelude.{Some, None, Ok, Err, ◌+◌, ◌*◌, ◌-◌, ◌^◌, ◌∷◌, ◌+ℤ◌, if◌then◌else◌}
 use Rattle.errors.specs.declared.reasons.Reason.TheVariants as Reasons
-use Rattle.std.specs.Prelude.{◌+◌, ◌*◌, ◌-◌, ◌^◌, ◌∷◌, ◌+ℤ◌, if◌then◌else◌}
 use Rattle.std.proofs.Common.{◌≡◌, ◌<◌, ◌≤◌, sym, refl, ap, ◌∙◌, subst, arith, eq-eqb, ne_eqb}
 use lib.Dec.{eqb-suc-zero}
 use Rattle.definition.specs.Prelude.{ℕ, zero, suc, Bool, false, Option, none, some, List, [], length, ltb, eqb, ℤ, pos, negsuc, nat_abs}

@@ -50,7 +50,3 @@ same_is (a ∷ s) (b ∷ t) = ap (λ r. eqb a b && r) (same_is s t)
 pub slices_same : (s : List ℕ) (p q n : ℕ) → p + n ≤ length s → q + n ≤ length s
     → pointwise eqb (take (p + n - p) (drop p s)) (take (q + n - q) (drop q s)) ≡ same_bytes (bytes_at s p n) (bytes_at s q n)
 slices_same s p q n h k = rw (whole_at s p n (p + n - p) h (omega arith), whole_at s q n (q + n - q) k (omega arith)) (same_is _ _)
-
--- runs of one length
-pub same_length : (s : List ℕ) (a b m n : ℕ) (r : Bool) → m ≡ n → r ≡ same_bytes (bytes_at s a m) (bytes_at s b m) → r ≡ same_bytes (bytes_at s a m) (bytes_at s b n)
-same_length s a b m n r e h = rw (← e) h

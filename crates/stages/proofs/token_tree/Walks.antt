@@ -1,24 +1,12 @@
 -- A run that is walked item by item stays within the image.
 use Rattle.std.specs.Prelude.{◌+◌, ◌^◌}
-use Rattle.std.proofs.Common.{Ordering, Less, Equal, Greater, ◌≡◌, ◌<◌, ◌≤◌, sym, refl, ◌∙◌, subst, arith}
-use Rattle.std.specs.Cmp.{ranked}
-use Rattle.std.specs.Ordering.{MatchOrdering, nat_cmp, is_lt}
-use Rattle.definition.specs.Prelude.{ℕ, true, List}
+use Rattle.std.proofs.Common.{◌≡◌, ◌<◌, ◌≤◌, sym, refl, ◌∙◌, subst, arith}
+use Rattle.definition.specs.Prelude.{ℕ, List}
 use Rattle.definition.specs.Text.{Item}
 use Rattle.stages.specs.token_tree.Laid.{Laid, Runs}
 use Rattle.stages.specs.declared.token_tree.types.Tree.{Tree}
 use Rattle.stages.specs.token_tree.Table.{skip_in, start_or, RecordFits}
-use Rattle.stages.proofs.Cases.{untrue}
 use Rattle.stages.proofs.token_tree.Places.{laid_order, laid_start, laid_next}
-
--- what `<` of two records says
-pub below : (a b : ℕ) → true ≡ is_lt (nat_cmp a b) → a < b
-below a b h = go (nat_cmp a b) (ranked a b (nat_cmp a b) refl) h
-  where
-    go : (o : Ordering) → MatchOrdering o (a < b) (a ≡ b) (b < a) → true ≡ is_lt o → a < b
-    go Less l h = l
-    go Equal l h = untrue (sym h)
-    go Greater l h = untrue (sym h)
 
 -- a run whose end is no further is within the image, too
 pub runs_within : {image : List ℕ} {t : Tree} {stop tail r s stop' tail' r' s' : ℕ} (base : ℕ) (is : List Item) → Runs image t stop tail r s

@@ -1,7 +1,7 @@
 -- The two sides of a bound's sign, by their texts.
 use Rattle.std.specs.Prelude.{◌≡◌, ◌≤◌, refl, ◌+◌, ◌∷◌, ◌+ℤ◌, ◌-ℤ◌, if◌then◌else◌}
 use Rattle.definition.specs.Prelude.{ℕ, Bool, Option, none, some, List, length, eqb, get_or, ℤ, pos}
-use Rattle.definition.specs.Basics.{Result, ok, ◌>>=◌}
+use Rattle.definition.specs.Basics.{Result, ok}
 use Rattle.definition.specs.Characters.{char}
 use Rattle.definition.specs.Refusals.{refuse, bound_overflow, overflow}
 use Rattle.definition.specs.Text.{Part, no_text, is_token, part_of}

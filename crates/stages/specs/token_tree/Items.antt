@@ -1,7 +1,6 @@
 -- A walk over the items of a run: what it asks, and what one step gives.
 use Rattle.std.specs.Prelude as Std
 use Rattle.std.specs.Prelude.{Some, None, ◌≡◌, ◌<◌, ◌≤◌, ◌+◌, ◌-◌}
-use Rattle.definition.specs.Prelude.{ℕ}
 use Rattle.stages.specs.token_tree.Laid.{Runs}
 use Rattle.stages.specs.token_tree.Table.{skip_in, start_or, single_of}
 use Rattle.stages.specs.declared.token_tree.items.Items.{Items}

@@ -1,8 +1,7 @@
 -- A run of items read as a bound: kept as written where it has no sign, else cut at the sign's record.
 use Rattle.std.specs.Prelude as Std
-use Rattle.std.specs.Prelude.{Some, None, Ok}
+use Rattle.std.specs.Prelude.{Some, None, Ok, ◌+◌, ◌-◌, ◌∷◌, ◌++◌, if◌then◌else◌}
 use Rattle.errors.specs.declared.reasons.Reason.{Reason}
-use Rattle.std.specs.Prelude.{◌+◌, ◌-◌, ◌∷◌, ◌++◌, if◌then◌else◌}
 use Rattle.std.proofs.Common.{◌≡◌, ◌<◌, ◌≤◌, ◌⊎◌, sym, refl, ap, ◌∙◌, subst, inl, inr, arith}
 use Rattle.definition.specs.Prelude.{ℕ, Bool, true, false, not, Option, none, some, List, [], length, eqb, get_or, pos}
 use Rattle.definition.specs.Basics.{ok, same_bytes}

@@ -1,9 +1,8 @@
 -- A bound is one item: a token, or a group in parentheses.
 use Rattle.std.specs.Prelude as Std
-use Rattle.std.specs.Prelude.{Ok, Err}
+use Rattle.std.specs.Prelude.{Ok, Err, ◌+◌, ◌-◌, ◌∷◌, if◌then◌else◌}
 use Rattle.errors.specs.declared.reasons.Reason.TheVariants as Reasons
 use Rattle.errors.specs.declared.reasons.Reason.{Reason}
-use Rattle.std.specs.Prelude.{◌+◌, ◌-◌, ◌∷◌, if◌then◌else◌}
 use Rattle.std.proofs.Common.{◌≡◌, ◌<◌, ◌≤◌, ◌⊎◌, sym, refl, ap, ◌∙◌, subst, inl, inr, arith, eq-eqb, ne_eqb}
 use Rattle.definition.specs.Prelude.{ℕ, Bool, true, false, none, some, List, [], length, eqb, pos}
 use Rattle.definition.specs.Basics.{ok, refused, refusal_of}

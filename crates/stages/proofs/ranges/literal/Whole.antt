@@ -1,10 +1,9 @@
 -- The range of a literal: its start, then its end or none; and of a filler.
 use Rattle.std.specs.Prelude as Std
 use Rattle.std.specs.Option.{is_some}
-use Rattle.std.specs.Prelude.{Some, None, Ok, Err}
+use Rattle.std.specs.Prelude.{Some, None, Ok, Err, ◌-◌, ◌^◌, ◌∷◌, ◌-ℤ◌, if◌then◌else◌}
 use Rattle.errors.specs.declared.reasons.Reason.{Reason}
 use Rattle.errors.specs.declared.reasons.Reason.TheVariants as Reasons
-use Rattle.std.specs.Prelude.{◌-◌, ◌^◌, ◌∷◌, ◌-ℤ◌, if◌then◌else◌}
 use Rattle.std.proofs.Common.{◌≡◌, ◌<◌, ◌≤◌, Bool, true, false, not, ◌||◌, sym, refl, ap, ◌∙◌, subst, le_of_lt, arith, ltb-false, ltb-true, le-leb}
 use borrow.Author.Tests.{lt-leb}
 use Rattle.definition.specs.Prelude.{ℕ, Option, none, some, List, [], ltb, leb, ℤ, pos, negsuc, lt_z, le_z, non_neg}

@@ -1,8 +1,7 @@
 -- The bounds of a range: what `parse_start` and `parse_end` give.
 use Rattle.std.specs.Prelude as Std
-use Rattle.std.specs.Prelude.{Some, None, Ok, Err}
+use Rattle.std.specs.Prelude.{Some, None, Ok, Err, ◌+◌, if◌then◌else◌}
 use Rattle.errors.specs.declared.reasons.Reason.{Reason}
-use Rattle.std.specs.Prelude.{◌+◌, if◌then◌else◌}
 use Rattle.std.proofs.Common.{◌≡◌, ◌<◌, ◌≤◌, sym, refl, ap, ◌∙◌, subst, arith}
 use Rattle.definition.specs.Prelude.{ℕ, Bool, true, false, some, List, [], length}
 use Rattle.definition.specs.Basics.{Result, ok, ◌>>=◌}

@@ -1,9 +1,8 @@
 -- Both sides of a range's dots stand in the table, and give the range.
 use Rattle.std.specs.Prelude as Std
-use Rattle.std.specs.Prelude.{Some, None, Ok, Err}
+use Rattle.std.specs.Prelude.{Some, None, Ok, Err, ◌∷◌}
 use Rattle.errors.specs.declared.reasons.Reason.TheVariants as Reasons
 use Rattle.errors.specs.declared.reasons.Reason.{Reason}
-use Rattle.std.specs.Prelude.{◌∷◌}
 use Rattle.std.proofs.Common.{◌≡◌, ◌<◌, ◌≤◌, sym, refl, ap, ◌∙◌, subst, arith, length-drop, take-append-drop, length-take-le}
 use Rattle.definition.specs.Prelude.{ℕ, Bool, Option, some, List, [], take, drop, length}
 use Rattle.definition.specs.Basics.{Result, ok, ◌>>=◌}

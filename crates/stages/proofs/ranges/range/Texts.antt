@@ -1,6 +1,5 @@
 -- The text of a run of items is one part of the text; no text.
-use Rattle.std.specs.Prelude.{Some}
-use Rattle.std.specs.Prelude.{◌+◌}
+use Rattle.std.specs.Prelude.{Some, ◌+◌}
 use Rattle.std.proofs.Common.{◌≡◌, ◌<◌, ◌≤◌, ap, ◌∙◌, arith}
 use Rattle.definition.specs.Prelude.{ℕ, List, length, some, pos}
 use Rattle.definition.specs.Text as Text

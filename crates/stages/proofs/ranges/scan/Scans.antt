@@ -1,7 +1,6 @@
 -- The scan for dots: one step, its end, and what the loop keeps.
 use Rattle.std.specs.Prelude as Std
-use Rattle.std.specs.Prelude.{None, Ok, Err}
-use Rattle.std.specs.Prelude.{◌+◌, ◌-◌, ◌∷◌, ◌++◌, if◌then◌else◌}
+use Rattle.std.specs.Prelude.{None, Ok, Err, ◌+◌, ◌-◌, ◌∷◌, ◌++◌, if◌then◌else◌}
 use Rattle.std.proofs.Common.{◌≡◌, ◌<◌, ◌≤◌, sym, refl, ap, ◌∙◌, append_assoc, add-one, arith, length-append, ne_eqb, eqb-true}
 use borrow.Author.Tests.{eqb-false}
 use Rattle.definition.specs.Prelude.{ℕ, suc, Bool, true, false, Option, none, some, List, [], length, eqb}
@@ -138,9 +137,6 @@ module _ (image : List ℕ) (t : Tree) (base stop tail e : ℕ) where
         few = omega arith;
         result = refl;
       }
-
-  pub scanning_few : (is : List Item) (d : Dots) (at s : ℕ) → Scanning is d at s → d.dots ≤ 2
-  scanning_few is d at s h = let k : d.dots ≡ h.st.dots = ap (λ (x : Dots). x.dots) h.state in omega (arith, k, h.few)
 
   -- at the end of the run
   pub scanning_end : (is : List Item) (d : Dots) (at s : ℕ) (q : Std.Result Dots Reason) → Scanning is d at s → stop ≤ at → q ≡ ended_by d stop

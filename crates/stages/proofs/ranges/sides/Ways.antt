@@ -1,11 +1,9 @@
 -- The two sides of a bound's sign: one law for each way through the code.
 use Rattle.std.specs.Prelude as Std
-use Rattle.std.specs.Prelude.{Some, None, Ok, Err}
-use Rattle.errors.specs.declared.reasons.Reason.TheVariants as Reasons
+use Rattle.std.specs.Prelude.{Some, None, Ok, ◌+◌, ◌^◌, if◌then◌else◌}
 use Rattle.errors.specs.declared.reasons.Reason.{Reason}
-use Rattle.std.specs.Prelude.{◌+◌, ◌^◌, if◌then◌else◌}
-use Rattle.std.proofs.Common.{◌≡◌, ◌<◌, ◌≤◌, sym, refl, ap, ◌∙◌, subst, arith}
-use Rattle.definition.specs.Prelude.{ℕ, Bool, true, false, Option, none, some, List, eqb, get_or, ℤ, pos}
+use Rattle.std.proofs.Common.{◌≡◌, ◌<◌, ◌≤◌, sym, ap, ◌∙◌, subst, arith}
+use Rattle.definition.specs.Prelude.{ℕ, Bool, Option, none, some, List, eqb, get_or, ℤ, pos}
 use Rattle.definition.specs.Basics.{Result, ok}
 use Rattle.definition.specs.Numbers.{narrow}
 use Rattle.definition.specs.Refusals.{bound_overflow}
@@ -40,9 +38,6 @@ side_text p e = rw (e, side)
 
 bound_is : (a b : Text.Part) (o : Option ℤ) (z : ℤ) → a ≡ b → o ≡ narrow z → bound_of a o ≡ Ranges.with_x bound_overflow b z
 bound_is a b o z p q = rw (p, q)
-
-kept_some : (original before kept : Text.Part) (l : ℤ) → number_in before ≡ some l → ok (Ranges.text kept l) ≡ text_kept original before kept
-kept_some original before kept l e = rw (e, text_kept)
 
 kept_none : (original before kept : Text.Part) → number_in before ≡ none → ok (Ranges.text original (pos 0)) ≡ text_kept original before kept
 kept_none original before kept e = rw (e, text_kept)

@@ -1,8 +1,7 @@
 -- The search for the signs: one step, its end, and what the loop keeps.
 use Rattle.std.specs.Prelude as Std
-use Rattle.std.specs.Prelude.{Some, None}
+use Rattle.std.specs.Prelude.{Some, None, ◌+◌, ◌-◌, ◌∷◌, ◌++◌, if◌then◌else◌}
 use Rattle.std.specs.Option.{option_or}
-use Rattle.std.specs.Prelude.{◌+◌, ◌-◌, ◌^◌, ◌∷◌, ◌++◌, if◌then◌else◌}
 use Rattle.std.proofs.Common.{◌≡◌, ◌<◌, ◌≤◌, sym, refl, ap, ◌∙◌, subst, append_assoc, add-one, arith, length-append, eq-eqb, ne_eqb, eqb-true}
 use borrow.Author.Tests.{not-true}
 use Rattle.definition.specs.Prelude.{ℕ, suc, Bool, true, false, not, Option, none, some, List, [], length, eqb}
@@ -12,11 +11,11 @@ use Rattle.definition.specs.Ranges.{Cut, cut_last, cut_pair, cut_bound, or_else}
 use Rattle.laws.specs.Tests.{by_test, and_iff}
 use Rattle.stages.specs.token_tree.Laid.{Stands, Laid, place_of}
 use Rattle.stages.specs.token_tree.Table.{skip_in, single_of, start_or}
-use Rattle.stages.specs.ranges.Signs.{record_at, Early, paired_by, signed_by, cut_place, signs_in}
+use Rattle.stages.specs.ranges.Signs.{record_at, paired_by, signed_by, cut_place, signs_in}
 use Rattle.stages.specs.declared.token_tree.types.Tree.{Tree}
 use Rattle.stages.specs.declared.token_tree.types.PBind.{PBind}
 use Rattle.stages.specs.declared.ranges.signs.Signs.{Signs}
-use Rattle.stages.proofs.token_tree.Places.{place_first, place_suc, laid_order, laid_none, laid_next, laid_from}
+use Rattle.stages.proofs.token_tree.Places.{place_first, place_suc, laid_none, laid_next, laid_from}
 use Rattle.stages.proofs.ranges.signs.Cuts.{ahead, ahead_none, or_none, resume, Fresh, cut_here, last_step, pair_step, last_done, pair_done}
 
 -- a minus before a place, and one that does not stand just before it
@@ -35,10 +34,6 @@ low_far (Some m) at next l h = λ z. omega (arith, l, h, z)
 low_later : (m : Std.Option PBind) (at next : ℕ) → at < next → Low m at → Low m next
 low_later None at next l h = tt
 low_later (Some m) at next l h = omega (arith, l, h)
-
-pub low_early : (m : Std.Option PBind) (at stop : ℕ) → at ≤ stop → stop < 2 ^ 31 → Low m at → Early m
-low_early None at stop l k h = tt
-low_early (Some m) at stop l k h = omega (arith, l, k, h)
 
 module _ (image : List ℕ) (t : Tree) (e : ℕ) where
   -- the minus just passed, if it was one
@@ -134,9 +129,6 @@ module _ (image : List ℕ) (t : Tree) (base stop tail e : ℕ) where
         prev_is = rw p tt;
         low = rw p tt;
       }
-
-  pub signing_low : (is : List Item) (g : Signs) (at s : ℕ) → Signing image t base stop tail e is g at s → Low g.minus at × (at ≤ stop)
-  signing_low is g at s h = (h.low, (laid_order image t base stop tail at s h.rest h.laid).0)
 
   -- at the end of the run
   pub signing_end : (is : List Item) (g : Signs) (at s : ℕ) → Signing image t base stop tail e is g at s → stop ≤ at → g ≡ signs_in image t e is

@@ -1,17 +1,13 @@
 -- Stage 2 of a range in code: the width, both bounds one after the other, then the tests.
 use Rattle.std.specs.Prelude as Std
 use Rattle.errors.specs.declared.reasons.Reason.{Reason}
-use Rattle.std.specs.Prelude.{Some, Ok, Err, ◌-ℤ◌, if◌then◌else◌}
-use Rattle.std.proofs.Common.{◌≡◌, Bool, true, false, sym, ap, ◌∙◌, subst}
-use Rattle.definition.specs.Prelude.{ℕ, Option, none, some, List, ℤ}
-use Rattle.definition.specs.Basics.{Result, ok, ◌>>=◌, same_bytes}
-use Rattle.definition.specs.Numbers.{narrow}
+use Rattle.std.specs.Prelude.{Some, Ok, Err}
+use Rattle.std.proofs.Common.{◌≡◌, sym, ap, ◌∙◌}
+use Rattle.definition.specs.Prelude.{ℕ, Option, some, List}
+use Rattle.definition.specs.Basics.{Result, ok, ◌>>=◌}
 use Rattle.definition.specs.Ranges as D
-use Rattle.definition.specs.Ranges.{static_width}
 use Rattle.definition.specs.Component.{simplify_usb, simplify_end, simplify_range}
-use Rattle.numbers.specs.Value.{value_of}
-use Rattle.stages.specs.token_tree.Parts.{bytes_in}
-use Rattle.stages.specs.ranges.Values.{Tree, usb_of, end_of, usbr_of, UsbFits, EndFits, UsbReads, EndReads, UsbrReads, SimplifiedReads}
+use Rattle.stages.specs.ranges.Values.{Tree, usb_of, end_of, usbr_of, UsbReads, EndReads, UsbrReads, SimplifiedReads}
 use Rattle.stages.specs.ranges.Checks.{both_simple, checked_range}
 use Rattle.stages.specs.declared.ranges.types.Usb.{Usb}
 use Rattle.stages.specs.declared.ranges.types.Usbr.{Usbr}
@@ -19,24 +15,6 @@ use Rattle.stages.specs.declared.ranges.types.Simplified.{Simplified}
 use Rattle.stages.proofs.ranges.Checked.{range_is}
 
 module _ (image : List ℕ) (t : Tree) (base : ℕ) where
-  pub end_fits : (e : Std.Option Usb) (u : Usb) → e ≡ Some u → EndFits image t base e → UsbFits image t base u
-  end_fits e u p f = subst (EndFits image t base) p f
-
-  -- ---- the static width
-
-  abbrev width_to : Usb → Std.Option Usb → Option ℤ
-  width_to s e = static_width (record { start = usb_of image t base s; «end» = end_of image t base e })
-
-  module _ (r : Usbr) (e : Usb) (p : r.«end» ≡ Some e) (same : Bool) (told : same ≡ same_bytes (bytes_in image t r.start.s) (bytes_in image t e.s)) where
-    between : {x : Option ℤ} → x ≡ width_to r.start (Some e) → x ≡ static_width (usbr_of image t base r)
-    between h = h ∙ sym (ap (width_to r.start) p)
-
-    pub width_known : {x : Option ℤ} → same ≡ true → x ≡ narrow (value_of e.x -ℤ value_of r.start.x) → x ≡ static_width (usbr_of image t base r)
-    width_known h q = between (q ∙ sym (ap (λ (b : Bool). if b then narrow (value_of e.x -ℤ value_of r.start.x) else none) (sym told ∙ h)))
-
-    pub width_unknown : same ≡ false → none ≡ static_width (usbr_of image t base r)
-    width_unknown h = between (sym (ap (λ (b : Bool). if b then narrow (value_of e.x -ℤ value_of r.start.x) else none) (sym told ∙ h)))
-
   -- ---- the end
 
   module _ (e : Std.Option Usb) (u : Usb) (p : e ≡ Some u) where

@@ -2,7 +2,7 @@ use Rattle.std.specs.Prelude.{Ok, Err}
 use Rattle.std.proofs.Common.{◌≡◌, refl, ap, ◌∙◌, arith}
 use Rattle.stages.specs.ranges.Dots.{scanned_by}
 use Rattle.stages.proofs.token_tree.Stepping.{begun, went}
-use Rattle.stages.proofs.ranges.scan.Scans.{scanning_start, scanning_next, scanning_end, scanning_few}
+use Rattle.stages.proofs.ranges.scan.Scans.{scanning_start, scanning_next, scanning_end}
 use Rattle.stages.proofs.ranges.scan.dots_in.Goals as goal
 
 pub loop-item-init : goal.loop-item-init
@@ -14,14 +14,6 @@ loop-item-init c =
       b.over,
       λ base s' is h. rw b.at (scanning_start a.image.now a.tree base a.stop.0 a.«end».0 a.r.0 s' c.into_iter-item-iterator.result.s.0 is _ refl b.text h),
     )
-
-pub scanned-requires : goal.scanned-requires
-scanned-requires c =
-    let a = c.args in
-    let r = c.requires.1 in
-    let i = c.loop-item.item-iterator in
-    scanning_few a.image.now a.tree r.base a.stop.0 a.«end».0 a.r.0 r.items c.loop-item.d i.at.0 i.s.0
-    (c.loop-item.invariant.1 r.base c.requires.0 r.items r.laid)
 
 pub returns-in_err-d : goal.returns-in_err-d
 returns-in_err-d c base s' is h =

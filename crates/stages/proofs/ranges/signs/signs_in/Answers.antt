@@ -1,7 +1,7 @@
-use Rattle.std.proofs.Common.{refl, ap, ◌∙◌, arith}
+use Rattle.std.proofs.Common.{refl, ap, ◌∙◌}
 use Rattle.stages.specs.ranges.Signs.{signed_by}
 use Rattle.stages.proofs.token_tree.Stepping.{begun, went}
-use Rattle.stages.proofs.ranges.signs.Signing.{signing_start, signing_next, signing_end, signing_low, low_early}
+use Rattle.stages.proofs.ranges.signs.Signing.{signing_start, signing_next, signing_end}
 use Rattle.stages.proofs.ranges.signs.signs_in.Goals as goal
 
 pub loop-item-init : goal.loop-item-init
@@ -13,16 +13,6 @@ loop-item-init c =
       b.over,
       λ base s' is h. rw b.at (signing_start a.image.now a.tree base a.stop.0 a.«end».0 a.r.0 s' c.into_iter-item-iterator.result.s.0 is _ refl b.text h),
     )
-
-pub signed-g-requires : goal.signed-g-requires
-signed-g-requires c =
-    let a = c.args in
-    let p = c.requires in
-    let r = p.1 in
-    let i = c.loop-item.item-iterator in
-    let k = signing_low a.image.now a.tree r.base a.stop.0 a.«end».0 a.r.0 r.items c.loop-item.g i.at.0 i.s.0
-    (c.loop-item.invariant.1 r.base p.0 r.items r.laid) in
-    low_early c.loop-item.g.minus i.at.0 a.stop.0 k.1 (omega (arith, r.fits, r.small)) k.0
 
 pub loop-item-preserved : goal.loop-item-preserved
 loop-item-preserved c =
