@@ -80,7 +80,7 @@ fn staged(
 
 // The same, with room for N components.
 fn with_room<const N: usize>(area: &mut [u8], image: &[u8], how: Choices) -> Result<usize, Refusal>
-    requires { RunFits image.now (length area.old) × ((counts image.now).n ≤ N) }
+    requires { RunFits image.now (length area.old) × ((counts image.now).n ≤ N) × (N ≤ 256) }
     ensures { StagesAs image.now how result area.old area.new }
 {
     let mut kept = [Component::NONE; N];

@@ -19,7 +19,7 @@ later-requires c =
     let q = c.starting_value.ensures in (
       fits,
       read_fits c.stage2.ensures c.in_ok-s.s (start_is q g c.in_ok-s.was) c.in_ok-stage2.was
-      (ap (λ (t : Tables). t.c) c.tables_of-t.ensures) (start_text q g c.in_ok-s.was) (omega arith),
+          (ap (λ (t : Tables). t.c) c.tables_of-t.ensures) (start_text q g c.in_ok-s.was) (omega arith),
     )
 
 pub returns : goal.returns

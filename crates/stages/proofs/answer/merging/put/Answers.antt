@@ -3,7 +3,6 @@ use Rattle.stages.proofs.answer.merging.Steps.{to_close, closed_rests, static_st
 use Rattle.stages.proofs.answer.merging.put.Goals as goal
 use Rattle.std.proofs.Common.{false}
 
-
 pub returns-in-Some : goal.returns-in-Some
 returns-in-Some c t d is fixed =
     let a = c.args in
