@@ -16,6 +16,6 @@ returns c =
     ] in
     let same : c.match-s.s ≡ a.s = elim c.match-s.branch [ in-Some w ↦ w.s-is ∙ sym w.in-Some.is | in-None w ↦ w.s-is ] in
     let flags = c.flags_of.ensures
-        ∙ ap (λ b. flag a.o.deterministic 1 + flag a.o.nonzero 2 + flag b 4) (given_is a.s c.is_some.result (c.is_some.ensures ∙ ap is_some same)) in
+    ∙ ap (λ b. flag a.o.deterministic 1 + flag a.o.nonzero 2 + flag b 4) (given_is a.s c.is_some.result (c.is_some.ensures ∙ ap is_some same)) in
     head_put a.area.now a.c a.m _ _ _ c.width_number.result c.flags_of.result c.align_number.result _ c.match-s.text c.width_number.ensures flags
     c.align_number.ensures text c.put_u32.ensures c.put_u32-2.ensures c.put_u64.ensures c.put_u32-3.ensures c.put_u32-4.ensures c.put_text.ensures
