@@ -3,7 +3,7 @@ use Rattle.std.specs.Prelude.{◌+◌, ◌*◌, ◌-◌, ◌/◌, ◌%◌, ◌^�
 use Rattle.std.proofs.Common.{◌≡◌, ◌<◌, ◌≤◌, sym, ap, ◌∙◌, zero-add, arith, length-append, get_or-append-add}
 use lib.ListN.{get_or-append}
 use lib.Seq.{sets}
-use Rattle.definition.specs.Prelude.{ℕ, List, [], length, get_or, take, drop}
+use Rattle.definition.specs.Prelude.{ℕ, List, length, get_or, take, drop}
 use Rattle.definition.specs.Basics.{tab}
 use Rattle.definition.specs.Image.{bytes_for}
 use Rattle.definition.specs.Tree.{byte_of, packed}

@@ -1,4 +1,4 @@
--- A run of bytes written into a list: one more, a run past the end, and the list after it, byte by byte.
+-- A run of bytes written into a list: what is past the end, and the list after it, byte by byte.
 use Rattle.std.specs.Prelude.{◌≡◌, ℕ, zero, suc, ◌+◌, ◌-◌, ◌<◌, ◌≤◌, min, ◌⊎◌, replicate, slice_set, refl, ◌∷◌}
 use Rattle.std.proofs.Common.{sym, ap, ◌∙◌, ⊎_elim, add-zero, add-suc, suc-add, arith, length-set, get_or-set_same, get_or-set_other, get_or-drop, ext_get_or, leb-true, leb-false, ltb-true, ltb-false}
 use Rattle.std.proofs.lemmas.List.{length-replicate, replicate-append-replicate}

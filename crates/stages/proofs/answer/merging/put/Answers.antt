@@ -1,7 +1,7 @@
+use Rattle.std.proofs.Common.{false}
 use Rattle.stages.proofs.answer.merging.Stored.{bits_are, static_is}
 use Rattle.stages.proofs.answer.merging.Steps.{to_close, closed_rests, static_step, other_step}
 use Rattle.stages.proofs.answer.merging.put.Goals as goal
-use Rattle.std.proofs.Common.{false}
 
 pub returns-in-Some : goal.returns-in-Some
 returns-in-Some c t d is fixed =
