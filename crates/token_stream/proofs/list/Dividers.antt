@@ -46,14 +46,5 @@ divider_token list text d k r h =
 pub either_is : {e x y p q t : Bool} → e ≡ (x || y) → x ≡ p → y ≡ q → e ≡ t → (p || q) ≡ t
 either_is h f g i = cc
 
--- a token opens one group at most
-pub after_most : (d kind : ℕ) → after_kind d kind ≤ d + 1
-after_most d kind = go (eqb kind 7) (ltb 2 kind)
-  where
-    go : (x y : Bool) → (if x then d - 1 else if y then suc d else d) ≤ d + 1
-    go true y = omega arith
-    go false true = omega arith
-    go false false = omega arith
-
 pub tokens_end : (list text : List ℕ) (k : ℕ) → count list ≤ k → drop k (tokens list text) ≡ []
 tokens_end list text k h = drop_of_length-le (tokens list text) {i = k} (rw length_tokens h)
