@@ -1,59 +1,37 @@
 -- Test after test, each way out by its law.
-use mathlib.Core.Path.{◌≡◌, sym, ◌∙◌}
-use mathlib.Core.Bool.{true, false}
-use native.Mathlib.Omega.{arith}
-use Rattle.definition.specs.Tokens.{tokens, tokens_right}
-use Rattle.token_facts.specs.Flat.{none_empty_in}
-use Rattle.token_stream.proofs.Refusing.{way_50, way_51, way_52, way_53, way_fits}
+use Rattle.std.proofs.Common.{◌≡◌, Err, sym, ◌∙◌, arith}
+use Rattle.errors.specs.declared.reasons.TokenReason.TheVariants.{OverLimits}
+use Rattle.token_stream.proofs.Refusing.{is_bad, is_empty, is_over, is_short, is_admitted}
 use Rattle.token_stream.proofs.list.TokenList.admitted.Goals as goal
 
 pub returns-then-not-tokens_right : goal.returns-then-not-tokens_right
 returns-then-not-tokens_right c =
     let a = c.args in
-    way_50 a.self.now.list.now a.self.now.text.now a.area c.refuse.ensures
-    (sym c.tokens_right.ensures ∙ c.if-not-tokens_right.true)
+    is_bad a.self.now.list.now a.self.now.text.now a.area (sym c.tokens_right.ensures ∙ c.if-not-tokens_right.true)
 
 pub returns-then-not-none_empty : goal.returns-then-not-none_empty
 returns-then-not-none_empty c =
-    -- what passed
-    let right : (let a = c.args in tokens_right a.self.now.list.now a.self.now.text.now ≡ true) =
-    sym c.tokens_right.ensures ∙ c.if-not-tokens_right.false in
     let a = c.args in
-    way_51 a.self.now.list.now a.self.now.text.now a.area c.refuse-then-not-none_empty.ensures right
+    is_empty a.self.now.list.now a.self.now.text.now a.area (sym c.tokens_right.ensures ∙ c.if-not-tokens_right.false)
     (sym c.none_empty.ensures ∙ c.if-not-none_empty.true)
 
-pub returns-in-Over : goal.returns-in-Over
-returns-in-Over c =
-    -- what passed
-    let right : (let a = c.args in tokens_right a.self.now.list.now a.self.now.text.now ≡ true) =
-    sym c.tokens_right.ensures ∙ c.if-not-tokens_right.false in
-    let filled : (let a = c.args in
-    none_empty_in 0 false (tokens a.self.now.list.now a.self.now.text.now) ≡ true) =
-    sym c.none_empty.ensures ∙ c.if-not-none_empty.false in
+pub returns-in_err-h : goal.returns-in_err-h
+returns-in_err-h c =
     let a = c.args in
-    way_52 a.self.now.list.now a.self.now.text.now a.area c.refuse-in-Over.ensures right filled
-    c.counts_of.ensures c.in-Over.is
+    let (over, is) = c.in_err-h.ensures in
+    let same : c.from_residual.result ≡ Err OverLimits = grind arith in
+    rw same
+    (is_over a.self.now.list.now a.self.now.text.now a.area (sym c.tokens_right.ensures ∙ c.if-not-tokens_right.false)
+    (sym c.none_empty.ensures ∙ c.if-not-none_empty.false) over)
 
 pub returns-then-area-size_of : goal.returns-then-area-size_of
 returns-then-area-size_of c =
-    -- what passed
-    let right : (let a = c.args in tokens_right a.self.now.list.now a.self.now.text.now ≡ true) =
-    sym c.tokens_right.ensures ∙ c.if-not-tokens_right.false in
-    let filled : (let a = c.args in
-    none_empty_in 0 false (tokens a.self.now.list.now a.self.now.text.now) ≡ true) =
-    sym c.none_empty.ensures ∙ c.if-not-none_empty.false in
     let a = c.args in
-    way_53 a.self.now.list.now a.self.now.text.now a.area c.refuse-then-area-size_of.ensures right filled
-    c.counts_of.ensures c.in-Within.h c.in-Within.is c.size_of.ensures c.if-area-size_of.true
+    is_short a.self.now.list.now a.self.now.text.now a.area (sym c.tokens_right.ensures ∙ c.if-not-tokens_right.false)
+    (sym c.none_empty.ensures ∙ c.if-not-none_empty.false) c.in_ok-h.h c.in_ok-h.ensures c.size_of.ensures c.if-area-size_of.true
 
-pub returns-else-area-size_of : goal.returns-else-area-size_of
-returns-else-area-size_of c =
-    -- what passed
-    let right : (let a = c.args in tokens_right a.self.now.list.now a.self.now.text.now ≡ true) =
-    sym c.tokens_right.ensures ∙ c.if-not-tokens_right.false in
-    let filled : (let a = c.args in
-    none_empty_in 0 false (tokens a.self.now.list.now a.self.now.text.now) ≡ true) =
-    sym c.none_empty.ensures ∙ c.if-not-none_empty.false in
+pub returns : goal.returns
+returns c =
     let a = c.args in
-    way_fits a.self.now.list.now a.self.now.text.now a.area right filled c.counts_of.ensures c.in-Within.h
-    c.in-Within.is c.size_of.ensures (omega (arith, c.if-area-size_of.false))
+    is_admitted a.self.now.list.now a.self.now.text.now a.area (sym c.tokens_right.ensures ∙ c.if-not-tokens_right.false)
+    (sym c.none_empty.ensures ∙ c.if-not-none_empty.false) c.in_ok-h.h c.in_ok-h.ensures c.size_of.ensures c.if-area-size_of.false

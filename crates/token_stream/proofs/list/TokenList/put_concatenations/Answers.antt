@@ -29,7 +29,7 @@ overflow_cast-q c =
 
 pub returns-then-b-n : goal.returns-then-b-n
 returns-then-b-n c =
-    let n = c.count_of-n.ensures in
+    let n = c.count-n.ensures in
     λ cc h.
     going_end (c.loop-q.invariant.1 cc h) c.concatenation_end-b.ensures c.put_concatenation-q.ensures
     c.put_u32.ensures (omega (arith, c.if-b-n.true, n))
@@ -44,14 +44,14 @@ overflow_add-a c =
 pub loop-q-smaller : goal.loop-q-smaller
 loop-q-smaller c =
     let (cc, h) = c.requires in
-    let n = c.count_of-n.ensures in
+    let n = c.count-n.ensures in
     let b = c.concatenation_end-b.ensures in
     let s = steps (c.loop-q.invariant.1 cc h) b c.put_concatenation-q.ensures in
     omega (arith, s.order, s.stops, c.if-b-n.false, n)
 
 pub loop-q-preserved : goal.loop-q-preserved
 loop-q-preserved c =
-    let n = c.count_of-n.ensures in
+    let n = c.count-n.ensures in
     let l = c.loop-q in
     let b = c.concatenation_end-b.ensures in
     let q = c.put_concatenation-q in

@@ -19,7 +19,7 @@ loop-j-preserved c =
       omega arith,
       λ text.
           skip_next c.args.self.now.list.now text l.j c.args.e c.loop-j-test.true c.requires.1 l.d _ l.r _ _ c.after-d.ensures.open
-          (rw c.kind_at.ensures at c.if-kind_at-d.false) (ap (l.r +_) is) (l.invariant.2 text),
+          (rw c.kind_at.ensures at c.if-kind_at-d.false) (ap (l.r +◌) is) (l.invariant.2 text),
     )
 
 pub returns : goal.returns
