@@ -22,7 +22,7 @@ impl TokenList<'_> {
         ensures { result ≡ token_right self.now.list.now self.now.text.now k }
     {
         rule(
-            self.kind_at(k),
+            self.number_at(k),
             self.start_at(k),
             self.length_at(k),
             self.text.len(),
@@ -45,7 +45,7 @@ impl TokenList<'_> {
     {
         let mut d = 0;
         for k in 0..self.count() {
-            if (self.kind_at(k) == 7) & (d == 0) {
+            if self.closes(k) & (d == 0) {
                 return false;
             }
             d = self.after(k, d);

@@ -3,7 +3,7 @@ ghost use Rattle.std.specs.Prelude.{◌≡◌, true, ◌+◌, ◌<◌, drop, if�
 ghost use Rattle.definition.specs.Tokens.{count, tokens, token_at, tokens_right};
 ghost use Rattle.token_stream.specs.counts.Counting.{tally_of, token_tally, Small, sum_of, within as within_at, CountedIs};
 
-use crate::list::TokenList;
+use crate::list::{Kind, TokenList};
 use errors::TokenReason;
 use image::token_tree::Counts;
 
@@ -56,18 +56,20 @@ impl TokenList<'_> {
                 ..Tally::default()
             };
         }
-        if 2 < self.kind_at(k) {
-            return Tally {
+        match self.kind_at(k) {
+            Kind::Opener(_) | Kind::Closer => Tally {
                 records: 1,
                 bytes: 1,
                 ..Tally::default()
-            };
-        }
-        let more = self.joined(k, self.count());
-        Tally {
-            records: u64::from(!more),
-            bytes: (self.length_at(k) as u64) + u64::from(more),
-            ..Tally::default()
+            },
+            Kind::Identifier | Kind::Punctuation | Kind::Literal => {
+                let more = self.joined(k, self.count());
+                Tally {
+                    records: u64::from(!more),
+                    bytes: (self.length_at(k) as u64) + u64::from(more),
+                    ..Tally::default()
+                }
+            }
         }
     }
 

@@ -1,9 +1,33 @@
 // The tokens of a list, 12 bytes each: kind, text start and length.
-ghost use Rattle.std.specs.Prelude.{◌≡◌, ◌+◌, ◌<◌, ◌≤◌, ◌^◌};
+ghost use Rattle.std.specs.Prelude.{◌≡◌, ◌+◌, ◌<◌, ◌≤◌, ◌^◌, eqb};
 ghost use Rattle.definition.specs.Tokens.{kind_at, text_start, text_length, count};
-ghost use Rattle.token_stream.specs.list.Kinds.{after_kind, before_kind, divides_by, joined_by};
+ghost use Rattle.token_stream.specs.list.Kinds.{after_kind, before_kind, KindIs, divides_by, joined_by};
 
 use image::token_tree::{byte_at, u32_at};
+
+// What a token is. An opener has document 01's kind of its group, if 50 has passed.
+#[derive(Clone, Copy)]
+pub(crate) enum Kind {
+    Identifier,
+    Punctuation,
+    Literal,
+    Opener(u32),
+    Closer,
+}
+
+impl From<u32> for Kind {
+    ghost from_gives = { λ n kind. KindIs kind n };
+
+    fn from(n: u32) -> Kind {
+        match n {
+            0 => Kind::Identifier,
+            1 => Kind::Punctuation,
+            2 => Kind::Literal,
+            7 => Kind::Closer,
+            _ => Kind::Opener(n - 2),
+        }
+    }
+}
 
 // The lent list and the lent text.
 #[derive(Clone, Copy)]
@@ -19,11 +43,19 @@ impl TokenList<'_> {
         self.list.len() / 12
     }
 
-    pub(crate) fn kind_at(&self, k: usize) -> u32
+    // The number of a token's kind.
+    pub(crate) fn number_at(&self, k: usize) -> u32
         requires { k < count self.now.list.now }
         ensures { result ≡ kind_at self.now.list.now k }
     {
         u32_at(self.list, 12 * k)
+    }
+
+    pub(crate) fn kind_at(&self, k: usize) -> Kind
+        requires { k < count self.now.list.now }
+        ensures { KindIs result (kind_at self.now.list.now k) }
+    {
+        Kind::from(self.number_at(k))
     }
 
     pub(crate) fn start_at(&self, k: usize) -> u32
@@ -40,6 +72,13 @@ impl TokenList<'_> {
         u32_at(self.list, 12 * k + 8)
     }
 
+    pub(crate) fn closes(&self, k: usize) -> bool
+        requires { k < count self.now.list.now }
+        ensures { result ≡ eqb (kind_at self.now.list.now k) 7 }
+    {
+        matches!(self.kind_at(k), Kind::Closer)
+    }
+
     // How many groups are open after token k, d being open before it.
     pub(crate) fn after(&self, k: usize, d: usize) -> usize
         requires { (k < count self.now.list.now) × (d < 2 ^ 63) }
@@ -47,9 +86,9 @@ impl TokenList<'_> {
         ensures most { result ≤ d + 1 }
     {
         match self.kind_at(k) {
-            0..=2 => d,
-            7 => d.saturating_sub(1),
-            _ => d + 1,
+            Kind::Opener(_) => d + 1,
+            Kind::Closer => d.saturating_sub(1),
+            Kind::Identifier | Kind::Punctuation | Kind::Literal => d,
         }
     }
 
@@ -60,9 +99,9 @@ impl TokenList<'_> {
         ensures most { result ≤ d + 1 }
     {
         match self.kind_at(k) {
-            0..=2 => d,
-            7 => d + 1,
-            _ => d.saturating_sub(1),
+            Kind::Opener(_) => d.saturating_sub(1),
+            Kind::Closer => d + 1,
+            Kind::Identifier | Kind::Punctuation | Kind::Literal => d,
         }
     }
 
@@ -71,7 +110,9 @@ impl TokenList<'_> {
         requires { k < count self.now.list.now }
         ensures { result ≡ divides_by self.now.list.now self.now.text.now k d b }
     {
-        d == 0 && self.kind_at(k) == 1 && byte_at(self.text, self.start_at(k) as usize) == b
+        d == 0
+            && matches!(self.kind_at(k), Kind::Punctuation)
+            && byte_at(self.text, self.start_at(k) as usize) == b
     }
 
     // Whether tokens k and k + 1, both before e, are identifiers.
@@ -79,6 +120,8 @@ impl TokenList<'_> {
         requires { (k < e) × (e ≤ count self.now.list.now) }
         ensures { result ≡ joined_by self.now.list.now k e }
     {
-        k + 1 < e && self.kind_at(k) == 0 && self.kind_at(k + 1) == 0
+        k + 1 < e
+            && matches!(self.kind_at(k), Kind::Identifier)
+            && matches!(self.kind_at(k + 1), Kind::Identifier)
     }
 }

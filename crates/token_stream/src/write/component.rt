@@ -7,7 +7,7 @@ ghost use Rattle.token_facts.specs.Flat.{inner};
 ghost use Rattle.token_stream.specs.write.Steps.{EndFits, EndIs, DelimiterIs, LeafFits, StepFits, StepIs, span_recs, SpanFits, SpanIs};
 ghost use Rattle.token_stream.specs.write.Written.{nodes_of, Component, NodesWritten};
 
-use crate::list::TokenList;
+use crate::list::{Kind, TokenList};
 use image::token_tree::delimiter_of;
 use image::writer;
 
@@ -79,7 +79,7 @@ impl TokenList<'_> {
         let mut d: usize = 0;
         let mut r = 2;
         for j in k + 1..e {
-            if (self.kind_at(j) == 7) & (d == 0) {
+            if self.closes(j) & (d == 0) {
                 return r;
             }
             d = self.after(j, d);
@@ -109,18 +109,21 @@ impl TokenList<'_> {
         ensures { StepIs base (token_at self.now.list.now self.now.text.now k) (slice (k + 1) e (tokens self.now.list.now self.now.text.now))
             area.old area.new m result }
     {
-        let kind = self.kind_at(k);
-        if kind < 3 {
-            return self.put_leaf(area, base, k, e, m);
+        match self.kind_at(k) {
+            Kind::Opener(kind) => {
+                let d = delimiter_of(kind);
+                let groups = m.groups * 4 + ((kind - 1) as u64);
+                let skip = self.skip_at(k, e) as u32;
+                m.put_delimiter(area, base, d.opening, kind, skip, groups)
+            }
+            Kind::Closer => {
+                let d = delimiter_of((m.groups % 4) as u32 + 1);
+                m.put_delimiter(area, base, d.closing, 5, 1, m.groups / 4)
+            }
+            Kind::Identifier | Kind::Punctuation | Kind::Literal => self.put_leaf(
+                area, base, k, e, m,
+            ),
         }
-        if kind == 7 {
-            let d = delimiter_of((m.groups % 4) as u32 + 1);
-            return m.put_delimiter(area, base, d.closing, 5, 1, m.groups / 4);
-        }
-        let d = delimiter_of(kind - 2);
-        let groups = m.groups * 4 + ((kind - 3) as u64);
-        let skip = self.skip_at(k, e) as u32;
-        m.put_delimiter(area, base, d.opening, kind - 2, skip, groups)
     }
 
     fn put_tokens(&self, area: &mut [u8], base: usize, s: usize, e: usize, pen: Pen) -> Mark

@@ -19,17 +19,17 @@ loop-k-preserved c =
     let inside : v.k < count a.list.now = omega arith in
     elim c.if-divides.branch [
       | then-divides+else-not-begun w ↦ (
-          omega arith,
-          empty_divider a.list.now a.text.now v.k v.d v.begun c.requires inside
-              (rw (c.divides.ensures, c.divides-in-loop-k.ensures) at w.if-divides.true) w.if-not-begun.false w.d-is w.begun-is
-              ∙ v.invariant.1,
-        )
+        omega arith,
+        empty_divider a.list.now a.text.now v.k v.d v.begun c.requires inside
+            (rw (c.divides.ensures, c.divides-in-loop-k.ensures) at w.if-divides.true) w.if-not-begun.false w.d-is w.begun-is
+            ∙ v.invariant.1,
+      )
       | else-divides w ↦ (
-          omega arith,
-          empty_other a.list.now a.text.now v.k v.d v.begun c.requires inside
-              (rw (c.divides.ensures, c.divides-in-loop-k.ensures) at w.if-divides.false)
-              (w.d-is ∙ w.after-d.ensures.open) w.begun-is ∙ v.invariant.1,
-        )
+        omega arith,
+        empty_other a.list.now a.text.now v.k v.d v.begun c.requires inside
+            (rw (c.divides.ensures, c.divides-in-loop-k.ensures) at w.if-divides.false)
+            (w.d-is ∙ w.after-d.ensures.open) w.begun-is ∙ v.invariant.1,
+      )
     ]
 
 pub returns : goal.returns

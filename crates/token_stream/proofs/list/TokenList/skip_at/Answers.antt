@@ -2,12 +2,12 @@ use Rattle.std.proofs.Common.{ap, ◌∙◌, ◌+◌, arith}
 use Rattle.token_stream.proofs.write.component.Skips.{skip_next, skip_closer, skip_end, ends}
 use Rattle.token_stream.proofs.list.TokenList.skip_at.Goals as goal
 
-pub returns-then-kind_at-d : goal.returns-then-kind_at-d
-returns-then-kind_at-d c =
+pub returns-then-closes-d : goal.returns-then-closes-d
+returns-then-closes-d c =
     let l = c.loop-j in (
       λ text.
           skip_closer c.args.self.now.list.now text l.j c.args.e c.loop-j-test.true c.requires.1 l.d l.r _
-          (rw c.kind_at.ensures at c.if-kind_at-d.true) (l.invariant.2 text),
+          (rw c.closes.ensures at c.if-closes-d.true) (l.invariant.2 text),
       omega arith,
     )
 
@@ -19,7 +19,7 @@ loop-j-preserved c =
       omega arith,
       λ text.
           skip_next c.args.self.now.list.now text l.j c.args.e c.loop-j-test.true c.requires.1 l.d _ l.r _ _ c.after-d.ensures.open
-          (rw c.kind_at.ensures at c.if-kind_at-d.false) (ap (l.r +◌) is) (l.invariant.2 text),
+          (rw c.closes.ensures at c.if-closes-d.false) (ap (l.r +◌) is) (l.invariant.2 text),
     )
 
 pub returns : goal.returns

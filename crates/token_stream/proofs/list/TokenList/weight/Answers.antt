@@ -17,24 +17,24 @@ returns-then-divides-semicolon c =
       record { semicolons = omega arith; dividers = omega arith; records = omega arith; bytes = omega arith },
     )
 
-pub returns-then-kind_at-gt2 : goal.returns-then-kind_at-gt2
-returns-then-kind_at-gt2 c =
+pub returns-in-Opener : goal.returns-in-Opener
+returns-in-Opener c =
     let a = c.args in
-    let (s, (v, (_, _))) = c.default-then-kind_at-gt2.ensures in (
-      rw (s, v) (group_tally a.self.now.list.now a.self.now.text.now a.k a.d c.requires.1 c.requires.0 (omega arith)),
+    let (s, (v, (_, _))) = c.default-in-Opener.ensures in (
+      rw (s, v) (group_tally a.self.now.list.now a.self.now.text.now a.k a.d c.requires.1 c.requires.0 (grind arith)),
       record { semicolons = omega arith; dividers = omega arith; records = omega arith; bytes = omega arith },
     )
 
-pub returns : goal.returns
-returns c =
+pub returns-in-Identifier : goal.returns-in-Identifier
+returns-in-Identifier c =
     let a = c.args in
     let more = c.joined-more.result in
-    let (ends, most) = one_is (not more) c.from-2.ensures in
-    let (goes, most') = one_is more c.from-3.ensures in
-    let (s, (v, (_, _))) = c.default-2.ensures in (
+    let (ends, most) = one_is (not more) c.from-in-Identifier.ensures in
+    let (goes, most') = one_is more c.from-in-Identifier-2.ensures in
+    let (s, (v, (_, _))) = c.default-in-Identifier.ensures in (
       rw (s, v)
           (leaf_tally a.self.now.list.now a.self.now.text.now a.k a.d c.requires.1 c.requires.0 more
-          (rw (c.divides.ensures, c.divides-semicolon.ensures) at c.if-divides-semicolon.false) (omega arith)
+          (rw (c.divides.ensures, c.divides-semicolon.ensures) at c.if-divides-semicolon.false) (grind arith)
           (c.joined-more.ensures ∙ ap (joined_by a.self.now.list.now a.k) c.count.ensures) c.length_at.ensures ends goes),
       record { semicolons = omega arith; dividers = omega arith; records = omega arith; bytes = omega arith },
     )
