@@ -1,5 +1,5 @@
 -- 50 to 53, each way out: what the walks found is what the definition asks of the list's stream.
-use Rattle.std.specs.Prelude.{◌+◌, ◌*◌, ◌&&◌, if◌then◌else◌, Ok}
+use Rattle.std.specs.Prelude.{◌+◌, ◌*◌, ◌&&◌, Ok}
 use mathlib.Core.Path.{◌≡◌, refl, sym, ap, ◌∙◌}
 use Prim.Native.Nat.{◌≤◌, ◌<◌}
 use native.Mathlib.Nat.{add-zero}

@@ -6,6 +6,7 @@ ghost use Rattle.token_stream.specs.counts.Counting.{tally_of, token_tally, Smal
 use crate::list::{Kind, TokenList};
 use errors::TokenReason;
 use image::token_tree::Counts;
+use std::ops::Add;
 
 // Semicolons and dividers at the top level, records and text bytes.
 #[derive(Clone, Copy, Default)]
@@ -16,11 +17,14 @@ struct Tally {
     bytes: u64,
 }
 
-impl Tally {
-    fn plus(self, other: Tally) -> Tally
-        requires { Small self × Small other }
-        ensures { tally_of result ≡ sum_of (tally_of self) (tally_of other) }
-    {
+impl Add for Tally {
+    type Output = Tally;
+
+    ghost can_add = { λ a b. Small a × Small b };
+
+    ghost add_gives = { λ a b c. tally_of c ≡ sum_of (tally_of a) (tally_of b) };
+
+    fn add(self, other: Tally) -> Tally {
         Tally {
             semicolons: self.semicolons + other.semicolons,
             dividers: self.dividers + other.dividers,
@@ -28,7 +32,9 @@ impl Tally {
             bytes: self.bytes + other.bytes,
         }
     }
+}
 
+impl Tally {
     // Whether no count is above its limit, d groups being open.
     fn within(self, d: usize) -> bool
         ensures { result ≡ within_at (tally_of self) d }
@@ -80,7 +86,7 @@ impl TokenList<'_> {
         let mut t = Tally::default();
         let mut d = 0;
         for k in 0..self.count() {
-            t = t.plus(self.weight(k, d));
+            t = t + self.weight(k, d);
             d = self.after(k, d);
             if !t.within(d) {
                 return Err(TokenReason::OverLimits);

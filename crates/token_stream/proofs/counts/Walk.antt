@@ -1,11 +1,11 @@
 -- The walk of 52: what was added up and what is left give what the whole list gives. A turn, a stop over a limit, and the end.
-use Rattle.std.specs.Prelude.{◌+◌, ◌&&◌, ◌∷◌, if◌then◌else◌}
+use Rattle.std.specs.Prelude.{◌+◌, ◌&&◌, ◌∷◌}
 use mathlib.Core.Path.{◌≡◌, refl, sym, ap, ◌∙◌}
 use Prim.Native.Nat.{◌≤◌, ◌<◌}
 use native.Mathlib.Nat.{zero-add, add-zero, add_assoc}
 use native.Mathlib.Omega.{arith}
 use borrow.Author.Tests.{lt-ltb, ltb-true, le-leb, leb-true, leb-false, lt-leb}
-use Rattle.definition.specs.Prelude.{ℕ, max, Bool, true, false, none, some, List, [], drop, leb, ltb}
+use Rattle.definition.specs.Prelude.{ℕ, max, Bool, true, false, List, [], drop, leb, ltb}
 use Rattle.definition.specs.Limits.{limits}
 use Rattle.definition.specs.Tokens.{Token, kind_at, token_at, count, tokens}
 use Rattle.laws.specs.Tests.{by_test, and_iff}

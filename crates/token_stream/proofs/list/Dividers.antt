@@ -1,15 +1,14 @@
 -- A comma or a semicolon that divides, and the depth after a token.
-use Rattle.std.specs.Prelude.{◌+◌, ◌-◌, ◌&&◌, ◌||◌, if◌then◌else◌}
+use Rattle.std.specs.Prelude.{◌&&◌, ◌||◌}
 use mathlib.Core.Path.{◌≡◌, refl, ◌∙◌}
 use Prim.Native.Nat.{◌≤◌, ◌<◌}
-use native.Mathlib.Omega.{arith}
 use lib.ListN.{drop_of_length-le}
-use Rattle.definition.specs.Prelude.{ℕ, suc, Bool, true, false, List, [], drop, ltb, eqb}
+use Rattle.definition.specs.Prelude.{ℕ, Bool, true, false, List, [], drop, eqb}
 use Rattle.definition.specs.Characters.{char}
 use Rattle.definition.specs.TokenStream.{is_punct}
 use Rattle.definition.specs.Tokens.{Token, single, opener, closer, token_at, count, tokens, tokens_right}
 use Rattle.token_facts.specs.Flat.{divides_at}
-use Rattle.token_stream.specs.list.Kinds.{after_kind, divides_by}
+use Rattle.token_stream.specs.list.Kinds.{divides_by}
 use Rattle.token_stream.specs.list.Tokens.{punct_is, divides_token, length_tokens}
 
 abbrev pub divider : ℕ → Token → Bool

@@ -1,6 +1,5 @@
-use Rattle.std.proofs.Common.{◌≡◌, true, false, ◌<◌, ◌∙◌, ◌||◌, Bool, arith}
+use Rattle.std.proofs.Common.{◌<◌, ◌∙◌, arith}
 use Rattle.definition.specs.Tokens.{count}
-use Rattle.token_stream.proofs.list.Dividers.{dividing, either_is}
 use Rattle.token_stream.proofs.check.Walks.{empty_divider, empty_other, empty_stop, empty_end}
 use Rattle.token_stream.proofs.list.TokenList.none_empty.Goals as goal
 use Rattle.token_stream.proofs.list.TokenList.none_empty.Goals.{then-divides+else-not-begun, else-divides}

@@ -24,7 +24,7 @@ returns-in-Opener c =
     (c.skip_at-skip.ensures.0 a.self.now.text.now) c.put_delimiter.ensures
 
 pub returns-in-Closer : goal.returns-in-Closer
-returns-in-Closer c = 
+returns-in-Closer c =
     let a = c.args in
     put_closer a.self.now.list.now a.self.now.text.now a.k a.base a.e
     c.delimiter_of-d-in-Closer.result.closing a.area.now _ a.m _ c.in-Closer.ensures

@@ -1,5 +1,4 @@
 -- Before token k what was done of the tokens' records stands in the area.
-use Rattle.std.proofs.Common.{◌≡◌, length}
 use Rattle.std.proofs.Math.Seq.{slice}
 use Rattle.definition.specs.Tokens.{tokens}
 use Rattle.token_stream.specs.write.Steps.{span_recs}

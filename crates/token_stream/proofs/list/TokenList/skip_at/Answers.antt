@@ -1,4 +1,4 @@
-use Rattle.std.proofs.Common.{ap, ◌∙◌, ◌+◌, arith}
+use Rattle.std.proofs.Common.{ap, ◌+◌, arith}
 use Rattle.token_stream.proofs.write.component.Skips.{skip_next, skip_closer, skip_end, ends}
 use Rattle.token_stream.proofs.list.TokenList.skip_at.Goals as goal
 
