@@ -1,2 +1,2 @@
 -- Laws of the walks of 50 and 51 over plain variables, which the functions' proofs cite.
-mod Walks
+pub mod Walks

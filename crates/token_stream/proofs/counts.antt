@@ -1,3 +1,3 @@
 -- Laws of the counts over plain variables, which the functions' proofs cite.
-mod Tallies
-mod Walk
+pub mod Tallies
+pub mod Walk

@@ -1,6 +1,6 @@
 -- Laws that the proofs of what is written cite.
-mod Dividers
+pub mod Dividers
 pub mod Joining
-mod Rounds
-mod Turns
+pub mod Rounds
+pub mod Turns
 pub mod Whole

@@ -8,19 +8,12 @@ mod write;
 
 ghost use Rattle.std.specs.Prelude.{◌≡◌, ◌+◌, ◌*◌};
 ghost use Rattle.definition.specs.Tokens.{tokens_on};
-ghost use Rattle.errors.specs.Refused.{outcome_of};
+ghost use Rattle.errors.specs.Refused.{result_of};
 ghost use Rattle.token_stream.specs.Admitted.{AdmittedIs};
 
-use crate::counts::Counted;
-use errors::{Outcome, Refusal, refuse};
+use crate::list::TokenList;
+use errors::{Refusal, TokenReason};
 use image::token_tree::Counts;
-
-// Whether an image is written: its counts, or why not.
-#[derive(Clone, Copy)]
-enum Admission {
-    Fits(Counts),
-    Refused(Refusal),
-}
 
 // How long an image with these counts and no literal bytes is.
 fn size_of(h: Counts) -> u64
@@ -29,34 +22,30 @@ fn size_of(h: Counts) -> u64
     40 + 4 * (h.c as u64) + 8 * (h.n as u64) + 12 * (h.r as u64) + (h.t as u64)
 }
 
-// 50 to 53, each over the whole list before the next.
-fn admitted(list: &[u8], text: &[u8], area: usize) -> Admission
-    ensures { AdmittedIs list.now text.now area result }
-{
-    if !check::tokens_right(list, text) {
-        return Admission::Refused(refuse(50));
-    }
-    if !check::none_empty(list, text) {
-        return Admission::Refused(refuse(51));
-    }
-    match counts::counts_of(list, text) {
-        Counted::Over => Admission::Refused(refuse(52)),
-        Counted::Within(h) => {
-            if (area as u64) < size_of(h) {
-                Admission::Refused(refuse(53))
-            } else {
-                Admission::Fits(h)
-            }
+impl TokenList<'_> {
+    // 50 to 53, each over the whole list before the next.
+    fn admitted(&self, area: usize) -> Result<Counts, TokenReason>
+        ensures { AdmittedIs self.now.list.now self.now.text.now area result }
+    {
+        if !self.tokens_right() {
+            return Err(TokenReason::BadToken);
         }
+        if !self.none_empty() {
+            return Err(TokenReason::EmptyComponent);
+        }
+        let h = self.counts()?;
+        if (area as u64) < size_of(h) {
+            return Err(TokenReason::ShortImageArea);
+        }
+        Ok(h)
     }
 }
 
 // The list as an image, from the area's first byte on: the image's length. Refused: the area is as lent.
-pub fn token_stream_to_image(list: &[u8], text: &[u8], area: &mut [u8]) -> Outcome
-    ensures { (outcome_of result, area.new) ≡ tokens_on list.now text.now area.old }
+pub fn token_stream_to_image(list: &[u8], text: &[u8], area: &mut [u8]) -> Result<usize, Refusal>
+    ensures { (result_of result, area.new) ≡ tokens_on list.now text.now area.old }
 {
-    match admitted(list, text, area.len()) {
-        Admission::Refused(q) => Outcome::Refused(q),
-        Admission::Fits(h) => Outcome::Accepted(write::put_image(list, text, area, h)),
-    }
+    let tokens = TokenList { list, text };
+    let h = tokens.admitted(area.len())?;
+    Ok(tokens.put_image(area, h))
 }

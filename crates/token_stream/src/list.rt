@@ -1,84 +1,127 @@
 // The tokens of a list, 12 bytes each: kind, text start and length.
-ghost use Rattle.std.specs.Prelude.{◌≡◌, ◌+◌, ◌<◌, ◌≤◌, ◌^◌};
+ghost use Rattle.std.specs.Prelude.{◌≡◌, ◌+◌, ◌<◌, ◌≤◌, ◌^◌, eqb};
 ghost use Rattle.definition.specs.Tokens.{kind_at, text_start, text_length, count};
-ghost use Rattle.token_stream.specs.list.Kinds.{after_kind, before_kind, divides_by, joined_by};
+ghost use Rattle.token_stream.specs.list.Kinds.{after_kind, before_kind, KindIs, divides_by, joined_by};
 
-use errors::flags::both;
 use image::token_tree::{byte_at, u32_at};
 
-pub(crate) fn count_of(list: &[u8]) -> usize
-    ensures { result ≡ count list.now }
-{
-    list.len() / 12
+// What a token is. An opener has document 01's kind of its group, if 50 has passed.
+#[derive(Clone, Copy)]
+pub(crate) enum Kind {
+    Identifier,
+    Punctuation,
+    Literal,
+    Opener(u32),
+    Closer,
 }
 
-pub(crate) fn kind_at(list: &[u8], k: usize) -> u32
-    requires { k < count list.now }
-    ensures { result ≡ kind_at list.now k }
-{
-    u32_at(list, 12 * k)
-}
+impl From<u32> for Kind {
+    ghost from_gives = { λ n kind. KindIs kind n };
 
-pub(crate) fn start_at(list: &[u8], k: usize) -> u32
-    requires { k < count list.now }
-    ensures { result ≡ text_start list.now k }
-{
-    u32_at(list, 12 * k + 4)
-}
-
-pub(crate) fn length_at(list: &[u8], k: usize) -> u32
-    requires { k < count list.now }
-    ensures { result ≡ text_length list.now k }
-{
-    u32_at(list, 12 * k + 8)
-}
-
-// How many groups are open after a token of this kind, d being open before it.
-pub(crate) fn after(d: usize, kind: u32) -> usize
-    requires { d < 2 ^ 63 }
-    ensures { result ≡ after_kind d kind }
-{
-    if kind == 7 {
-        return if d == 0 { 0 } else { d - 1 };
+    fn from(n: u32) -> Kind {
+        match n {
+            0 => Kind::Identifier,
+            1 => Kind::Punctuation,
+            2 => Kind::Literal,
+            7 => Kind::Closer,
+            _ => Kind::Opener(n - 2),
+        }
     }
-    if 2 < kind { d + 1 } else { d }
 }
 
-// The same backwards.
-pub(crate) fn back(d: usize, kind: u32) -> usize
-    requires { d < 2 ^ 63 }
-    ensures { result ≡ before_kind d kind }
-{
-    if kind == 7 {
-        return d + 1;
-    }
-    if 2 < kind {
-        return if d == 0 { 0 } else { d - 1 };
-    }
-    d
+// The lent list and the lent text.
+#[derive(Clone, Copy)]
+pub(crate) struct TokenList<'a> {
+    pub(crate) list: &'a [u8],
+    pub(crate) text: &'a [u8],
 }
 
-// Whether token k is this punctuation, and no group is open. Of other tokens the text is not looked at.
-pub(crate) fn divides(list: &[u8], text: &[u8], k: usize, d: usize, b: u8) -> bool
-    requires { k < count list.now }
-    ensures { result ≡ divides_by list.now text.now k d b }
-{
-    if d != 0 {
-        return false;
+impl TokenList<'_> {
+    pub(crate) fn count(&self) -> usize
+        ensures { result ≡ count self.now.list.now }
+    {
+        self.list.len() / 12
     }
-    if kind_at(list, k) != 1 {
-        return false;
-    }
-    byte_at(text, start_at(list, k) as usize) == b
-}
 
-// Whether tokens k and k + 1, both before e, are identifiers.
-pub(crate) fn joined(list: &[u8], k: usize, e: usize) -> bool
-    requires { (k < e) × (e ≤ count list.now) }
-    ensures { result ≡ joined_by list.now k e }
-{
-    if k + 1 == e {
-        return false;
+    // The number of a token's kind.
+    pub(crate) fn number_at(&self, k: usize) -> u32
+        requires { k < count self.now.list.now }
+        ensures { result ≡ kind_at self.now.list.now k }
+    {
+        u32_at(self.list, 12 * k)
     }
-    both(kind_at(list, k) == 0, kind_at(list, k + 1) == 0)
+
+    pub(crate) fn kind_at(&self, k: usize) -> Kind
+        requires { k < count self.now.list.now }
+        ensures { KindIs result (kind_at self.now.list.now k) }
+    {
+        Kind::from(self.number_at(k))
+    }
+
+    pub(crate) fn start_at(&self, k: usize) -> u32
+        requires { k < count self.now.list.now }
+        ensures { result ≡ text_start self.now.list.now k }
+    {
+        u32_at(self.list, 12 * k + 4)
+    }
+
+    pub(crate) fn length_at(&self, k: usize) -> u32
+        requires { k < count self.now.list.now }
+        ensures { result ≡ text_length self.now.list.now k }
+    {
+        u32_at(self.list, 12 * k + 8)
+    }
+
+    pub(crate) fn closes(&self, k: usize) -> bool
+        requires { k < count self.now.list.now }
+        ensures { result ≡ eqb (kind_at self.now.list.now k) 7 }
+    {
+        matches!(self.kind_at(k), Kind::Closer)
+    }
+
+    // How many groups are open after token k, d being open before it.
+    pub(crate) fn after(&self, k: usize, d: usize) -> usize
+        requires { (k < count self.now.list.now) × (d < 2 ^ 63) }
+        ensures open { result ≡ after_kind d (kind_at self.now.list.now k) }
+        ensures most { result ≤ d + 1 }
+    {
+        match self.kind_at(k) {
+            Kind::Opener(_) => d + 1,
+            Kind::Closer => d.saturating_sub(1),
+            Kind::Identifier | Kind::Punctuation | Kind::Literal => d,
+        }
+    }
+
+    // How many are open before it, d being open after it.
+    pub(crate) fn before(&self, k: usize, d: usize) -> usize
+        requires { (k < count self.now.list.now) × (d < 2 ^ 63) }
+        ensures open { result ≡ before_kind d (kind_at self.now.list.now k) }
+        ensures most { result ≤ d + 1 }
+    {
+        match self.kind_at(k) {
+            Kind::Opener(_) => d.saturating_sub(1),
+            Kind::Closer => d + 1,
+            Kind::Identifier | Kind::Punctuation | Kind::Literal => d,
+        }
+    }
+
+    // Whether token k is this punctuation, and no group is open. Of other tokens the text is not looked at.
+    pub(crate) fn divides(&self, k: usize, d: usize, b: u8) -> bool
+        requires { k < count self.now.list.now }
+        ensures { result ≡ divides_by self.now.list.now self.now.text.now k d b }
+    {
+        d == 0
+            && matches!(self.kind_at(k), Kind::Punctuation)
+            && byte_at(self.text, self.start_at(k) as usize) == b
+    }
+
+    // Whether tokens k and k + 1, both before e, are identifiers.
+    pub(crate) fn joined(&self, k: usize, e: usize) -> bool
+        requires { (k < e) × (e ≤ count self.now.list.now) }
+        ensures { result ≡ joined_by self.now.list.now k e }
+    {
+        k + 1 < e
+            && matches!(self.kind_at(k), Kind::Identifier)
+            && matches!(self.kind_at(k + 1), Kind::Identifier)
+    }
 }

@@ -5,6 +5,7 @@ use Prim.Native.Nat.{◌≤◌, ◌<◌}
 use native.Mathlib.Omega.{arith}
 use borrow.Author.Tests.{eqb-true, le-ltb}
 use lib.Seq.{slice, take_all}
+use Rattle.std.specs.Int.{from_bool}
 use Rattle.definition.specs.Prelude.{ℕ, Bool, true, false, not, List, length, drop, ltb, eqb}
 use Rattle.definition.specs.Characters.{char}
 use Rattle.definition.specs.TokenStream.{Leaf, leaf_text, is_punct}
@@ -24,9 +25,9 @@ sums s v r b = record { semicolons = s; dividers = v; records = r; bytes = b }
 abbrev one_if : Bool → ℕ
 one_if b = if b then 1 else 0
 
-pub one_most : (b : Bool) {x : ℕ} → x ≡ one_if b → x ≤ 1
-one_most true e = omega arith
-one_most false e = omega arith
+pub one_is : (b : Bool) {x : ℕ} → x ≡ from_bool b → (x ≡ one_if b) × (x ≤ 1)
+one_is true e = (e, omega arith)
+one_is false e = (e, omega arith)
 
 -- ---- by the token
 

@@ -1,11 +1,11 @@
 -- The walk of 52: what was added up and what is left give what the whole list gives. A turn, a stop over a limit, and the end.
-use Rattle.std.specs.Prelude.{◌+◌, ◌&&◌, ◌∷◌, if◌then◌else◌}
+use Rattle.std.specs.Prelude.{◌+◌, ◌&&◌, ◌∷◌}
 use mathlib.Core.Path.{◌≡◌, refl, sym, ap, ◌∙◌}
 use Prim.Native.Nat.{◌≤◌, ◌<◌}
 use native.Mathlib.Nat.{zero-add, add-zero, add_assoc}
 use native.Mathlib.Omega.{arith}
 use borrow.Author.Tests.{lt-ltb, ltb-true, le-leb, leb-true, leb-false, lt-leb}
-use Rattle.definition.specs.Prelude.{ℕ, max, Bool, true, false, none, some, List, [], drop, leb, ltb}
+use Rattle.definition.specs.Prelude.{ℕ, max, Bool, true, false, List, [], drop, leb, ltb}
 use Rattle.definition.specs.Limits.{limits}
 use Rattle.definition.specs.Tokens.{Token, kind_at, token_at, count, tokens}
 use Rattle.laws.specs.Tests.{by_test, and_iff}
@@ -178,15 +178,3 @@ module _ (list text : List ℕ) where
           ≡ counts_in (tokens list text)
       walked_counts =
           ap (λ (s : Sums). record { c = s.semicolons + 1; n = s.dividers + 1; r = s.records; t = s.bytes; b = 0 }) total
-
--- ---- the answer
-
-abbrev Counted : Type 0
-Counted = record { c : ℕ; n : ℕ; r : ℕ; t : ℕ; b : ℕ }
-
-pub told_over : (ts : List Token) → within_in ts ≡ false → none ≡ (if within_in ts then some (counts_in ts) else none)
-told_over ts e = sym (ap (λ (x : Bool). if x then some (counts_in ts) else none) e)
-
-pub told_within : (ts : List Token) (h : Counted) → within_in ts ≡ true → h ≡ counts_in ts
-    → some h ≡ (if within_in ts then some (counts_in ts) else none)
-told_within ts h e f = ap some f ∙ sym (ap (λ (x : Bool). if x then some (counts_in ts) else none) e)

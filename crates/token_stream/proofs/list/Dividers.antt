@@ -1,15 +1,14 @@
 -- A comma or a semicolon that divides, and the depth after a token.
-use Rattle.std.specs.Prelude.{◌+◌, ◌-◌, ◌&&◌, ◌||◌, if◌then◌else◌}
+use Rattle.std.specs.Prelude.{◌&&◌, ◌||◌}
 use mathlib.Core.Path.{◌≡◌, refl, ◌∙◌}
 use Prim.Native.Nat.{◌≤◌, ◌<◌}
-use native.Mathlib.Omega.{arith}
 use lib.ListN.{drop_of_length-le}
-use Rattle.definition.specs.Prelude.{ℕ, suc, Bool, true, false, List, [], drop, ltb, eqb}
+use Rattle.definition.specs.Prelude.{ℕ, Bool, true, false, List, [], drop, eqb}
 use Rattle.definition.specs.Characters.{char}
 use Rattle.definition.specs.TokenStream.{is_punct}
 use Rattle.definition.specs.Tokens.{Token, single, opener, closer, token_at, count, tokens, tokens_right}
 use Rattle.token_facts.specs.Flat.{divides_at}
-use Rattle.token_stream.specs.list.Kinds.{after_kind, divides_by}
+use Rattle.token_stream.specs.list.Kinds.{divides_by}
 use Rattle.token_stream.specs.list.Tokens.{punct_is, divides_token, length_tokens}
 
 abbrev pub divider : ℕ → Token → Bool
@@ -45,15 +44,6 @@ divider_token list text d k r h =
 
 pub either_is : {e x y p q t : Bool} → e ≡ (x || y) → x ≡ p → y ≡ q → e ≡ t → (p || q) ≡ t
 either_is h f g i = cc
-
--- a token opens one group at most
-pub after_most : (d kind : ℕ) → after_kind d kind ≤ d + 1
-after_most d kind = go (eqb kind 7) (ltb 2 kind)
-  where
-    go : (x y : Bool) → (if x then d - 1 else if y then suc d else d) ≤ d + 1
-    go true y = omega arith
-    go false true = omega arith
-    go false false = omega arith
 
 pub tokens_end : (list text : List ℕ) (k : ℕ) → count list ≤ k → drop k (tokens list text) ≡ []
 tokens_end list text k h = drop_of_length-le (tokens list text) {i = k} (rw length_tokens h)

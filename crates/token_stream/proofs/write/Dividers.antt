@@ -1,5 +1,5 @@
 -- Dividers, token by token: forwards to the semicolon that ends a concatenation, backwards to the comma that begins a component.
-use Rattle.std.specs.Prelude.{◌+◌, ◌-◌, ◌&&◌, ◌∷◌, if◌then◌else◌}
+use Rattle.std.specs.Prelude.{◌+◌, ◌-◌, ◌&&◌, ◌∷◌}
 use mathlib.Core.Path.{◌≡◌, refl, sym, ap, ◌∙◌}
 use Prim.Native.Nat.{◌≤◌, ◌<◌}
 use native.Mathlib.Omega.{arith}
@@ -14,7 +14,6 @@ use Rattle.token_facts.specs.Flat.{after, to_semicolon, to_comma}
 use Rattle.token_stream.specs.list.Kinds.{after_kind, before_kind, divides_by}
 use Rattle.token_stream.specs.list.Tokens.{punct_is, length_tokens, tokens_from, tokens_back, after_token, divides_token}
 use Rattle.token_stream.specs.list.Tokens.{leaf_token, opener_token, closer_token}
-use Rattle.token_stream.proofs.list.Dividers.{after_most}
 
 -- how many groups are open before a token
 abbrev before_token : ℕ → Token → ℕ
@@ -66,15 +65,6 @@ comma_next d closer ts h = refl
 
 -- ---- one token of a list
 
--- a token closes one group at most
-before_most : (d kind : ℕ) → before_kind d kind ≤ d + 1
-before_most d kind = go (eqb kind 7) (ltb 2 kind)
-  where
-    go : (x y : Bool) → (if x then suc d else if y then d - 1 else d) ≤ d + 1
-    go true y = omega arith
-    go false true = omega arith
-    go false false = omega arith
-
 module _ (list text : List ℕ) (right : tokens_right list text ≡ true) where
   -- from token e on, d groups being open; r is what the code asked of the token, and d' are open after it
   pub end_here : (d e : ℕ) {r : Bool} → e < count list → r ≡ divides_by list text e d char.semicolon → r ≡ true
@@ -84,18 +74,14 @@ module _ (list text : List ℕ) (right : tokens_right list text ≡ true) where
       ∙ semicolon_here d (token_at list text e) (drop (e + 1) (tokens list text))
       (sym (told ∙ divides_token list text char.semicolon d e right h) ∙ g)
 
-  pub end_next : (d e : ℕ) {r : Bool} {d' kind : ℕ} → e < count list → r ≡ divides_by list text e d char.semicolon → r ≡ false
-      → kind ≡ kind_at list e → d' ≡ after_kind d kind
-      → (to_semicolon d (drop e (tokens list text)) ≡ suc (to_semicolon d' (drop (e + 1) (tokens list text)))) × (d' ≤ d + 1)
-  end_next d e {r} {d'} {kind} h told g k f =
+  pub end_next : (d e : ℕ) {r : Bool} {d' : ℕ} → e < count list → r ≡ divides_by list text e d char.semicolon → r ≡ false
+      → d' ≡ after_kind d (kind_at list e) → to_semicolon d (drop e (tokens list text)) ≡ suc (to_semicolon d' (drop (e + 1) (tokens list text)))
+  end_next d e {r} {d'} h told g f =
       let rest = drop (e + 1) (tokens list text) in
-      let now_open : after d (token_at list text e) ≡ d' = after_token list text d e ∙ ap (after_kind d) (sym k) ∙ sym f in
-      let most = after_most d kind in (
-        ap (to_semicolon d) (tokens_from list text e h)
-            ∙ semicolon_next d (token_at list text e) rest (sym (told ∙ divides_token list text char.semicolon d e right h) ∙ g)
-            ∙ ap (λ n. suc (to_semicolon n rest)) now_open,
-        omega arith,
-      )
+      let now_open : after d (token_at list text e) ≡ d' = after_token list text d e ∙ sym f in
+      ap (to_semicolon d) (tokens_from list text e h)
+      ∙ semicolon_next d (token_at list text e) rest (sym (told ∙ divides_token list text char.semicolon d e right h) ∙ g)
+      ∙ ap (λ n. suc (to_semicolon n rest)) now_open
 
   pub end_last : (d e : ℕ) → count list ≤ e → to_semicolon d (drop e (tokens list text)) ≡ 0
   unfolding to_semicolon
@@ -107,24 +93,19 @@ module _ (list text : List ℕ) (right : tokens_right list text ≡ true) where
   pub start_here : (d a s : ℕ) {r : Bool} → a < s → s ≤ count list → r ≡ divides_by list text (s - 1) d char.comma → r ≡ true
       → to_comma d (reverse (slice a s (tokens list text))) ≡ 0
   start_here d a s h k told g =
-      let l : s - 1 < count list = omega arith in
       ap (to_comma d) (tokens_back list text a s h k)
       ∙ comma_here d (token_at list text (s - 1)) (reverse (slice a (s - 1) (tokens list text)))
-      (sym (told ∙ divides_token list text char.comma d (s - 1) right l) ∙ g)
+      (sym (told ∙ divides_token list text char.comma d (s - 1) right (omega arith)) ∙ g)
 
-  pub start_next : (d a s : ℕ) {r : Bool} {d' kind : ℕ} → a < s → s ≤ count list → r ≡ divides_by list text (s - 1) d char.comma
-      → r ≡ false → kind ≡ kind_at list (s - 1) → d' ≡ before_kind d kind
-      → (to_comma d (reverse (slice a s (tokens list text))) ≡ suc (to_comma d' (reverse (slice a (s - 1) (tokens list text))))) × (d' ≤ d + 1)
-  start_next d a s {r} {d'} {kind} h k told g z f =
-      let l : s - 1 < count list = omega arith in
+  pub start_next : (d a s : ℕ) {r : Bool} {d' : ℕ} → a < s → s ≤ count list → r ≡ divides_by list text (s - 1) d char.comma → r ≡ false
+      → d' ≡ before_kind d (kind_at list (s - 1))
+      → to_comma d (reverse (slice a s (tokens list text))) ≡ suc (to_comma d' (reverse (slice a (s - 1) (tokens list text))))
+  start_next d a s {r} {d'} h k told g f =
       let rest = reverse (slice a (s - 1) (tokens list text)) in
-      let now_open : before_token d (token_at list text (s - 1)) ≡ d' = before_token_lem list text d (s - 1) ∙ ap (before_kind d) (sym z) ∙ sym f in
-      let most = before_most d kind in (
-        ap (to_comma d) (tokens_back list text a s h k)
-            ∙ comma_next d (token_at list text (s - 1)) rest (sym (told ∙ divides_token list text char.comma d (s - 1) right l) ∙ g)
-            ∙ ap (λ n. suc (to_comma n rest)) now_open,
-        omega arith,
-      )
+      let now_open : before_token d (token_at list text (s - 1)) ≡ d' = before_token_lem list text d (s - 1) ∙ sym f in
+      ap (to_comma d) (tokens_back list text a s h k)
+      ∙ comma_next d (token_at list text (s - 1)) rest (sym (told ∙ divides_token list text char.comma d (s - 1) right (omega arith)) ∙ g)
+      ∙ ap (λ n. suc (to_comma n rest)) now_open
 
   pub start_last : (d a s : ℕ) → a ≡ s → to_comma d (reverse (slice a s (tokens list text))) ≡ 0
   unfolding to_comma

@@ -1,13 +1,14 @@
 -- The counts of the image, as the walk over the tokens adds them up.
-use Rattle.std.specs.Prelude.{◌<◌, ◌+◌, ◌^◌, ◌&&◌}
-use Rattle.definition.specs.Prelude.{ℕ, Bool, Option, none, some, List, leb, ltb}
+use Rattle.std.specs.Prelude.{◌≡◌, ◌<◌, ◌+◌, ◌^◌, ◌&&◌, Result, Ok, Err}
+use Rattle.definition.specs.Prelude.{ℕ, Bool, true, false, List, leb, ltb}
 use Rattle.definition.specs.Limits.{limits}
 use Rattle.definition.specs.Tokens.{Token}
+use Rattle.errors.specs.declared.reasons.TokenReason.{TokenReason}
+use Rattle.errors.specs.declared.reasons.TokenReason.TheVariants.{OverLimits}
+use Rattle.image.specs.declared.token_tree.Counts.{Counts}
 use Rattle.image.specs.token_tree.Tables.{counts_of}
 use Rattle.token_facts.specs.Flat.{weigh, semicolons, dividers, records, bytes, deepest}
 use Rattle.token_stream.specs.declared.counts.Tally.{Tally}
-use Rattle.token_stream.specs.declared.counts.Counted.{Counted}
-use Rattle.token_stream.specs.declared.counts.Counted.TheVariants.{Within, Over}
 
 abbrev pub Sums : Type 0
 Sums = record { semicolons : ℕ; dividers : ℕ; records : ℕ; bytes : ℕ }
@@ -52,6 +53,7 @@ abbrev pub counts_in : List Token → record { c : ℕ; n : ℕ; r : ℕ; t : �
 counts_in ts =
     record { c = weigh semicolons 0 ts + 1; n = weigh dividers 0 ts + 1; r = weigh records 0 ts; t = weigh bytes 0 ts; b = 0 }
 
-abbrev pub counted_as : Counted → Option (record { c : ℕ; n : ℕ; r : ℕ; t : ℕ; b : ℕ })
-counted_as (Within h) = some (counts_of h)
-counted_as Over = none
+-- within the limits the counts, else 52
+abbrev pub CountedIs : List Token → Result Counts TokenReason → Type 0
+CountedIs ts (Ok h) = (within_in ts ≡ true) × (counts_of h ≡ counts_in ts)
+CountedIs ts (Err r) = (within_in ts ≡ false) × (r ≡ OverLimits)

@@ -1,7 +1,17 @@
 -- What the walks ask of a token, by the numbers of its entry.
-use Rattle.std.specs.Prelude.{◌+◌, ◌-◌, ◌&&◌, if◌then◌else◌}
+use Rattle.std.specs.Prelude.{◌≡◌, ◌≢◌, ◌<◌, ◌+◌, ◌-◌, ◌&&◌, if◌then◌else◌}
 use Rattle.definition.specs.Prelude.{ℕ, suc, Bool, List, get_or, ltb, eqb}
 use Rattle.definition.specs.Tokens.{kind_at, text_start}
+use Rattle.token_stream.specs.declared.list.Kind.{Kind}
+use Rattle.token_stream.specs.declared.list.Kind.TheVariants.{Identifier, Punctuation, Literal, Opener, Closer}
+
+-- the kind of this number; an opener's is document 01's of its group
+abbrev pub KindIs : Kind → ℕ → Type 0
+KindIs Identifier n = n ≡ 0
+KindIs Punctuation n = n ≡ 1
+KindIs Literal n = n ≡ 2
+KindIs (Opener k) n = (2 < n) × (n ≢ 7) × (k + 2 ≡ n)
+KindIs Closer n = n ≡ 7
 
 -- how many groups are open after a token, or, backwards, before it
 abbrev pub after_kind : ℕ → ℕ → ℕ

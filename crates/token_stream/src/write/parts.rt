@@ -4,38 +4,36 @@ ghost use Rattle.std.proofs.Math.Seq.{slice};
 ghost use Rattle.definition.specs.Tokens.{count, tokens, tokens_right};
 ghost use Rattle.token_facts.specs.Flat.{to_semicolon, to_comma};
 
-use crate::list::{after, back, divides, kind_at};
+use crate::list::TokenList;
 
-// The semicolon that ends the concatenation from token a on, or the end n of the list.
-pub(crate) fn concatenation_end(list: &[u8], text: &[u8], a: usize, n: usize) -> usize
-    requires { (a ≤ n) × (n ≡ count list.now) × (tokens_right list.now text.now ≡ true) }
-    ensures { result ≡ a + to_semicolon 0 (drop a (tokens list.now text.now)) }
-{
-    let mut d = 0;
-    let mut e = a;
-    while e < n {
-        if divides(list, text, e, d, b';') {
-            return e;
+impl TokenList<'_> {
+    // The semicolon that ends the concatenation from token a on, or the end n of the list.
+    pub(crate) fn concatenation_end(&self, a: usize, n: usize) -> usize
+        requires { (a ≤ n) × (n ≡ count self.now.list.now) × (tokens_right self.now.list.now self.now.text.now ≡ true) }
+        ensures { result ≡ a + to_semicolon 0 (drop a (tokens self.now.list.now self.now.text.now)) }
+    {
+        let mut d = 0;
+        for e in a..n {
+            if self.divides(e, d, b';') {
+                return e;
+            }
+            d = self.after(e, d);
         }
-        d = after(d, kind_at(list, e));
-        e += 1;
+        n
     }
-    e
-}
 
-// Where the last component of tokens a to e begins: after the last comma, or at a.
-pub(crate) fn component_start(list: &[u8], text: &[u8], a: usize, e: usize) -> usize
-    requires { (a ≤ e) × (e ≤ count list.now) × (tokens_right list.now text.now ≡ true) }
-    ensures { (result + to_comma 0 (reverse (slice a e (tokens list.now text.now))) ≡ e) × (a ≤ result) }
-{
-    let mut d = 0;
-    let mut s = e;
-    while a < s {
-        if divides(list, text, s - 1, d, b',') {
-            return s;
+    // Where the last component of tokens a to e begins: after the last comma, or at a.
+    pub(crate) fn component_start(&self, a: usize, e: usize) -> usize
+        requires { (a ≤ e) × (e ≤ count self.now.list.now) × (tokens_right self.now.list.now self.now.text.now ≡ true) }
+        ensures { (result + to_comma 0 (reverse (slice a e (tokens self.now.list.now self.now.text.now))) ≡ e) × (a ≤ result) }
+    {
+        let mut d = 0;
+        for s in (a..e).rev() {
+            if self.divides(s, d, b',') {
+                return s + 1;
+            }
+            d = self.before(s, d);
         }
-        d = back(d, kind_at(list, s - 1));
-        s -= 1;
+        a
     }
-    s
 }

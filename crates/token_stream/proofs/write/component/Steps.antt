@@ -1,7 +1,6 @@
 -- One token: what is written of it, by its kind.
 use Rattle.std.specs.Prelude.{◌+◌, ◌*◌, ◌-◌, ◌/◌, ◌^◌, ◌∷◌}
 use mathlib.Core.Path.{◌≡◌, refl, sym, ap, ◌∙◌}
-use mathlib.Core.Logic.{◌≢◌}
 use Prim.Native.Nat.{◌≤◌, ◌<◌}
 use native.Mathlib.Nat.{add-zero}
 use native.Mathlib.Omega.{arith}
@@ -16,7 +15,8 @@ use Rattle.definition.specs.Tokens.{Token, single, opener, closer, kind_at, text
 use Rattle.laws.specs.Padded.{length_padded}
 use Rattle.laws.specs.Writing.{and_then}
 use Rattle.token_facts.specs.Flat.{joins, inner, innermost}
-use Rattle.token_stream.specs.list.Kinds.{joined_by}
+use Rattle.token_stream.specs.list.Kinds.{KindIs, joined_by}
+use Rattle.token_stream.specs.declared.list.Kind.TheVariants.{Opener, Closer}
 use Rattle.token_stream.specs.list.Tokens.{goes_on, leaf_token, opener_token, closer_token, joins_token}
 use Rattle.token_stream.specs.write.Steps.{open_after, EndIs, DelimiterIs, StepIs}
 use Rattle.token_stream.specs.declared.write.component.Mark.{Mark}
@@ -108,26 +108,25 @@ closer_put base t ts area area' b m m' is p d =
       groups_is = d.groups_is;
     })
 
-module _ (list text : List ℕ) (k kind : ℕ) (p : kind ≡ kind_at list k) where
-  is_closer : kind ≡ 7 → token_at list text k ≡ closer
-  is_closer q = closer_token list text k (sym p ∙ q)
-
-  is_opener : 3 ≤ kind → kind ≢ 7 → token_at list text k ≡ opener (kind - 2)
-  is_opener h n = opener_token list text k (omega arith) (λ q. n (p ∙ q)) ∙ ap (λ (x : ℕ). opener (x - 2)) (sym p)
-
-  pub put_closer : (base e b : ℕ) (area area' : List ℕ) (m m' : Mark) → kind ≡ 7 → b ≡ (delimiter (innermost m.groups)).closing
-      → DelimiterIs base b kinds.closer 1 (m.groups / 4) area area' m m'
+module _ (list text : List ℕ) (k : ℕ) where
+  pub put_closer : (base e b : ℕ) (area area' : List ℕ) (m m' : Mark) → KindIs Closer (kind_at list k)
+      → b ≡ (delimiter (innermost m.groups)).closing → DelimiterIs base b kinds.closer 1 (m.groups / 4) area area' m m'
       → StepIs base (token_at list text k) (slice (k + 1) e (tokens list text)) area area' m m'
-  put_closer base e b area area' m m' q u d =
-      closer_put base (token_at list text k) (slice (k + 1) e (tokens list text)) area area' b m m' (is_closer q) u d
+  put_closer base e b area area' m m' is u d =
+      closer_put base (token_at list text k) (slice (k + 1) e (tokens list text)) area area' b m m' (closer_token list text k is) u d
 
-  pub put_opener : (base e b skip : ℕ) (area area' : List ℕ) (m m' : Mark) → 3 ≤ kind → kind ≢ 7 → b ≡ (delimiter (kind - 2)).opening
-      → skip ≡ 2 + inner 0 (slice (k + 1) e (tokens list text)) → DelimiterIs base b (kind - 2) skip (m.groups * 4 + (kind - 3)) area area' m m'
-      → StepIs base (token_at list text k) (slice (k + 1) e (tokens list text)) area area' m m'
-  put_opener base e b skip area area' m m' h n u v d =
-      let same : m.groups * 4 + (kind - 3) ≡ m.groups * 4 + (kind - 2 - 1) = omega arith in
-      opener_put base (token_at list text k) (slice (k + 1) e (tokens list text)) area area' (kind - 2) b skip _ m m' (is_opener h n) u v same d
+  module _ (group : ℕ) (is : KindIs (Opener group) (kind_at list k)) where
+    is_opener : token_at list text k ≡ opener group
+    is_opener =
+        let e : kind_at list k - 2 ≡ group = omega (arith, is.2) in
+        opener_token list text k is.0 is.1 ∙ ap opener e
 
-  -- the open groups' kinds fit
-  pub opener_fits : (groups : ℕ) → 3 ≤ kind → kind ≢ 7 → open_after groups (token_at list text k) < 2 ^ 64 → groups * 4 + (kind - 3) < 2 ^ 64
-  opener_fits groups h n f = let g : groups * 4 + (kind - 2 - 1) < 2 ^ 64 = rw (is_opener h n) at f in omega arith
+    pub put_opener : (base e b skip : ℕ) (area area' : List ℕ) (m m' : Mark) → b ≡ (delimiter group).opening
+        → skip ≡ 2 + inner 0 (slice (k + 1) e (tokens list text)) → DelimiterIs base b group skip (m.groups * 4 + (group - 1)) area area' m m'
+        → StepIs base (token_at list text k) (slice (k + 1) e (tokens list text)) area area' m m'
+    put_opener base e b skip area area' m m' u v d =
+        opener_put base (token_at list text k) (slice (k + 1) e (tokens list text)) area area' group b skip _ m m' is_opener u v refl d
+
+    -- the open groups' kinds fit
+    pub opener_fits : (groups : ℕ) → open_after groups (token_at list text k) < 2 ^ 64 → groups * 4 + (group - 1) < 2 ^ 64
+    opener_fits groups f = rw is_opener at f
