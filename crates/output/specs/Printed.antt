@@ -1,6 +1,7 @@
--- What the program prints: a buffer of `longest_listing` bytes has room for every output, so that `answer` never says `Cut` of it, and the
+-- What the program prints: a buffer of `longest_listing` bytes has room for every output, so that `answer` never says `None` of it, and the
 -- bytes written are the output, whole.
-use Rattle.std.specs.Prelude.{◌≡◌, refl, ◌≤◌, replicate}
+use Rattle.std.specs.Prelude as Std
+use Rattle.std.specs.Prelude.{Some, ◌≡◌, refl, ◌≤◌, replicate}
 use Rattle.std.proofs.Common.{ap, ◌∙◌, le_trans, le_refl}
 use Rattle.std.proofs.lemmas.List.{length-replicate}
 use Rattle.std.proofs.Math.Seq.{take-append_seam}
@@ -10,15 +11,13 @@ use Rattle.laws.specs.Tests.{leb_iff}
 use Rattle.listing_length.specs.run.Listing.{longest_listing}
 use Rattle.listing_length.proofs.run.Listing.{output_most}
 use Rattle.listing.specs.Outcomes.{filled, filled_fits, written_as}
-use Rattle.listing.specs.declared.Written.{Written}
-use Rattle.listing.specs.declared.Written.TheVariants.{Whole}
 use Rattle.listing.specs.Shown.{Shown}
 
-pub printed : (input before after : List ℕ) (w : Written) → longest_listing ≤ length before → Shown before (output input) after w
-    → (w ≡ Whole (length (output input))) × (take (length (output input)) after ≡ output input)
+pub printed : (input before after : List ℕ) (w : Std.Option ℕ) → longest_listing ≤ length before → Shown before (output input) after w
+    → (w ≡ Some (length (output input))) × (take (length (output input)) after ≡ output input)
 printed input before after w room (shows, says) =
     let fits = le_trans (output_most input) room in
-    let whole : written_as (length (output input)) (length before) ≡ Whole (length (output input)) =
+    let whole : written_as (length (output input)) (length before) ≡ Some (length (output input)) =
     rw ((leb_iff (length (output input)) (length before)).1 fits) refl in (
       says ∙ whole,
       ap (take (length (output input))) (shows ∙ filled_fits before (output input) fits)

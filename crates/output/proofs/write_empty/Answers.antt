@@ -1,8 +1,7 @@
--- `output::write_empty` meets its contract: the listing of number 2. Assumes nothing.
-use Rattle.definition.specs.Prelude.{[]}
-use Rattle.output.proofs.Empty.{shows_empty}
+-- `output::write_empty` meets its contract: the listing of number 2.
+use Rattle.definition.specs.Listing.{output}
 use Rattle.output.proofs.write_empty.Goals as goal
 
 pub returns : goal.returns
-returns c =
-    shows_empty [] [] c.args.out.now c.write_listing.new.out c.refuse.result c.write_listing.result c.refuse.ensures c.write_listing.ensures
+unfolding output
+returns c = rw c.into.ensures at c.write_listing.ensures
