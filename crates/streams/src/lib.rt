@@ -1,10 +1,13 @@
 // What the programs share of reading and of saying why it failed, over std's readers and writers. Nothing here allocates.
 #![tactic(auto)]
 
+mod entry;
+
 ghost use Rattle.std.specs.Prelude.{◌≡◌, ◌⊎◌, length, take, IfOk};
 ghost use Rattle.std.specs.Io.{ReadsAtMost};
 ghost use Rattle.std.specs.Io.KnownBytes.{Consumes, IsAtEnd};
 
+pub use entry::{NoEntry, read_head, read_part};
 use std::io::{Read, Write};
 use std::{fmt, io};
 
