@@ -1,5 +1,5 @@
 // Reading the entries of a file, each a head of a fixed length and the bytes whose number the head says.
-ghost use Rattle.std.specs.Prelude.{◌≡◌, ◌≤◌, length, take, IfErr, OnOk};
+ghost use Rattle.std.specs.Prelude.{◌≡◌, length, IfErr, IfOk};
 ghost use Rattle.std.specs.Io.KnownBytes.{Consumes};
 ghost use Rattle.streams.specs.NoEntry.{WhyNoHead, WhyNoPart};
 ghost use Rattle.streams.specs.declared.entry.NoEntry.TheVariants.{Failed};
@@ -26,14 +26,15 @@ impl From<io::Error> for NoEntry {
     }
 }
 
-// Fills all of head with the next bytes.
-pub fn read_head<R: Read>(from: &mut R, head: &mut [u8]) -> Result<(), NoEntry>
-    ensures bytes { OnOk result (Consumes (R.remaining from.old) (R.remaining from.new) head.new) }
-    ensures why { IfErr result (WhyNoHead (R.remaining from.old) (R.remaining from.new) head.new) }
+// The next N bytes, the head of an entry.
+pub fn read_head<R: Read, const N: usize>(from: &mut R) -> Result<[u8; N], NoEntry>
+    ensures bytes { IfOk result (λ head. Consumes (R.remaining from.old) (R.remaining from.new) head) }
+    ensures why { IfErr result (WhyNoHead (R.remaining from.old) (R.remaining from.new) N) }
 {
-    let got = read_full(from, head)?;
-    if got == head.len() {
-        Ok(())
+    let mut head = [0; N];
+    let got = read_full(from, &mut head)?;
+    if got == N {
+        Ok(head)
     } else if got == 0 {
         Err(NoEntry::End)
     } else {
@@ -41,13 +42,17 @@ pub fn read_head<R: Read>(from: &mut R, head: &mut [u8]) -> Result<(), NoEntry>
     }
 }
 
-// Fills the first n bytes of buf with the next bytes, of an entry whose head was read: so there is no end here.
-pub fn read_part<R: Read>(from: &mut R, buf: &mut [u8], n: usize) -> Result<(), NoEntry>
-    ensures bytes { OnOk result ((n ≤ length buf.new) × Consumes (R.remaining from.old) (R.remaining from.new) (take n buf.new)) }
-    ensures why { IfErr result (WhyNoPart (R.remaining from.old) (R.remaining from.new) buf.new n) }
+// The next n bytes, of an entry whose head was read: so there is no end here. They are put at the front of buf.
+pub fn read_part<'a, R: Read>(
+    from: &mut R,
+    buf: &'a mut [u8],
+    n: usize,
+) -> Result<&'a [u8], NoEntry>
+    ensures bytes { IfOk result (λ part. (length part.now ≡ n) × Consumes (R.remaining from.old) (R.remaining from.new) part.now) }
+    ensures why { IfErr result (WhyNoPart (R.remaining from.old) (R.remaining from.new) (length buf.old) n) }
 {
     if n <= buf.len() && read_full(from, &mut buf[..n])? == n {
-        Ok(())
+        Ok(&buf[..n])
     } else {
         Err(NoEntry::Cut)
     }
