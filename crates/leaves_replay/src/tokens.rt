@@ -1,24 +1,15 @@
 // The entries of `tokens`: five numbers of 4 bytes, the lengths of a list of tokens, of its text and of the lent area, 0 or the number of a
 // refusal, and the length of the written image; list, text and image follow.
-ghost use Rattle.std.specs.Prelude.{◌≡◌, true, take};
-
 use errors::Refusal;
 use image::token_tree::u32_at;
 use std::io::Read;
-use streams::{NoEntry, read_head, read_part};
+use streams::{NoEntry, read_head, read_part, same_front};
 
 // Some bytes more than any image needs: they are never lent.
 const AREA: usize = 43200;
 
 // What stands in the area before.
 const BEFORE: u8 = 0xa5;
-
-// Whether the first n bytes of the area are these.
-fn same_front(area: &[u8], n: usize, image: &[u8]) -> bool
-    ensures { result ≡ true → take n area.now ≡ image.now }
-{
-    area.get(..n) == Some(image)
-}
 
 // Whether the bytes from place n on are as they were.
 fn untouched(area: &[u8], n: usize) -> bool {

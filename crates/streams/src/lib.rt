@@ -1,9 +1,9 @@
-// What the programs share of reading and of saying why it failed, over std's readers and writers. Nothing here allocates.
+// What the programs share of reading, of comparing, and of saying why a call failed, over std's readers and writers. Nothing here allocates.
 #![tactic(auto)]
 
 mod entry;
 
-ghost use Rattle.std.specs.Prelude.{◌≡◌, ◌⊎◌, length, take, IfOk};
+ghost use Rattle.std.specs.Prelude.{◌≡◌, ◌⊎◌, ◌↔◌, ◌≤◌, true, length, take, IfOk};
 ghost use Rattle.std.specs.Io.{ReadsAtMost};
 ghost use Rattle.std.specs.Io.KnownBytes.{Consumes, IsAtEnd};
 
@@ -27,6 +27,13 @@ pub fn read_full<R: Read>(from: &mut R, buf: &mut [u8]) -> io::Result<usize>
         done += more;
     }
     Ok(done)
+}
+
+// Whether the first n bytes are these.
+pub fn same_front(bytes: &[u8], n: usize, told: &[u8]) -> bool
+    ensures { (result ≡ true) ↔ ((n ≤ length bytes.now) × (take n bytes.now ≡ told.now)) }
+{
+    bytes.get(..n) == Some(told)
 }
 
 // Why a call of the system failed, in the C library's words. What std prints has the error's number after them.
