@@ -14,7 +14,6 @@ ghost use Rattle.definition.specs.Listing.{output};
 ghost use Rattle.layout.specs.Failure.{IfUnread};
 ghost use Rattle.listing_length.specs.run.Listing.{longest_listing};
 
-use listing::Written;
 use std::env::FillError;
 use std::fs::File;
 use std::io;
@@ -88,10 +87,8 @@ fn answer<O: Write>(out: &mut O, input: &[u8]) -> io::Result<()>
     ensures { OnOk result (Appends (O.contents out.old) (O.contents out.new) (output input.now)) }
 {
     let mut listing = listing_buffer();
-    match output::answer(input, &mut listing) {
-        Written::Whole(n) => print_listing(out, &listing[..n]),
-        Written::Cut => unreachable!(),
-    }
+    let n = output::answer(input, &mut listing).unwrap();
+    print_listing(out, &listing[..n])
 }
 
 // Answers what there is to read. After a failed read nothing is printed.
@@ -100,18 +97,14 @@ fn answer_open<I: Read, O: Write>(from: &mut I, out: &mut O) -> Result<(), Failu
     ensures unread { IfErr result (λ failure. IfUnread failure (Keeps (O.contents out.old) (O.contents out.new))) }
 {
     let mut buf = input_buffer();
-    match read_input(from, &mut buf) {
-        Ok(n) => answer(out, &buf[..n]).map_err(Failure::Output),
-        Err(error) => Err(Failure::Input(error)),
-    }
+    let n = read_input(from, &mut buf).map_err(Failure::Input)?;
+    answer(out, &buf[..n]).map_err(Failure::Output)
 }
 
 // Opens a file for reading. std takes a file's name as text alone, so a name that is not UTF-8 is refused.
 fn open<F: Files>(files: &F, name: &[u8]) -> io::Result<F::File> {
-    match std::str::from_utf8(name) {
-        Ok(name) => File::open(files, name),
-        Err(_) => Err(io::Error::from_raw_os_error(EILSEQ)),
-    }
+    let name = std::str::from_utf8(name).map_err(|_| io::Error::from_raw_os_error(EILSEQ))?;
+    File::open(files, name)
 }
 
 fn answer_file(files: &impl Files, out: &mut impl Write, name: &[u8]) -> Result<(), Failure> {
@@ -150,12 +143,10 @@ fn answer_named(
     err: &mut impl Write,
     name: &[u8],
 ) {
-    if name.len() == 0 || name[0] != b'-' {
-        tell(err, name, answer_file(files, out, name));
-    } else if name.len() == 1 {
-        tell(err, b"standard input", answer_open(input, out));
-    } else {
-        help(err);
+    match name {
+        [b'-'] => tell(err, b"standard input", answer_open(input, out)),
+        [b'-', ..] => help(err),
+        _ => tell(err, name, answer_file(files, out, name)),
     }
 }
 
