@@ -62,10 +62,9 @@ fn read_input<I: Read>(from: &mut I, buf: &mut [u8]) -> io::Result<usize>
 
 // The line that says of what name stands for why it failed.
 fn write_reason(err: &mut impl Write, name: &[u8], error: io::Error) -> io::Result<()> {
-    let reason = Reason(error);
     err.write_all(b"layout: ")?;
     err.write_all(name)?;
-    writeln!(err, ": {reason}")
+    writeln!(err, ": {}", Reason(error))
 }
 
 fn print_listing<O: Write>(out: &mut O, listing: &[u8]) -> io::Result<()>

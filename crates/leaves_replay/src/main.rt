@@ -24,6 +24,12 @@ struct Tally {
     different: u64,
 }
 
+impl Tally {
+    fn print(self, rt: &impl Print, path: &str) -> io::Result<()> {
+        println!(rt; "{path} {} equal {} different", self.equal, self.different)
+    }
+}
+
 // 8 bytes, the lowest first. Not u64::from_le_bytes, which takes an array, cut out of the slice first.
 fn u64_at(s: &[u8], at: usize) -> u64
     requires { at ≤ 9 }
@@ -101,12 +107,6 @@ where
     Ok(tally)
 }
 
-fn print_tally(rt: &impl Print, path: &str, t: Tally) -> io::Result<()> {
-    let equal = t.equal;
-    let different = t.different;
-    println!(rt; "{path} {equal} equal {different} different")
-}
-
 // A file that cannot be opened is named on standard error, and the others are replayed all the same.
 fn replay_file<R: Files + Print + Eprint, E>(
     rt: &R,
@@ -121,12 +121,9 @@ where
     match std::fs::open(rt, path) {
         Ok(mut from) => {
             let tally = replay(&mut from, entry, buf)?;
-            print_tally(rt, path, tally)
+            tally.print(rt, path)
         }
-        Err(error) => {
-            let reason = Reason(error);
-            eprintln!(rt; "{path}: {reason}")
-        }
+        Err(error) => eprintln!(rt; "{path}: {}", Reason(error)),
     }
 }
 

@@ -37,16 +37,14 @@ impl Counts {
     pub(crate) fn count(&mut self, came: Option<Came>) {
         match came {
             Some(Came::Accepted) => add_one(&mut self.accepted),
-            Some(Came::Refused(number)) => self.count_refused(number as usize),
+            Some(Came::Refused(number)) => {
+                if let Some(n) = self.refused.get_mut(number as usize) {
+                    add_one(n);
+                }
+            }
             Some(Came::CutPair) => add_one(&mut self.cut_pairs),
             Some(Came::UnderDefault) => add_one(&mut self.under_default),
             None => add_one(&mut self.different),
-        }
-    }
-
-    fn count_refused(&mut self, number: usize) {
-        if number < NUMBERS {
-            add_one(&mut self.refused[number]);
         }
     }
 

@@ -61,9 +61,8 @@ where
     match std::fs::open(rt, path) {
         Ok(mut from) => replay(&mut from, entry, counts),
         Err(error) => {
-            let reason = Reason(error);
             counts.count(None);
-            eprintln!(rt; "{path}: {reason}")
+            eprintln!(rt; "{path}: {}", Reason(error))
         }
     }
 }

@@ -57,13 +57,10 @@ impl fmt::Display for Reason {
 // What stands before the number in a text, whose last bytes are unused.
 fn words(text: &[u8], unused: usize) -> &str {
     let n = text.len().saturating_sub(unused);
-    match std::str::from_utf8(&text[..n]) {
-        Ok(shown) => match shown.split_once(" (os error ") {
-            Some((words, _)) => words,
-            None => shown,
-        },
-        Err(_) => "",
-    }
+    let shown = std::str::from_utf8(&text[..n]).unwrap_or("");
+    shown
+        .split_once(" (os error ")
+        .map_or(shown, |(words, _)| words)
 }
 
 #[cfg(test)]
