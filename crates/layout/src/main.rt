@@ -14,7 +14,6 @@ ghost use Rattle.definition.specs.Listing.{output};
 ghost use Rattle.layout.specs.Failure.{IfUnread};
 ghost use Rattle.listing_length.specs.run.Listing.{longest_listing};
 
-use listing::Written;
 use std::env::FillError;
 use std::fs::File;
 use std::io;
@@ -63,18 +62,9 @@ fn read_input<I: Read>(from: &mut I, buf: &mut [u8]) -> io::Result<usize>
 
 // The line that says of what name stands for why it failed.
 fn write_reason(err: &mut impl Write, name: &[u8], error: io::Error) -> io::Result<()> {
-    let reason = Reason(error);
     err.write_all(b"layout: ")?;
     err.write_all(name)?;
-    writeln!(err, ": {reason}")
-}
-
-// Says of what name stands for why it failed, or of standard output. Where this cannot be written either, nobody is left to tell.
-fn fail(err: &mut impl Write, name: &[u8], failure: Failure) {
-    let _ = match failure {
-        Failure::Input(error) => write_reason(err, name, error),
-        Failure::Output(error) => write_reason(err, b"standard output", error),
-    };
+    writeln!(err, ": {}", Reason(error))
 }
 
 fn print_listing<O: Write>(out: &mut O, listing: &[u8]) -> io::Result<()>
@@ -88,10 +78,8 @@ fn answer<O: Write>(out: &mut O, input: &[u8]) -> io::Result<()>
     ensures { OnOk result (Appends (O.contents out.old) (O.contents out.new) (output input.now)) }
 {
     let mut listing = listing_buffer();
-    match output::answer(input, &mut listing) {
-        Written::Whole(n) => print_listing(out, &listing[..n]),
-        Written::Cut => unreachable!(),
-    }
+    let n = output::answer(input, &mut listing).unwrap();
+    print_listing(out, &listing[..n])
 }
 
 // Answers what there is to read. After a failed read nothing is printed.
@@ -100,63 +88,19 @@ fn answer_open<I: Read, O: Write>(from: &mut I, out: &mut O) -> Result<(), Failu
     ensures unread { IfErr result (λ failure. IfUnread failure (Keeps (O.contents out.old) (O.contents out.new))) }
 {
     let mut buf = input_buffer();
-    match read_input(from, &mut buf) {
-        Ok(n) => answer(out, &buf[..n]).map_err(Failure::Output),
-        Err(error) => Err(Failure::Input(error)),
-    }
+    let n = read_input(from, &mut buf).map_err(Failure::Input)?;
+    answer(out, &buf[..n]).map_err(Failure::Output)
 }
 
 // Opens a file for reading. std takes a file's name as text alone, so a name that is not UTF-8 is refused.
 fn open<F: Files>(files: &F, name: &[u8]) -> io::Result<F::File> {
-    match std::str::from_utf8(name) {
-        Ok(name) => File::open(files, name),
-        Err(_) => Err(io::Error::from_raw_os_error(EILSEQ)),
-    }
+    let name = std::str::from_utf8(name).map_err(|_| io::Error::from_raw_os_error(EILSEQ))?;
+    File::open(files, name)
 }
 
 fn answer_file(files: &impl Files, out: &mut impl Write, name: &[u8]) -> Result<(), Failure> {
     let mut file = open(files, name).map_err(Failure::Input)?;
     answer_open(&mut file, out)
-}
-
-// The two lines that say what is read.
-fn write_help(err: &mut impl Write) -> io::Result<()> {
-    err.write_all(
-        b"layout [FILE]: prints the listing of one mode byte (0, 1, 2) and a prepared image, from FILE or standard input.\n",
-    )?;
-    err.write_all(
-        b"A line of text is read by ./line; docs/FORMAT.md has the image's bytes, README.md the listing and the numbers.\n",
-    )
-}
-
-// Says in two lines what is read.
-fn help(err: &mut impl Write) {
-    let _ = write_help(err);
-}
-
-// Says why, where an answer failed.
-fn tell(err: &mut impl Write, name: &[u8], answered: Result<(), Failure>) {
-    if let Err(failure) = answered {
-        fail(err, name, failure);
-    }
-}
-
-// Answers an argument: a file's name, or `-` for standard input. What else begins with `-` asks for help, as `--help` (a file of such a
-// name is given as `./-name`).
-fn answer_named(
-    files: &impl Files,
-    input: &mut impl Read,
-    out: &mut impl Write,
-    err: &mut impl Write,
-    name: &[u8],
-) {
-    if name.len() == 0 || name[0] != b'-' {
-        tell(err, name, answer_file(files, out, name));
-    } else if name.len() == 1 {
-        tell(err, b"standard input", answer_open(input, out));
-    } else {
-        help(err);
-    }
 }
 
 // Why an argument was not copied.
@@ -167,17 +111,64 @@ fn argument_error(error: FillError) -> io::Error {
     }
 }
 
-// Answers the program's one argument. One that is longer than any path is not cut short: it would name another file.
-fn answer_argument(
-    rt: &(impl Env + Files),
-    input: &mut impl Read,
-    out: &mut impl Write,
-    err: &mut impl Write,
-) {
-    let mut name = [0u8; PATH_MAX];
-    match rt.arg(1, &mut name) {
-        Ok(n) => answer_named(rt, input, out, err, &name[..n]),
-        Err(e) => fail(err, b"the argument", Failure::Input(argument_error(e))),
+// The two lines that say what is read.
+const HELP: &[u8] = b"layout [FILE]: prints the listing of one mode byte (0, 1, 2) and a prepared image, from FILE or standard input.\n\
+A line of text is read by ./line; docs/FORMAT.md has the image's bytes, README.md the listing and the numbers.\n";
+
+// Where the program reads, prints and says what failed. Where that cannot be written either, nobody is left to tell.
+#[derive(Drop)]
+struct Streams<I, O, E> {
+    input: I,
+    out: O,
+    err: E,
+}
+
+impl<I: Read, O: Write, E: Write> Streams<I, O, E> {
+    fn help(&mut self) {
+        let _ = self.err.write_all(HELP);
+    }
+
+    // Says of what name stands for why it failed, or of standard output.
+    fn fail(&mut self, name: &[u8], failure: Failure) {
+        let _ = match failure {
+            Failure::Input(error) => write_reason(&mut self.err, name, error),
+            Failure::Output(error) => write_reason(&mut self.err, b"standard output", error),
+        };
+    }
+
+    // Says why, where an answer failed.
+    fn tell(&mut self, name: &[u8], answered: Result<(), Failure>) {
+        if let Err(failure) = answered {
+            self.fail(name, failure);
+        }
+    }
+
+    // Answers standard input.
+    fn answer_input(&mut self) {
+        let answered = answer_open(&mut self.input, &mut self.out);
+        self.tell(b"standard input", answered);
+    }
+
+    // Answers an argument: a file's name, or `-` for standard input. What else begins with `-` asks for help, as `--help` (a file of such a
+    // name is given as `./-name`).
+    fn answer_named(&mut self, files: &impl Files, name: &[u8]) {
+        match name {
+            [b'-'] => self.answer_input(),
+            [b'-', ..] => self.help(),
+            _ => {
+                let answered = answer_file(files, &mut self.out, name);
+                self.tell(name, answered);
+            }
+        }
+    }
+
+    // Answers the program's one argument. One that is longer than any path is not cut short: it would name another file.
+    fn answer_argument(&mut self, rt: &(impl Env + Files)) {
+        let mut name = [0u8; PATH_MAX];
+        match rt.arg(1, &mut name) {
+            Ok(n) => self.answer_named(rt, &name[..n]),
+            Err(error) => self.fail(b"the argument", Failure::Input(argument_error(error))),
+        }
     }
 }
 
@@ -188,16 +179,18 @@ fn has_arguments(env: &impl Env, count: usize) -> bool {
 }
 
 fn main(rt: HostRuntime) {
-    let mut input = rt.stdin();
-    let mut out = rt.stdout();
-    let mut err = rt.stderr();
+    let mut streams = Streams {
+        input: rt.stdin(),
+        out: rt.stdout(),
+        err: rt.stderr(),
+    };
     if has_arguments(&rt, 2) {
-        help(&mut err);
+        streams.help();
     } else if has_arguments(&rt, 1) {
-        answer_argument(&rt, &mut input, &mut out, &mut err);
-    } else if input.is_terminal() {
-        help(&mut err);
+        streams.answer_argument(&rt);
+    } else if streams.input.is_terminal() {
+        streams.help();
     } else {
-        answer_named(&rt, &mut input, &mut out, &mut err, b"-");
+        streams.answer_input();
     }
 }

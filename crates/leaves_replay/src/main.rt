@@ -6,34 +6,17 @@
 
 mod tokens;
 
-ghost use Rattle.std.specs.Prelude.{◌≡◌, true, ◌≤◌, eqb, get_or};
+ghost use Rattle.std.specs.Prelude.{◌≡◌, true, ◌≤◌, eqb};
 ghost use Rattle.definition.specs.Numbers.{try_parse};
 ghost use Rattle.definition.specs.Check.{check_image};
 ghost use Rattle.errors.specs.Refused.{number_in};
 ghost use Rattle.leaves_replay.specs.Told.{u64_at, told, agrees};
 
-use errors::flags::both;
-use numbers::OptionI128;
+use numbers::I128;
 use std::io;
 use std::io::Read;
 use std::rt::Files;
-use streams::{Reason, read_full};
-
-// What is at the front of an entry.
-#[derive(Clone, Copy)]
-enum Head {
-    Length(usize),
-    Cut,
-    End,
-}
-
-// What an entry came to.
-#[derive(Clone, Copy)]
-enum Compared {
-    Equal,
-    Different,
-    End,
-}
+use streams::{NoEntry, Reason, read_head, read_part};
 
 #[derive(Clone, Copy)]
 struct Tally {
@@ -41,36 +24,13 @@ struct Tally {
     different: u64,
 }
 
-// Whether the bytes that are left fill all of buf.
-fn filled<F: Read>(from: &mut F, buf: &mut [u8]) -> io::Result<bool> {
-    Ok(read_full(from, buf)? == buf.len())
-}
-
-// What `got` bytes at the front of an entry say.
-fn head_of(got: usize, bytes: &[u8]) -> Head {
-    if got == 0 {
-        return Head::End;
+impl Tally {
+    fn print(self, rt: &impl Print, path: &str) -> io::Result<()> {
+        println!(rt; "{path} {} equal {} different", self.equal, self.different)
     }
-    if got < bytes.len() {
-        return Head::Cut;
-    }
-    Head::Length(image::token_tree::u32_at(bytes, 0) as usize)
 }
 
-// The length takes 2 bytes in `numbers`, 4 in `images`.
-fn number_head<F: Read>(from: &mut F) -> io::Result<Head> {
-    let mut bytes = [0u8; 2];
-    let got = read_full(from, &mut bytes)?;
-    Ok(head_of(got, &bytes))
-}
-
-fn image_head<F: Read>(from: &mut F) -> io::Result<Head> {
-    let mut bytes = [0u8; 4];
-    let got = read_full(from, &mut bytes)?;
-    Ok(head_of(got, &bytes))
-}
-
-// 8 bytes, the lowest first.
+// 8 bytes, the lowest first. Not u64::from_le_bytes, which takes an array, cut out of the slice first.
 fn u64_at(s: &[u8], at: usize) -> u64
     requires { at ≤ 9 }
     ensures { result ≡ u64_at s.now at }
@@ -79,12 +39,12 @@ fn u64_at(s: &[u8], at: usize) -> u64
         + 0x1_0000_0000 * (image::token_tree::u32_at(s, at + 4) as u64)
 }
 
-fn agree(o: OptionI128, found: u8, high: u64, low: u64) -> bool
-    ensures { result ≡ agrees o found high low }
+fn agree(o: Option<I128>, found: u8, told: I128) -> bool
+    ensures { result ≡ agrees o found told }
 {
     match o {
-        OptionI128::Some(x) => both(found == 1, both(x.high == high, x.low == low)),
-        OptionI128::None => both(found == 0, both(high == 0, low == 0)),
+        Some(x) => found == 1 && x == told,
+        None => found == 0 && told == I128::ZERO,
     }
 }
 
@@ -92,139 +52,84 @@ fn agree(o: OptionI128, found: u8, high: u64, low: u64) -> bool
 fn same_number(text: &[u8], answer: &[u8]) -> bool
     ensures { result ≡ true → try_parse text.now ≡ told answer.now }
 {
-    agree(
-        numbers::parse::i128_try_parse(text),
-        image::token_tree::byte_at(answer, 0),
-        u64_at(answer, 9),
-        u64_at(answer, 1),
-    )
-}
-
-// Whether the check says what the answer's byte says.
-fn same_image(image: &[u8], answer: &[u8]) -> bool
-    ensures { result ≡ eqb (number_in (check_image image.now)) (get_or answer.now 0 0) }
-{
-    errors::number_of(image::check::check_image(image))
-        == (image::token_tree::byte_at(answer, 0) as u32)
-}
-
-// What a comparison says.
-fn comparison(same: bool) -> Compared {
-    if same {
-        Compared::Equal
-    } else {
-        Compared::Different
-    }
-}
-
-// Reads the answer to a text, and compares.
-fn number_outcome<F: Read>(from: &mut F, text: &[u8]) -> io::Result<Compared> {
-    let mut answer = [0u8; 17];
-    if !filled(from, &mut answer)? {
-        return Ok(Compared::Different);
-    }
-    Ok(comparison(same_number(text, &answer)))
-}
-
-fn image_outcome<F: Read>(from: &mut F, image: &[u8]) -> io::Result<Compared> {
-    let mut answer = [0u8; 1];
-    if !filled(from, &mut answer)? {
-        return Ok(Compared::Different);
-    }
-    Ok(comparison(same_image(image, &answer)))
-}
-
-// The rest of an entry whose text or image is as long as part.
-fn outcome_of<F: Read>(from: &mut F, images: bool, part: &mut [u8]) -> io::Result<Compared> {
-    if !filled(from, part)? {
-        return Ok(Compared::Different);
-    }
-    if images {
-        image_outcome(from, part)
-    } else {
-        number_outcome(from, part)
-    }
-}
-
-fn rest<F: Read>(from: &mut F, images: bool, buf: &mut [u8], n: usize) -> io::Result<Compared> {
-    if buf.len() < n {
-        return Ok(Compared::Different);
-    }
-    outcome_of(from, images, &mut buf[..n])
-}
-
-// The next entry of `numbers`, or of `images`.
-fn plain_entry<F: Read>(from: &mut F, images: bool, buf: &mut [u8]) -> io::Result<Compared> {
-    let head = if images {
-        image_head(from)?
-    } else {
-        number_head(from)?
+    let told = I128 {
+        high: u64_at(answer, 9),
+        low: u64_at(answer, 1),
     };
-    match head {
-        Head::Length(n) => rest(from, images, buf, n),
-        Head::Cut => Ok(Compared::Different),
-        Head::End => Ok(Compared::End),
-    }
+    let found = image::token_tree::byte_at(answer, 0);
+    agree(numbers::parse::i128_try_parse(text), found, told)
 }
 
-// The files of data/.
-#[derive(Clone, Copy)]
-enum File {
-    Numbers,
-    Images,
-    Tokens,
+// Whether the check gives this number.
+fn same_image(image: &[u8], told: u8) -> bool
+    ensures { result ≡ eqb (number_in (check_image image.now)) told }
+{
+    errors::number_of(image::check::check_image(image)) == told as u32
 }
 
-fn entry<F: Read>(from: &mut F, file: File, buf: &mut [u8]) -> io::Result<Compared> {
-    match file {
-        File::Numbers => plain_entry(from, false, buf),
-        File::Images => plain_entry(from, true, buf),
-        File::Tokens => tokens::entry(from, buf),
-    }
+// The next entry of `numbers`, the text's length in 2 bytes, the text and the answer: whether our own is equal.
+fn number_entry<F: Read>(from: &mut F, buf: &mut [u8]) -> Result<bool, NoEntry> {
+    let length = u16::from_le_bytes(read_head(from)?);
+    let text = read_part(from, buf, length as usize)?;
+    let mut answer = [0u8; 17];
+    read_part(from, &mut answer, 17)?;
+    Ok(same_number(text, &answer))
 }
 
-// All entries of a file. Nothing says that a file ends, so the turns are counted up to a number that no run uses up.
-fn replay<F: Read>(from: &mut F, file: File, buf: &mut [u8]) -> io::Result<Tally> {
-    let mut equal: u64 = 0;
-    let mut different: u64 = 0;
+// The next entry of `images`, the image's length in 4 bytes, the image and the number that the check gives it.
+fn image_entry<F: Read>(from: &mut F, buf: &mut [u8]) -> Result<bool, NoEntry> {
+    let length = u32::from_le_bytes(read_head(from)?);
+    let image = read_part(from, buf, length as usize)?;
+    let mut answer = [0u8; 1];
+    read_part(from, &mut answer, 1)?;
+    Ok(same_image(image, answer[0]))
+}
+
+// All entries of a file, each read and compared by `entry`. Nothing says that a file ends, so the turns are counted up to a number that no
+// run uses up.
+fn replay<F: Read, E>(from: &mut F, entry: E, buf: &mut [u8]) -> io::Result<Tally>
+where
+    E: Fn(&mut F, &mut [u8]) -> Result<bool, NoEntry>,
+    requires { E.IsAlwaysCallable entry }
+{
+    let mut tally = Tally {
+        equal: 0,
+        different: 0,
+    };
     for _turn in 0..1_000_000u64 {
-        match entry(from, file, buf)? {
-            Compared::Equal => equal += 1,
-            Compared::Different => different += 1,
-            Compared::End => break,
+        match entry(from, buf) {
+            Ok(true) => tally.equal += 1,
+            Ok(false) | Err(NoEntry::Cut) => tally.different += 1,
+            Err(NoEntry::End) => break,
+            Err(NoEntry::Failed(error)) => return Err(error),
         }
     }
-    Ok(Tally { equal, different })
-}
-
-fn print_tally(rt: &impl Print, path: &str, t: Tally) -> io::Result<()> {
-    let equal = t.equal;
-    let different = t.different;
-    println!(rt; "{path} {equal} equal {different} different")
+    Ok(tally)
 }
 
 // A file that cannot be opened is named on standard error, and the others are replayed all the same.
-fn replay_file(
-    rt: &(impl Files + Print + Eprint),
+fn replay_file<R: Files + Print + Eprint, E>(
+    rt: &R,
     path: &str,
-    file: File,
+    entry: E,
     buf: &mut [u8],
-) -> io::Result<()> {
+) -> io::Result<()>
+where
+    E: Fn(&mut R::File, &mut [u8]) -> Result<bool, NoEntry>,
+    requires { E.IsAlwaysCallable entry }
+{
     match std::fs::open(rt, path) {
         Ok(mut from) => {
-            let tally = replay(&mut from, file, buf)?;
-            print_tally(rt, path, tally)
+            let tally = replay(&mut from, entry, buf)?;
+            tally.print(rt, path)
         }
-        Err(error) => {
-            let reason = Reason(error);
-            eprintln!(rt; "{path}: {reason}")
-        }
+        Err(error) => eprintln!(rt; "{path}: {}", Reason(error)),
     }
 }
 
 fn main(rt: HostRuntime) -> io::Result<()> {
     let mut buf = [0u8; limits::MAX_INPUT];
-    replay_file(&rt, "numbers", File::Numbers, &mut buf)?;
-    replay_file(&rt, "images", File::Images, &mut buf)?;
-    replay_file(&rt, "tokens", File::Tokens, &mut buf)
+    replay_file(&rt, "numbers", number_entry, &mut buf)?;
+    replay_file(&rt, "images", image_entry, &mut buf)?;
+    replay_file(&rt, "tokens", tokens::entry, &mut buf)
 }

@@ -1,18 +1,21 @@
-// What a run over an area filled with a known pattern came to, compared with the listing that the Rust gave.
-ghost use Rattle.std.specs.Prelude.{◌≡◌, true, length, take};
+// A run over an area filled with a known pattern, compared with the listing that the Rust gave.
+ghost use Rattle.std.specs.Prelude.{◌≡◌, true, length};
 ghost use Rattle.listing.specs.Outcomes.{listing_of};
 ghost use Rattle.listing_length.specs.run.Listing.{longest_listing};
 
-use crate::DIFFERENT;
-use errors::Outcome;
-use listing::Written;
+use crate::counts::Came;
+use errors::Refusal;
+use streams::same_front;
+
+// Some bytes more than any image asks for: they are never lent.
+const AREA: usize = 27100;
 
 // The pattern's byte at a place.
 fn pattern(i: usize) -> u8 {
     (i % 256) as u8
 }
 
-pub(crate) fn fill(area: &mut [u8]) {
+fn fill(area: &mut [u8]) {
     for (i, byte) in area.iter_mut().enumerate() {
         *byte = pattern(i);
     }
@@ -20,22 +23,10 @@ pub(crate) fn fill(area: &mut [u8]) {
 
 // Whether the pattern still stands from a place on.
 fn untouched(area: &[u8], from: usize) -> bool {
-    for i in from..area.len() {
-        if area[i] != pattern(i) {
-            return false;
-        }
-    }
-    true
-}
-
-// Whether the first n bytes of the buffer are these.
-fn same_front(out: &[u8], n: usize, told: &[u8]) -> bool
-    ensures { result ≡ true → take n out.now ≡ told.now }
-{
-    if out.len() < n {
-        return false;
-    }
-    &out[..n] == told
+    area.iter()
+        .enumerate()
+        .skip(from)
+        .all(|(i, byte)| *byte == pattern(i))
 }
 
 // No listing has more bytes than these.
@@ -46,40 +37,45 @@ fn listing_buffer() -> [u8; limits::MAX_LISTING]
 }
 
 // Whether the listing of the outcome is the one told.
-fn same_listing(image: &[u8], area: &[u8], outcome: Outcome, told: &[u8]) -> bool
+fn same_listing(
+    image: &[u8],
+    area: &[u8],
+    outcome: Result<usize, Refusal>,
+    told: &[u8],
+) -> bool
     ensures { result ≡ true → listing_of image.now area.now outcome ≡ told.now }
 {
     let mut out = listing_buffer();
     match listing::write_listing(image, area, outcome, &mut out) {
-        Written::Whole(n) => same_front(&out, n, told),
-        Written::Cut => false,
+        Some(n) => same_front(&out, n, told),
+        None => false,
     }
 }
 
-// The outcome as a number, where the area is as it must be.
-fn kept(area: &[u8], outcome: Outcome) -> usize {
-    match outcome {
-        Outcome::Accepted(n) => {
-            if untouched(area, n) {
-                return 0;
-            }
-            DIFFERENT
-        }
-        Outcome::Refused(r) => {
-            let number = r.number;
-            if untouched(area, 0) {
-                return number as usize;
-            }
-            DIFFERENT
-        }
-    }
+// What an outcome came to, where the area holds the pattern beyond the answer, and everywhere after a refusal.
+fn kept(area: &[u8], outcome: Result<usize, Refusal>) -> Option<Came> {
+    let (came, written) = match outcome {
+        Ok(n) => (Came::Accepted, n),
+        Err(refusal) => (Came::Refused(refusal.number), 0),
+    };
+    untouched(area, written).then_some(came)
 }
 
-// The outcome as a number, where its listing is the one told and the area holds the pattern beyond the answer, and everywhere after a
-// refusal.
-pub(crate) fn compared(image: &[u8], area: &[u8], outcome: Outcome, told: &[u8]) -> usize {
-    if same_listing(image, area, outcome, told) {
-        return kept(area, outcome);
+// Runs an input, one mode byte and an image, over so many bytes of the area: what it came to, and the starting value in force. None where
+// the listing is not the one told, or the area not as it must be.
+pub(crate) fn judged<'a>(
+    input: &'a [u8],
+    default: &'a [u8],
+    lent: usize,
+    told: &[u8],
+) -> Option<(Came, &'a [u8])> {
+    let (mode, image) = input.split_first()?;
+    let mut area = [0; AREA];
+    fill(&mut area);
+    let ran = stages::run::run(image, *mode as u32, default, area.get_mut(..lent)?);
+    if !same_listing(image, &area, ran.outcome, told) {
+        return None;
     }
-    DIFFERENT
+    let came = kept(&area, ran.outcome)?;
+    Some((came, stages::in_force::value(image, default, ran.start)))
 }

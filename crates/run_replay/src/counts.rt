@@ -1,33 +1,70 @@
 // How often each outcome occurred, and its print.
-use crate::{CUT_PAIR, DIFFERENT, UNDER_DEFAULT};
 use std::io;
 
-pub(crate) fn count(counts: &mut [u64; 49], at: usize) {
-    if at < 49 {
-        let n = counts[at];
-        if n < 1_000_000 {
-            counts[at] = n + 1;
+// What an entry came to that is as told.
+#[derive(Clone, Copy)]
+pub(crate) enum Came {
+    Accepted,
+    // with its number
+    Refused(u32),
+    CutPair,
+    UnderDefault,
+}
+
+// A run refuses with the numbers from 1 on, below this one.
+const NUMBERS: usize = 46;
+
+#[derive(Clone, Copy)]
+pub(crate) struct Counts {
+    accepted: u64,
+    // by number
+    refused: [u64; NUMBERS],
+    cut_pairs: u64,
+    under_default: u64,
+    different: u64,
+}
+
+impl Counts {
+    pub(crate) const NONE: Counts = Counts {
+        accepted: 0,
+        refused: [0; NUMBERS],
+        cut_pairs: 0,
+        under_default: 0,
+        different: 0,
+    };
+
+    // Counts an entry: None is one that is not as told.
+    pub(crate) fn count(&mut self, came: Option<Came>) {
+        match came {
+            Some(Came::Accepted) => add_one(&mut self.accepted),
+            Some(Came::Refused(number)) => {
+                if let Some(n) = self.refused.get_mut(number as usize) {
+                    add_one(n);
+                }
+            }
+            Some(Came::CutPair) => add_one(&mut self.cut_pairs),
+            Some(Came::UnderDefault) => add_one(&mut self.under_default),
+            None => add_one(&mut self.different),
         }
     }
+
+    pub(crate) fn print(&self, rt: &impl Print) -> io::Result<()> {
+        print_count(rt, "accepted", self.accepted)?;
+        for (number, n) in self.refused.iter().enumerate() {
+            if *n != 0 {
+                println!(rt; "refused {number}: {n}")?;
+            }
+        }
+        print_count(rt, "cut pairs equal", self.cut_pairs)?;
+        print_count(rt, "under a default equal", self.under_default)?;
+        print_count(rt, "different", self.different)
+    }
+}
+
+fn add_one(n: &mut u64) {
+    *n = n.saturating_add(1);
 }
 
 fn print_count(rt: &impl Print, words: &str, n: u64) -> io::Result<()> {
     println!(rt; "{words}: {n}")
-}
-
-fn print_refused(rt: &impl Print, number: usize, n: u64) -> io::Result<()> {
-    if n == 0 {
-        return Ok(());
-    }
-    println!(rt; "refused {number}: {n}")
-}
-
-pub(crate) fn print_counts(rt: &impl Print, counts: &[u64; 49]) -> io::Result<()> {
-    print_count(rt, "accepted", counts[0])?;
-    for number in 1..46 {
-        print_refused(rt, number, counts[number])?;
-    }
-    print_count(rt, "cut pairs equal", counts[CUT_PAIR])?;
-    print_count(rt, "under a default equal", counts[UNDER_DEFAULT])?;
-    print_count(rt, "different", counts[DIFFERENT])
 }

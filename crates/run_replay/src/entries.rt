@@ -1,74 +1,66 @@
-// The entries of a file of data/. An entry begins with three numbers of 4 bytes: the first input's length; the area's length, or the
-// second input's; the listing's. The inputs and the listing follow.
-ghost use Rattle.std.specs.Prelude.{◌≡◌, true, ◌+◌, ◌*◌, ◌≤◌, length};
-ghost use Rattle.definition.specs.Limits.{max_input};
-ghost use Rattle.listing_length.specs.run.Listing.{longest_listing};
-
-use std::io;
+// The entries of the files of data/: numbers of 4 bytes, and then the parts whose lengths they are. What an entry came to is None where it is
+// not as told.
+use crate::compare::judged;
+use crate::counts::Came;
+use image::token_tree::u32_at;
 use std::io::Read;
-use streams::read_full;
+use streams::{NoEntry, read_head, read_part};
 
-#[derive(Clone, Copy)]
-pub(crate) enum Entry {
-    Read(u32, u32, u32),
-    // cut off, or too long
-    Different,
-    End,
+// What a run without a default came to.
+fn outcome(input: &[u8], lent: usize, told: &[u8]) -> Option<Came> {
+    let (came, _) = judged(input, b"", lent, told)?;
+    Some(came)
 }
 
-// No two inputs and a listing have more bytes than these.
-const ENTRY: usize = 2 * limits::MAX_INPUT + limits::MAX_LISTING;
-
-pub(crate) fn entry_buffer() -> [u8; ENTRY]
-    ensures { 2 * max_input + longest_listing ≡ length result }
-{
-    [0; ENTRY]
+// Of `runs`: the lengths of an input, of the area and of a listing; the input and the listing follow.
+pub(crate) fn run<F: Read>(from: &mut F, buf: &mut [u8]) -> Result<Option<Came>, NoEntry> {
+    let head: [u8; 12] = read_head(from)?;
+    let input = u32_at(&head, 0) as usize;
+    let lent = u32_at(&head, 4) as usize;
+    let told = u32_at(&head, 8) as usize;
+    let parts = read_part(from, buf, input + told)?;
+    let (input, told) = parts.split_at(input);
+    Ok(outcome(input, lent, told))
 }
 
-// Whether n bytes from a place on lie in so many.
-pub(crate) fn within(len: usize, from: usize, n: usize) -> bool
-    ensures { result ≡ true → from + n ≤ len }
-{
-    if len < from {
-        return false;
+// An input and the same with a literal cut in pieces, which both have the listing told. The area is long enough for any image.
+fn cut_pair(whole: &[u8], cut: &[u8], told: &[u8]) -> Option<Came> {
+    let first = outcome(whole, limits::ANY_AREA, told)?;
+    let second = outcome(cut, limits::ANY_AREA, told)?;
+    match (first, second) {
+        (Came::Accepted, Came::Accepted) => Some(Came::CutPair),
+        _ => None,
     }
-    n <= len - from
 }
 
-// Whether the bytes that are left fill all of buf.
-fn filled<F: Read>(from: &mut F, buf: &mut [u8]) -> io::Result<bool> {
-    Ok(read_full(from, buf)? == buf.len())
+// Of `cuts`: the lengths of an input, of the same with a literal cut and of the listing of both; these three follow.
+pub(crate) fn cut<F: Read>(from: &mut F, buf: &mut [u8]) -> Result<Option<Came>, NoEntry> {
+    let head: [u8; 12] = read_head(from)?;
+    let whole = u32_at(&head, 0) as usize;
+    let cut = u32_at(&head, 4) as usize;
+    let told = u32_at(&head, 8) as usize;
+    let parts = read_part(from, buf, whole + cut + told)?;
+    let (whole, rest) = parts.split_at(whole);
+    let (cut, told) = rest.split_at(cut);
+    Ok(cut_pair(whole, cut, told))
 }
 
-// The first n bytes of a buffer, read from the file; whether they were there.
-pub(crate) fn read_part<F: Read>(from: &mut F, buf: &mut [u8], n: usize) -> io::Result<bool> {
-    if buf.len() < n {
-        return Ok(false);
-    }
-    filled(from, &mut buf[..n])
+// A run under a default, whose starting value in force is also told.
+fn under_default(input: &[u8], default: &[u8], told: &[u8], value: &[u8]) -> Option<Came> {
+    let (_, in_force) = judged(input, default, limits::ANY_AREA, told)?;
+    (in_force == value).then_some(Came::UnderDefault)
 }
 
-// The length of the second input.
-fn second_of(cuts: bool, k: u32) -> u32 {
-    if cuts { k } else { 0 }
-}
-
-// The next entry: its three numbers, and what follows them in the buffer.
-pub(crate) fn read_entry<F: Read>(from: &mut F, cuts: bool, buf: &mut [u8]) -> io::Result<Entry> {
-    let mut head = [0u8; 12];
-    let got = read_full(from, &mut head)?;
-    if got == 0 {
-        return Ok(Entry::End);
-    }
-    if got < 12 {
-        return Ok(Entry::Different);
-    }
-    let n = image::token_tree::u32_at(&head, 0);
-    let k = image::token_tree::u32_at(&head, 4);
-    let m = image::token_tree::u32_at(&head, 8);
-    let second = second_of(cuts, k);
-    if read_part(from, buf, (n as usize) + (second as usize) + (m as usize))? {
-        return Ok(Entry::Read(n, k, m));
-    }
-    Ok(Entry::Different)
+// Of `defaults`: the lengths of an input, of a default, of a listing and of the starting value in force; these four follow.
+pub(crate) fn default<F: Read>(from: &mut F, buf: &mut [u8]) -> Result<Option<Came>, NoEntry> {
+    let head: [u8; 16] = read_head(from)?;
+    let input = u32_at(&head, 0) as usize;
+    let default = u32_at(&head, 4) as usize;
+    let told = u32_at(&head, 8) as usize;
+    let value = u32_at(&head, 12) as usize;
+    let parts = read_part(from, buf, input + default + told + value)?;
+    let (input, rest) = parts.split_at(input);
+    let (default, rest) = rest.split_at(default);
+    let (told, value) = rest.split_at(told);
+    Ok(under_default(input, default, told, value))
 }

@@ -1,10 +1,13 @@
-// What the programs share of reading and of saying why it failed, over std's readers and writers. Nothing here allocates.
+// What the programs share of reading, of comparing, and of saying why a call failed, over std's readers and writers. Nothing here allocates.
 #![tactic(auto)]
 
-ghost use Rattle.std.specs.Prelude.{◌≡◌, ◌⊎◌, length, take, IfOk};
+mod entry;
+
+ghost use Rattle.std.specs.Prelude.{◌≡◌, ◌⊎◌, ◌↔◌, ◌≤◌, true, length, take, IfOk};
 ghost use Rattle.std.specs.Io.{ReadsAtMost};
 ghost use Rattle.std.specs.Io.KnownBytes.{Consumes, IsAtEnd};
 
+pub use entry::{NoEntry, read_head, read_part};
 use std::io::{Read, Write};
 use std::{fmt, io};
 
@@ -24,6 +27,13 @@ pub fn read_full<R: Read>(from: &mut R, buf: &mut [u8]) -> io::Result<usize>
         done += more;
     }
     Ok(done)
+}
+
+// Whether the first n bytes are these.
+pub fn same_front(bytes: &[u8], n: usize, told: &[u8]) -> bool
+    ensures { (result ≡ true) ↔ ((n ≤ length bytes.now) × (take n bytes.now ≡ told.now)) }
+{
+    bytes.get(..n) == Some(told)
 }
 
 // Why a call of the system failed, in the C library's words. What std prints has the error's number after them.
@@ -47,13 +57,10 @@ impl fmt::Display for Reason {
 // What stands before the number in a text, whose last bytes are unused.
 fn words(text: &[u8], unused: usize) -> &str {
     let n = text.len().saturating_sub(unused);
-    match std::str::from_utf8(&text[..n]) {
-        Ok(shown) => match shown.split_once(" (os error ") {
-            Some((words, _)) => words,
-            None => shown,
-        },
-        Err(_) => "",
-    }
+    let shown = std::str::from_utf8(&text[..n]).unwrap_or("");
+    shown
+        .split_once(" (os error ")
+        .map_or(shown, |(words, _)| words)
 }
 
 #[cfg(test)]

@@ -3,7 +3,6 @@ use Rattle.std.proofs.Common.{arith}
 use Rattle.output.specs.Printed.{printed}
 use Rattle.layout.proofs.answer.Goals as goal
 
-pub unreachable-requires : goal.unreachable-requires
-unreachable-requires g c =
-    let whole = (printed c.args.input.now c.listing_buffer-listing.result c.answer.new.out c.answer.result (omega arith) c.answer.ensures).0 in
-    cc
+pub unwrap-n-requires : goal.unwrap-n-requires
+unwrap-n-requires g c =
+    rw (printed c.args.input.now c.listing_buffer-listing.result c.answer.new.out c.answer.result (omega arith) c.answer.ensures).0

@@ -1,2 +1,0 @@
--- What the program's test says of a number.
-pub mod Agreeing

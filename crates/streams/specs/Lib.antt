@@ -1,0 +1,2 @@
+-- Why an entry was not read.
+pub mod NoEntry
