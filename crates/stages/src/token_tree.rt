@@ -6,7 +6,7 @@ mod text;
 mod types;
 mod walker;
 
-pub(crate) use items::{behind, last_item, record, start_of, start_or};
+pub(crate) use items::{Items, Seen, behind, last_item, record, start_of, start_or};
 pub(crate) use table::{components_of, number_at, records_of, run_of, tables_of, width_of};
 pub(crate) use text::{byte_at, no_text, part_of, same_text, single};
 pub(crate) use types::{Entry, PBind, PText, PVal, Part, Run, Tables, Tree};

@@ -1,5 +1,8 @@
 -- Bounds in code and in the definition: a text's emptiness, the number of a bound, and what simplifying and raising give.
-use Rattle.std.specs.Prelude.{◌+◌, ◌*◌, ◌-◌, ◌^◌, ◌∷◌, ◌+ℤ◌, if◌then◌else◌}
+use Rattle.std.specs.Prelude as Std
+use Rattle.std.specs.Option.{option_zip}
+use Rattle.std.specs.Prelude.{Some, None, Ok, Err, ◌+◌, ◌*◌, ◌-◌, ◌^◌, ◌∷◌, ◌+ℤ◌, if◌then◌else◌}
+use Rattle.errors.specs.declared.reasons.Reason.TheVariants as Reasons
 use Rattle.std.proofs.Common.{◌≡◌, ◌<◌, ◌≤◌, sym, refl, ap, ◌∙◌, subst, arith, eq-eqb, ne_eqb}
 use lib.Dec.{eqb-suc-zero}
 use Rattle.definition.specs.Prelude.{ℕ, zero, suc, Bool, false, Option, none, some, List, [], length, ltb, eqb, ℤ, pos, negsuc, nat_abs}
@@ -15,16 +18,11 @@ use Rattle.definition.specs.Component.{simplify_usb, is_zero}
 use Rattle.laws.specs.Tests.{by_test}
 use Rattle.numbers.specs.Value.{bits, value_of, option_of}
 use Rattle.numbers.specs.declared.I128.{I128}
-use Rattle.numbers.specs.declared.OptionI128.{OptionI128}
-use Rattle.numbers.specs.declared.OptionI128.TheVariants as I
 use Rattle.stages.specs.token_tree.Parts.{bytes_in}
 use Rattle.stages.specs.ranges.Values.{Tree, zero_i, val_by, zero_by, usb_of, end_of, UsbFits, UsbReads}
-use Rattle.stages.specs.ranges.Checks.{end_val}
+use Rattle.stages.specs.ranges.Checks.{end_val, both_of, range_of}
 use Rattle.stages.specs.ranges.Sides.{moved_text, raised_one}
 use Rattle.stages.specs.declared.ranges.types.Usb.{Usb}
-use Rattle.stages.specs.declared.ranges.types.OptionUsb.{OptionUsb}
-use Rattle.stages.specs.declared.ranges.types.OptionUsb.TheVariants as O
-use Rattle.stages.specs.declared.ranges.types.UsbResult.TheVariants as U
 use Rattle.stages.proofs.token_tree.Written.{no_text_is, none_fits}
 
 pub empty_is : (n : ℕ) (s : List ℕ) → is_empty (padded n s) ≡ eqb n 0
@@ -60,6 +58,11 @@ one : value_of (record { high = 0; low = 1 }) ≡ pos 1
 unfolding value_of
 one = refl
 
+pub zipped : (a b : Std.Option I128) → range_of (option_zip a b) ≡ both_of (option_of a) (option_of b)
+zipped None b = refl
+zipped (Some x) None = refl
+zipped (Some x) (Some y) = refl
+
 module _ (image : List ℕ) (t : Tree) (base : ℕ) where
   -- ---- a bound that is a number
 
@@ -92,44 +95,37 @@ module _ (image : List ℕ) (t : Tree) (base : ℕ) where
 
   -- ---- the end
 
-  pub end_some : (e : OptionUsb) (u : Usb) {r : Option ℤ} → e ≡ O.Some u → r ≡ static_val (usb_of image t base u) → r ≡ end_val (end_of image t base e)
-  end_some e u p h = h ∙ sym (ap (λ (e : OptionUsb). end_val (end_of image t base e)) p)
-
-  pub end_none : (e : OptionUsb) → e ≡ O.None → none ≡ end_val (end_of image t base e)
-  end_none e p = sym (ap (λ (e : OptionUsb). end_val (end_of image t base e)) p)
+  pub end_some : (e : Std.Option Usb) (u : Usb) {r : Option ℤ} → e ≡ Some u → r ≡ static_val (usb_of image t base u) → r ≡ end_val (end_of image t base e)
+  end_some e u p h = h ∙ sym (ap (λ (e : Std.Option Usb). end_val (end_of image t base e)) p)
 
   -- ---- a sum: the text's number, or 1
 
-  module _ (a : OptionI128) (x v : ℤ) (sum : option_of a ≡ narrow (x +ℤ v)) where
-    pub moved_ok : (y : I128) (u : Usb) → a ≡ I.Some y → u ≡ val_by y → t.text ≤ length image → y.low < 2 ^ 64 → y.high < 2 ^ 64
-        → UsbReads image t base (U.Ok u) (moved_text x v)
+  module _ (a : Std.Option I128) (x v : ℤ) (sum : option_of a ≡ narrow (x +ℤ v)) where
+    pub moved_ok : (y : I128) (u : Usb) → a ≡ Some y → u ≡ val_by y → t.text ≤ length image → y.low < 2 ^ 64 → y.high < 2 ^ 64
+        → UsbReads image t base (Ok u) (moved_text x v)
     moved_ok y u n e h l k =
         record {
-          is = ap (λ (u : Usb). ok (usb_of image t base u)) e ∙ ap ok (val_is y) ∙ sym (ap (λ (a : OptionI128). given overflow no_text (option_of a)) n)
+          is = ap (λ (u : Usb). ok (usb_of image t base u)) e ∙ ap ok (val_is y) ∙ sym (ap (λ (a : Std.Option I128). given overflow no_text (option_of a)) n)
               ∙ ap (given overflow no_text) sum;
           held = subst (UsbFits image t base) (sym e) (val_fits y h l k);
         }
 
-    pub moved_over : a ≡ I.None → UsbReads image t base (U.Refused 20) (moved_text x v)
-    moved_over n =
-        record { is = sym (ap (λ (a : OptionI128). given overflow no_text (option_of a)) n) ∙ ap (given overflow no_text) sum; held = tt }
-
-  module _ (u : Usb) (a : OptionI128) (sum : option_of a ≡ narrow (value_of u.x +ℤ value_of (record { high = 0; low = 1 }))) where
+  module _ (u : Usb) (a : Std.Option I128) (sum : option_of a ≡ narrow (value_of u.x +ℤ value_of (record { high = 0; low = 1 }))) where
     raised : given bound_overflow (usb_of image t base u).s (option_of a) ≡ raised_one (usb_of image t base u)
     raised =
         ap (given bound_overflow (usb_of image t base u).s) sum
         ∙ ap (λ (z : ℤ). given bound_overflow (usb_of image t base u).s (narrow (value_of u.x +ℤ z))) one
 
-    pub raised_ok : (x : I128) → a ≡ I.Some x → UsbFits image t base u → x.low < 2 ^ 64 → x.high < 2 ^ 64
-        → UsbReads image t base (U.Ok (record { s = u.s; x = x })) (raised_one (usb_of image t base u))
+    pub raised_ok : (x : I128) → a ≡ Some x → UsbFits image t base u → x.low < 2 ^ 64 → x.high < 2 ^ 64
+        → UsbReads image t base (Ok (record { s = u.s; x = x })) (raised_one (usb_of image t base u))
     raised_ok x n f l k =
         record {
-          is = sym (ap (λ (a : OptionI128). given bound_overflow (usb_of image t base u).s (option_of a)) n) ∙ raised;
+          is = sym (ap (λ (a : Std.Option I128). given bound_overflow (usb_of image t base u).s (option_of a)) n) ∙ raised;
           held = record { part = f.part; low = l; high = k };
         }
 
-    pub raised_over : a ≡ I.None → UsbReads image t base (U.Refused 16) (raised_one (usb_of image t base u))
-    raised_over n = record { is = sym (ap (λ (a : OptionI128). given bound_overflow (usb_of image t base u).s (option_of a)) n) ∙ raised; held = tt }
+    pub raised_over : a ≡ None → UsbReads image t base (Err Reasons.BoundOverflow) (raised_one (usb_of image t base u))
+    raised_over n = record { is = sym (ap (λ (a : Std.Option I128). given bound_overflow (usb_of image t base u).s (option_of a)) n) ∙ raised; held = tt }
 
   -- ---- 20
 
@@ -137,16 +133,16 @@ module _ (image : List ℕ) (t : Tree) (base : ℕ) where
   unfolding simplify_usb
   empty_kept u h = sym (rw (empty_is, eq-eqb u.s.len 0 h))
 
-  pub simplify_empty : (u : Usb) → u.s.len ≡ 0 → UsbFits image t base u → UsbReads image t base (U.Ok u) (simplify_usb (usb_of image t base u))
+  pub simplify_empty : (u : Usb) → u.s.len ≡ 0 → UsbFits image t base u → UsbReads image t base (Ok u) (simplify_usb (usb_of image t base u))
   simplify_empty u h f = record { is = empty_kept u h; held = f }
 
-  module _ (u : Usb) (h : u.s.len ≡ 0 → ⊥) (p : OptionI128) (parsed : option_of p ≡ try_parse (bytes_in image t u.s)) where
+  module _ (u : Usb) (h : u.s.len ≡ 0 → ⊥) (p : Std.Option I128) (parsed : option_of p ≡ try_parse (bytes_in image t u.s)) where
     simplify_by : added (usb_of image t base u) (option_of p) ≡ simplify_usb (usb_of image t base u)
     unfolding simplify_usb
     simplify_by = ap (added (usb_of image t base u)) parsed ∙ sym (rw (empty_is, ne_eqb u.s.len 0 h))
 
-    pub simplify_none : p ≡ I.None → UsbFits image t base u → UsbReads image t base (U.Ok u) (simplify_usb (usb_of image t base u))
-    simplify_none e f = record { is = sym (ap (λ (p : OptionI128). added (usb_of image t base u) (option_of p)) e) ∙ simplify_by; held = f }
+    pub simplify_none : p ≡ None → UsbFits image t base u → UsbReads image t base (Ok u) (simplify_usb (usb_of image t base u))
+    simplify_none e f = record { is = sym (ap (λ (p : Std.Option I128). added (usb_of image t base u) (option_of p)) e) ∙ simplify_by; held = f }
 
-    pub simplify_some : (v : I128) → p ≡ I.Some v → moved_text (value_of u.x) (value_of v) ≡ simplify_usb (usb_of image t base u)
-    simplify_some v e = sym (ap (λ (p : OptionI128). added (usb_of image t base u) (option_of p)) e) ∙ simplify_by
+    pub simplify_some : (v : I128) → p ≡ Some v → moved_text (value_of u.x) (value_of v) ≡ simplify_usb (usb_of image t base u)
+    simplify_some v e = sym (ap (λ (p : Std.Option I128). added (usb_of image t base u) (option_of p)) e) ∙ simplify_by

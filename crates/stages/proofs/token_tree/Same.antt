@@ -1,5 +1,6 @@
 -- When two runs of bytes are the same.
-use Rattle.std.proofs.Common.{◌≡◌, ℕ, zero, suc, ◌+◌, ◌-◌, ◌<◌, ◌≤◌, Bool, true, false, ◌&&◌, eqb, List, [], ◌∷◌, get_or, drop, sym, refl, ap, arith, eq-eqb, ne_eqb}
+use Rattle.std.proofs.Common.{◌≡◌, ℕ, zero, suc, ◌+◌, ◌-◌, ◌≤◌, Bool, true, false, ◌&&◌, eqb, List, [], ◌∷◌, length, get_or, take, drop, sym, refl, ap, arith, length-drop}
+use lib.Pointwise.{pointwise}
 use Rattle.definition.specs.Basics.{same_bytes}
 use Rattle.definition.specs.Image.{padded, bytes_at}
 
@@ -28,37 +29,24 @@ lengths_apart (suc m) (suc n) [] (c ∷ t) f = no (eqb 0 c) (lengths_apart m n [
 lengths_apart (suc m) (suc n) (b ∷ s) [] f = no (eqb b 0) (lengths_apart m n s [] (λ e. f (ap suc e)))
 lengths_apart (suc m) (suc n) (b ∷ s) (c ∷ t) f = no (eqb b c) (lengths_apart m n s t (λ e. f (ap suc e)))
 
--- what is left to compare after i bytes
-abbrev pub same_from : List ℕ → ℕ → ℕ → ℕ → ℕ → Bool
-same_from s a b n i = same_bytes (padded (n - i) (drop (a + i) s)) (padded (n - i) (drop (b + i) s))
+-- a text within the image is a part of it
+pub whole : (n : ℕ) (s : List ℕ) → n ≤ length s → padded n s ≡ take n s
+unfolding padded
+whole zero s h = refl
+whole (suc n) [] h = absurd (omega arith)
+whole (suc n) (b ∷ s) h = ap (λ (r : List ℕ). b ∷ r) (whole n s (omega arith))
 
-module _ (s : List ℕ) (a b n : ℕ) where
-  pub same_start : same_from s a b n 0 ≡ same_bytes (bytes_at s a n) (bytes_at s b n)
-  same_start =
-      let e : n - 0 ≡ n = omega arith in
-      let p : a + 0 ≡ a = omega arith in
-      let q : b + 0 ≡ b = omega arith in
-      rw (e, p, q)
+pub whole_at : (s : List ℕ) (p n m : ℕ) → p + n ≤ length s → m ≡ n → take m (drop p s) ≡ bytes_at s p n
+whole_at s p n m h e = rw e (sym (whole n (drop p s) (rw length-drop (omega arith))))
 
-  module _ (i : ℕ) where
-    pub same_step : i < n → same_from s a b n i ≡ (eqb (get_or s (a + i) 0) (get_or s (b + i) 0) && same_from s a b n (i + 1))
-    unfolding same_bytes
-    same_step h =
-        let e : n - i ≡ suc (n - (i + 1)) = omega arith in
-        let p : a + (i + 1) ≡ suc (a + i) = omega arith in
-        let q : b + (i + 1) ≡ suc (b + i) = omega arith in
-        rw (e, first_on (n - (i + 1)) (a + i) s, first_on (n - (i + 1)) (b + i) s, p, q)
+-- std's comparison is the definition's
+same_is : (s t : List ℕ) → pointwise eqb s t ≡ same_bytes s t
+unfolding same_bytes
+same_is [] [] = refl
+same_is [] (b ∷ t) = refl
+same_is (a ∷ s) [] = refl
+same_is (a ∷ s) (b ∷ t) = ap (λ r. eqb a b && r) (same_is s t)
 
-    pub same_end : n ≤ i → i ≤ n → true ≡ same_from s a b n i
-    unfolding same_bytes padded
-    same_end h l = let e : n - i ≡ zero = omega arith in rw e
-
-    pub same_again : i < n → get_or s (a + i) 0 ≡ get_or s (b + i) 0 → same_from s a b n (i + 1) ≡ same_from s a b n i
-    same_again h e = sym (rw (eq-eqb (get_or s (a + i) 0) (get_or s (b + i) 0) e) at (same_step h))
-
-    pub same_not : i < n → (get_or s (a + i) 0 ≡ get_or s (b + i) 0 → ⊥) → false ≡ same_from s a b n i
-    same_not h f = sym (rw (ne_eqb (get_or s (a + i) 0) (get_or s (b + i) 0) f) at (same_step h))
-
--- runs of one length
-pub same_length : (s : List ℕ) (a b m n : ℕ) (r : Bool) → m ≡ n → r ≡ same_bytes (bytes_at s a m) (bytes_at s b m) → r ≡ same_bytes (bytes_at s a m) (bytes_at s b n)
-same_length s a b m n r e h = rw (← e) h
+pub slices_same : (s : List ℕ) (p q n : ℕ) → p + n ≤ length s → q + n ≤ length s
+    → pointwise eqb (take (p + n - p) (drop p s)) (take (q + n - q) (drop q s)) ≡ same_bytes (bytes_at s p n) (bytes_at s q n)
+slices_same s p q n h k = rw (whole_at s p n (p + n - p) h (omega arith), whole_at s q n (q + n - q) k (omega arith)) (same_is _ _)

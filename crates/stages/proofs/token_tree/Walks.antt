@@ -64,3 +64,6 @@ module _ (image : List ℕ) (t : Tree) (stop tail : ℕ) where
       let f = h.fits in
       let b = h.small in
       (record { room = omega (arith, l, f); small = b }, omega (arith, o, f, b))
+
+  pub runs_some : (e s : ℕ) → (e ≡ stop → ⊥) → Runs image t stop tail e s → e < stop
+  runs_some e s z h = let o = (runs_order e s h).0 in omega (arith, o, z)

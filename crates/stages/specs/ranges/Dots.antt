@@ -2,7 +2,7 @@
 use Rattle.std.specs.Prelude as Std
 use Rattle.std.specs.Prelude.{Some, None, Ok, Err, ◌≡◌, ◌<◌, ◌≤◌, ◌+◌, ◌-◌, if◌then◌else◌}
 use Rattle.definition.specs.Prelude.{ℕ, Bool, true, false, Option, none, some, List, length, take, drop, eqb}
-use Rattle.definition.specs.Basics.{Result, ok, refused, ◌>>=◌}
+use Rattle.definition.specs.Basics.{Result, ok, ◌>>=◌}
 use Rattle.definition.specs.Text.{Item}
 use Rattle.definition.specs.Ranges.{Usb, Usbr, Scan, scan_dots, parse_start, parse_end}
 use Rattle.errors.specs.declared.reasons.Reason.{Reason}

@@ -1,7 +1,7 @@
 -- The two sides of a bound's sign, by their texts.
 use Rattle.std.specs.Prelude.{◌≡◌, ◌≤◌, refl, ◌+◌, ◌∷◌, ◌+ℤ◌, ◌-ℤ◌, if◌then◌else◌}
 use Rattle.definition.specs.Prelude.{ℕ, Bool, Option, none, some, List, length, eqb, get_or, ℤ, pos}
-use Rattle.definition.specs.Basics.{Result, ok, ◌>>=◌}
+use Rattle.definition.specs.Basics.{Result, ok}
 use Rattle.definition.specs.Characters.{char}
 use Rattle.definition.specs.Refusals.{refuse, bound_overflow, overflow}
 use Rattle.definition.specs.Text.{Part, no_text, is_token, part_of}
@@ -27,9 +27,6 @@ moved_text x v = with_x overflow no_text (x +ℤ v)
 -- "`..=` adds 1 to x of the end if there is one"
 abbrev pub raised_one : Usb → Result Usb
 raised_one e = with_x bound_overflow e.s (e.x +ℤ pos 1)
-
-abbrev pub raised_by : Bool → Result Usb → Result Usb
-raised_by inclusive u = u >>= λ e. if inclusive then raised_one e else ok e
 
 -- where the right side is no number
 abbrev pub text_kept : Part → Part → Part → Result Usb

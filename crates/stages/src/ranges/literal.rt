@@ -16,7 +16,7 @@ fn above(n: Option<I128>, w: u32) -> bool
     ensures { result ≡ not (passes (λ x. int_le x (pos w)) (option_of n)) }
 {
     match n {
-        Some(x) => I128::from(w as usize) < x,
+        Some(x) => I128::from(w as u64) < x,
         None => false,
     }
 }
@@ -56,10 +56,7 @@ fn to_width(image: &[u8], tree: Tree, start: Usb, w: u32) -> Simplified
 {
     let range = Usbr {
         start,
-        end: Some(Usb::val(I128 {
-            high: 0,
-            low: w as u64,
-        })),
+        end: Some(Usb::val(I128::from(w as u64))),
     };
     Simplified {
         range,

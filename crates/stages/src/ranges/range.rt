@@ -81,9 +81,6 @@ pub(crate) fn single_bit(image: &[u8], tree: Tree, run: Run) -> Usbr
     let s = part_of(start_of(image, tree, run.r), run.end);
     Usbr {
         start: Usb::new_s(s),
-        end: Some(Usb {
-            s,
-            x: I128 { high: 0, low: 1 },
-        }),
+        end: Some(Usb { s, x: I128::ONE }),
     }
 }

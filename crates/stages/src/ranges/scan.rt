@@ -5,7 +5,7 @@ ghost use Rattle.errors.specs.Refused.{reasoned};
 ghost use Rattle.stages.specs.token_tree.Laid.{Laid, Runs};
 ghost use Rattle.stages.specs.ranges.Dots.{found_by, dotted_by, undotted_by, scanned_by, ended_by, dots_in};
 
-use crate::token_tree::{PBind, PText, Tree, behind, single, start_or};
+use crate::token_tree::{Items, PBind, PText, Tree};
 use errors::Reason;
 
 // Where a range is cut: the dots are the records from lo up to hi.
@@ -110,14 +110,8 @@ pub(crate) fn dots_in(
         first: PBind(0),
         cut: None,
     };
-    let mut at = r;
-    let mut s = start_or(image, tree, r, stop, end);
-    while at < stop {
-        let next = behind(image, tree, at);
-        let t = start_or(image, tree, next, stop, end);
-        d = scanned(d, at, next, single(image, tree, s, t))?;
-        at = next;
-        s = t;
+    for item in Items::new(image, tree, r, stop, end) {
+        d = scanned(d, item.at, item.next, item.byte)?;
     }
     Ok(at_stop(d, stop)?.cut)
 }

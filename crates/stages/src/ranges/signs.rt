@@ -6,7 +6,7 @@ ghost use Rattle.definition.specs.Ranges.{cut_bound};
 ghost use Rattle.stages.specs.token_tree.Laid.{Laid, Runs};
 ghost use Rattle.stages.specs.ranges.Signs.{Early, paired_by, signed_by, cut_place, signs_in};
 
-use crate::token_tree::{PBind, PText, Tree, behind, single, start_or};
+use crate::token_tree::{Items, PBind, PText, Tree};
 
 // The records of signs: the last plus, the first of the leftmost pair of minuses, the last minus.
 #[derive(Clone, Copy)]
@@ -54,14 +54,8 @@ fn signs_in(image: &[u8], tree: Tree, r: PBind, stop: PBind, end: PText) -> Sign
         pair: None,
         minus: None,
     };
-    let mut at = r;
-    let mut s = start_or(image, tree, r, stop, end);
-    while at < stop {
-        let next = behind(image, tree, at);
-        let t = start_or(image, tree, next, stop, end);
-        g = signed(g, at, single(image, tree, s, t));
-        at = next;
-        s = t;
+    for item in Items::new(image, tree, r, stop, end) {
+        g = signed(g, item.at, item.byte);
     }
     g
 }

@@ -61,8 +61,7 @@ impl Usb {
         ensures { (image : List ℕ) (t : TreeIn) (base : ℕ) → UsbFits image t base self
             → UsbReads image t base result (raised_one (usb_of image t base self)) }
     {
-        let one = I128 { high: 0, low: 1 };
-        let x = self.x.checked_add(one).ok_or(Reason::BoundOverflow)?;
+        let x = self.x.checked_add(I128::ONE).ok_or(Reason::BoundOverflow)?;
         Ok(Usb { s: self.s, x })
     }
 

@@ -1,9 +1,12 @@
 // Records by number, and the items of a run: an item ends where the next begins.
-ghost use Rattle.std.specs.Prelude.{◌≡◌, ℕ, ◌+◌, ◌*◌, ◌^◌, ◌<◌, ◌≤◌, List, ◌∷◌, length};
+ghost use Rattle.std.specs.Prelude.{◌≡◌, ℕ, ◌+◌, ◌-◌, ◌*◌, ◌^◌, ◌<◌, ◌≤◌, List, ◌∷◌, length};
+ghost use Rattle.std.specs.Iterator.{at_most};
 ghost use Rattle.definition.specs.Text.{Item};
 ghost use Rattle.stages.specs.token_tree.Table.{Reads, RecordFits, start_in, skip_in, start_or};
 ghost use Rattle.stages.specs.token_tree.Laid.{Laid, Runs, place_of};
+ghost use Rattle.stages.specs.token_tree.Items.{Walks, Steps};
 
+use super::text::single;
 use super::types::{Entry, Tree};
 use super::walker::read_at;
 use crate::token_tree::types::{PBind, PText};
@@ -58,4 +61,66 @@ pub(crate) fn last_item(image: &[u8], tree: Tree, r: PBind, stop: PBind, end: PT
         next = behind(image, tree, at);
     }
     at
+}
+
+// A walk over the items of a run.
+#[derive(Drop)]
+pub struct Items<'a> {
+    pub image: &'a [u8],
+    pub tree: Tree,
+    pub at: PBind,
+    pub s: PText,
+    pub stop: PBind,
+    pub end: PText,
+}
+
+// An item: its record, the one behind it, and its byte where it is a token of one, else 0.
+#[derive(Clone, Copy)]
+pub struct Seen {
+    pub at: PBind,
+    pub next: PBind,
+    pub byte: u8,
+}
+
+impl<'a> Items<'a> {
+    // The items from record r up to stop.
+    pub(crate) fn new(image: &'a [u8], tree: Tree, r: PBind, stop: PBind, end: PText) -> Items<'a>
+        requires { (s : ℕ) × Runs image.now tree stop.0 «end».0 r.0 s }
+        ensures walks { Walks result }
+        ensures is { result ≡ record { image = image.entry; tree = tree; at = r; s = result.s; stop = stop; «end» = «end» } }
+        ensures text { result.s.0 ≡ start_or image.now tree r.0 stop.0 «end».0 }
+    {
+        let s = start_or(image, tree, r, stop, end);
+        Items {
+            image,
+            tree,
+            at: r,
+            s,
+            stop,
+            end,
+        }
+    }
+}
+
+impl<'a> Iterator for Items<'a> {
+    type Item = Seen;
+
+    ghost can_next = { Walks };
+
+    ghost next_gives = { Steps };
+
+    ghost remaining = { λ i. at_most (i.stop.0 - i.at.0) };
+
+    fn next(&mut self) -> Option<Seen> {
+        if self.at == self.stop {
+            return None;
+        }
+        let at = self.at;
+        let next = behind(self.image, self.tree, at);
+        let t = start_or(self.image, self.tree, next, self.stop, self.end);
+        let byte = single(self.image, self.tree, self.s, t);
+        self.at = next;
+        self.s = t;
+        Some(Seen { at, next, byte })
+    }
 }

@@ -1,5 +1,7 @@
 -- A run of items read as a bound: kept as written where it has no sign, else cut at the sign's record.
-use Rattle.std.specs.Prelude.{◌+◌, ◌-◌, ◌∷◌, ◌++◌, if◌then◌else◌}
+use Rattle.std.specs.Prelude as Std
+use Rattle.std.specs.Prelude.{Some, None, Ok, ◌+◌, ◌-◌, ◌∷◌, ◌++◌, if◌then◌else◌}
+use Rattle.errors.specs.declared.reasons.Reason.{Reason}
 use Rattle.std.proofs.Common.{◌≡◌, ◌<◌, ◌≤◌, ◌⊎◌, sym, refl, ap, ◌∙◌, subst, inl, inr, arith}
 use Rattle.definition.specs.Prelude.{ℕ, Bool, true, false, not, Option, none, some, List, [], length, eqb, get_or, pos}
 use Rattle.definition.specs.Basics.{ok, same_bytes}
@@ -12,14 +14,13 @@ use Rattle.stages.specs.token_tree.Laid.{Stands, Laid, place_of}
 use Rattle.stages.specs.token_tree.Table.{start_in, skip_in, single_of}
 use Rattle.stages.specs.token_tree.Parts.{part_by, part_of}
 use Rattle.stages.specs.ranges.Values.{new_by, UsbReads}
-use Rattle.stages.specs.ranges.Signs.{cut_place}
+use Rattle.stages.specs.ranges.Signs.{record_at, cut_place}
 use Rattle.stages.specs.ranges.Sides.{join_parts, join_is, text_in, sides_in}
+use Rattle.stages.specs.declared.token_tree.types.PBind.{PBind}
 use Rattle.stages.specs.declared.token_tree.types.Part.{Part}
 use Rattle.stages.specs.declared.token_tree.types.Tree.{Tree}
 use Rattle.stages.specs.declared.ranges.types.Usb.{Usb}
-use Rattle.stages.specs.declared.ranges.types.UsbResult.{UsbResult}
-use Rattle.stages.specs.declared.ranges.types.UsbResult.TheVariants as U
-use Rattle.stages.proofs.token_tree.Places.{place_above, laid_order, laid_split, Split, token_by}
+use Rattle.stages.proofs.token_tree.Places.{laid_order, laid_split, Split, token_by}
 use Rattle.stages.proofs.ranges.sides.Texts.{part_fits}
 use Rattle.stages.proofs.ranges.sides.Ways.{made_new}
 use Rattle.stages.proofs.ranges.signs.CutParts.{Parts, bound_parts}
@@ -56,14 +57,14 @@ read_some is c e = rw (e, read_bound)
 join_same : {o p b c a d k l : Text.Part} {n m : Bool} → o ≡ p → b ≡ c → a ≡ d → k ≡ l → n ≡ m → join_parts o b a k n ≡ join_parts p c d l m
 join_same e f g h i = rw (e, f, g, h, i)
 
-module _ (image : List ℕ) (t : Tree) (base stop tail r s : ℕ) (is : List Item) (h : Laid image t base stop tail r s is) (above : 1 ≤ r) where
+module _ (image : List ℕ) (t : Tree) (base stop tail r s : ℕ) (is : List Item) (h : Laid image t base stop tail r s is) where
   -- no sign: kept as written
-  pub bound_whole : (at : ℕ) → at ≡ cut_place image t r (cut_bound is) → at ≡ 0 → ok (Ranges.text (text_in image t base s tail) (pos 0)) ≡ read_bound is
-  bound_whole at e z = go (cut_bound is) refl (sym e ∙ z)
+  pub bound_whole : None ≡ cut_place image t r (cut_bound is) → ok (Ranges.text (text_in image t base s tail) (pos 0)) ≡ read_bound is
+  bound_whole e = go (cut_bound is) refl e
     where
-      go : (o : Option Cut) → cut_bound is ≡ o → cut_place image t r o ≡ 0 → ok (Ranges.text (text_in image t base s tail) (pos 0)) ≡ read_bound is
+      go : (o : Option Cut) → cut_bound is ≡ o → None ≡ cut_place image t r o → ok (Ranges.text (text_in image t base s tail) (pos 0)) ≡ read_bound is
       go none q k = ap (λ p. ok (Ranges.text p (pos 0))) (laid_part image t base stop tail r s is h) ∙ sym (read_none is q)
-      go (some c) q k = absurd (let m = place_above image t r (length c.before) in omega (arith, m, k, above))
+      go (some c) q k = cc
 
   -- the sign at record `at`
   pub record AtSign (at : ℕ) : Type 0 where
@@ -114,28 +115,29 @@ module _ (image : List ℕ) (t : Tree) (base stop tail r s : ℕ) (is : List Ite
         reads = rw st (cut_reads c q at p one front sign rear both);
       }
 
-  pub at_sign : (at : ℕ) → at ≡ cut_place image t r (cut_bound is) → (at ≡ 0 → ⊥) → AtSign at
-  at_sign at e n = go (cut_bound is) refl e
+  pub at_sign : (at : PBind) → Some at ≡ cut_place image t r (cut_bound is) → AtSign at.0
+  at_sign at e = go (cut_bound is) refl e
     where
-      go : (o : Option Cut) → cut_bound is ≡ o → at ≡ cut_place image t r o → AtSign at
-      go none q k = absurd (n k)
+      go : (o : Option Cut) → cut_bound is ≡ o → Some at ≡ cut_place image t r o → AtSign at.0
+      go none q k = let z : ◌≡◌ {A = ℕ} 0 1 = cc in absurd (omega arith)
       go (some c) q k =
           let b = bound_parts is c q in
           let cut = subst (λ l. Laid image t base stop tail r s l) (sign_parts is c b) h in
-          split_sign at c q k (sign_long is c b) (laid_split image t base stop tail r s c.before (c.sign ∷ c.after) cut)
+          let same : at ≡ record_at (place_of image t r (length c.before)) = cc in
+          split_sign at.0 c q (ap (λ (x : PBind). x.0) same) (sign_long is c b) (laid_split image t base stop tail r s c.before (c.sign ∷ c.after) cut)
 
 -- ---- group: what it answers
 
-module _ (image : List ℕ) (t : Tree) (base stop tail r s : ℕ) (is : List Item) (h : Laid image t base stop tail r s is) (one : 1 ≤ r) where
-  pub group_whole : base ≤ s → t.text + tail ≤ length image → (at : ℕ) → at ≡ cut_place image t r (cut_bound is) → at ≡ 0
-      → (part : Part) (u : Usb) → part ≡ part_by s tail → u ≡ new_by part → UsbReads image t base (U.Ok u) (read_bound is)
-  group_whole above room at e z part u q w =
+module _ (image : List ℕ) (t : Tree) (base stop tail r s : ℕ) (is : List Item) (h : Laid image t base stop tail r s is) where
+  pub group_whole : base ≤ s → t.text + tail ≤ length image → None ≡ cut_place image t r (cut_bound is)
+      → (part : Part) (u : Usb) → part ≡ part_by s tail → u ≡ new_by part → UsbReads image t base (Ok u) (read_bound is)
+  group_whole above room e part u q w =
       let o = (laid_order image t base stop tail r s is h).1 in
       made_new image t base part u w (rw q (part_fits image t base s tail record { above = above; order = o; room = room }))
-      (ap (λ y. ok (Ranges.text (part_of image t base y) (pos 0))) q ∙ bound_whole image t base stop tail r s is h one at e z)
+      (ap (λ y. ok (Ranges.text (part_of image t base y) (pos 0))) q ∙ bound_whole image t base stop tail r s is h e)
 
-  pub group_sign : (at : ℕ) → at ≡ cut_place image t r (cut_bound is) → (at ≡ 0 → ⊥) → (p : ℕ) → p ≡ start_in image t at
-      → (q : UsbResult) → UsbReads image t base q (sides_in image t base p s tail) → UsbReads image t base q (read_bound is)
-  group_sign at e n p k q u =
-      let x = at_sign image t base stop tail r s is h one at e n in
+  pub group_sign : (at : PBind) → Some at ≡ cut_place image t r (cut_bound is) → (p : ℕ) → p ≡ start_in image t at.0
+      → (q : Std.Result Usb Reason) → UsbReads image t base q (sides_in image t base p s tail) → UsbReads image t base q (read_bound is)
+  group_sign at e p k q u =
+      let x = at_sign image t base stop tail r s is h at e in
       subst (λ m. UsbReads image t base q m) (ap (λ y. sides_in image t base y s tail) k ∙ x.reads) u

@@ -1,5 +1,8 @@
 -- A bound is one item: a token, or a group in parentheses.
-use Rattle.std.specs.Prelude.{◌+◌, ◌-◌, ◌∷◌, if◌then◌else◌}
+use Rattle.std.specs.Prelude as Std
+use Rattle.std.specs.Prelude.{Ok, Err, ◌+◌, ◌-◌, ◌∷◌, if◌then◌else◌}
+use Rattle.errors.specs.declared.reasons.Reason.TheVariants as Reasons
+use Rattle.errors.specs.declared.reasons.Reason.{Reason}
 use Rattle.std.proofs.Common.{◌≡◌, ◌<◌, ◌≤◌, ◌⊎◌, sym, refl, ap, ◌∙◌, subst, inl, inr, arith, eq-eqb, ne_eqb}
 use Rattle.definition.specs.Prelude.{ℕ, Bool, true, false, none, some, List, [], length, eqb, pos}
 use Rattle.definition.specs.Basics.{ok, refused, refusal_of}
@@ -17,8 +20,6 @@ use Rattle.stages.specs.ranges.Sides.{text_in}
 use Rattle.stages.specs.declared.token_tree.types.Part.{Part}
 use Rattle.stages.specs.declared.token_tree.types.Tree.{Tree}
 use Rattle.stages.specs.declared.ranges.types.Usb.{Usb}
-use Rattle.stages.specs.declared.ranges.types.UsbResult.{UsbResult}
-use Rattle.stages.specs.declared.ranges.types.UsbResult.TheVariants as U
 use Rattle.stages.proofs.token_tree.Insides.{last_inside}
 use Rattle.stages.proofs.token_tree.Places.{laid_first, laid_order, laid_some, token_by}
 use Rattle.stages.proofs.token_tree.Walks.{runs_within}
@@ -84,7 +85,7 @@ module _ (image : List ℕ) (t : Tree) (base stop e r s : ℕ) (i : Item) (h : L
       ≡ (if eqb b 43 then ok (Ranges.val (pos 0)) else if eqb b 45 then ok (Ranges.val (pos 0)) else ok (Ranges.text (text_in image t base s e) (pos 0)))
   read_by = lone_by i (eqb b 43) (eqb b 45) (test_is 43 (omega arith)) (test_is 45 (omega arith)) ∙ rw (← laid_part image t base stop e r s (i ∷ []) h) refl
 
-  pub lone_sign : (u : Usb) → u ≡ zero_by → t.text ≤ length image → (b ≡ 43) ⊎ (b ≡ 45) → UsbReads image t base (U.Ok u) (read_bound (i ∷ []))
+  pub lone_sign : (u : Usb) → u ≡ zero_by → t.text ≤ length image → (b ≡ 43) ⊎ (b ≡ 45) → UsbReads image t base (Ok u) (read_bound (i ∷ []))
   lone_sign u q l k =
       made_new image t base _ u q (none_fits image t base l)
       (ap (λ p. ok (Ranges.text p (pos 0))) (no_text_is image t base) ∙ sym (read_by ∙ told k))
@@ -96,7 +97,7 @@ module _ (image : List ℕ) (t : Tree) (base stop e r s : ℕ) (i : Item) (h : L
       told (inr z) = rw z refl
 
   pub lone_text : (part : Part) (u : Usb) → part ≡ part_by s e → u ≡ new_by part → s < e → t.text + e ≤ length image → (b ≡ 43 → ⊥) → (b ≡ 45 → ⊥)
-      → UsbReads image t base (U.Ok u) (read_bound (i ∷ []))
+      → UsbReads image t base (Ok u) (read_bound (i ∷ []))
   unfolding Laid
   lone_text part u q w l f n m =
       let a = h.0.at in
@@ -114,7 +115,7 @@ module _ (image : List ℕ) (t : Tree) (base stop tail r s : ℕ) where
   unfolding Laid
   text_ended h = h.1
 
-refused_as : (image : List ℕ) (t : Tree) (base : ℕ) (is : List Item) → parse_usb is ≡ refused (refusal_of 15 0 0) → UsbReads image t base (U.Refused 15) (parse_usb is)
+refused_as : (image : List ℕ) (t : Tree) (base : ℕ) (is : List Item) → parse_usb is ≡ refused (refusal_of 15 0 0) → UsbReads image t base (Err Reasons.NotOneToken) (parse_usb is)
 refused_as image t base is e = record { is = sym e; held = tt }
 
 module _ (image : List ℕ) (t : Tree) (base stop tail r s : ℕ) (is : List Item) (l : r < stop) (h : Laid image t base stop tail r s is) where
@@ -133,11 +134,11 @@ module _ (image : List ℕ) (t : Tree) (base stop tail r s : ℕ) (is : List Ite
   first_ends = let f = laid_first image t base stop tail r s is l h in (laid_order image t base stop tail _ _ f.rest f.laid).0
 
   -- items behind it
-  pub many_refused : (r + skip_in image t r ≡ stop → ⊥) → UsbReads image t base (U.Refused 15) (parse_usb is)
+  pub many_refused : (r + skip_in image t r ≡ stop → ⊥) → UsbReads image t base (Err Reasons.NotOneToken) (parse_usb is)
   many_refused n = let f = laid_first image t base stop tail r s is l h in go f.item f.rest f.parts f.laid
     where
       go : (i : Item) (rest : List Item) → is ≡ i ∷ rest → Laid image t base stop tail (r + skip_in image t r) (s + length i.part.bytes) rest
-          → UsbReads image t base (U.Refused 15) (parse_usb is)
+          → UsbReads image t base (Err Reasons.NotOneToken) (parse_usb is)
       go i [] e k = absurd (n (ended image t base stop tail (r + skip_in image t r) (s + length i.part.bytes) k))
       go i (j ∷ rest) e k = refused_as image t base is (ap parse_usb e ∙ usb_many i j rest)
 
@@ -167,7 +168,7 @@ module _ (image : List ℕ) (t : Tree) (base stop tail r s : ℕ) (is : List Ite
   begins : s ≡ start
   begins = sym (es ∙ first_start image t base stop tail r s is l h)
 
-  pub parse_many : (r + skip ≡ stop → ⊥) → UsbReads image t base (U.Refused 15) (parse_usb is)
+  pub parse_many : (r + skip ≡ stop → ⊥) → UsbReads image t base (Err Reasons.NotOneToken) (parse_usb is)
   parse_many n = many_refused image t base stop tail r s is l h (λ z. n (ap (λ (x : ℕ). r + x) ep ∙ z))
 
   module _ (z : r + skip ≡ stop) where
@@ -181,7 +182,7 @@ module _ (image : List ℕ) (t : Tree) (base stop tail r s : ℕ) (is : List Ite
     in_parentheses : kind ≡ 2 → is_group lone.item ≡ true
     in_parentheses k = rw (kind_is ∙ k) refl
 
-    pub parse_token : kind ≡ 0 → (q : UsbResult)
+    pub parse_token : kind ≡ 0 → (q : Std.Result Usb Reason)
         → ((base stop r : ℕ) (i : Item) → Laid image t base stop tail r start (i ∷ []) → UsbReads image t base q (read_bound (i ∷ [])))
         → UsbReads image t base q (parse_usb is)
     parse_token k q f =
@@ -189,7 +190,7 @@ module _ (image : List ℕ) (t : Tree) (base stop tail r s : ℕ) (is : List Ite
         subst (λ m. UsbReads image t base q m) (sym (ap parse_usb lone.parts ∙ usb_token lone.item word))
         (f base stop r lone.item (subst (λ x. Laid image t base stop tail r x (lone.item ∷ [])) begins lone.laid))
 
-    pub parse_other : (kind ≡ 0 → ⊥) → (kind ≡ 2 → ⊥) → UsbReads image t base (U.Refused 15) (parse_usb is)
+    pub parse_other : (kind ≡ 0 → ⊥) → (kind ≡ 2 → ⊥) → UsbReads image t base (Err Reasons.NotOneToken) (parse_usb is)
     parse_other n m =
         let g : is_group lone.item ≡ true = by_test (is_group lone.item) (λ q. q) (λ q. absurd (n (sym kind_is ∙ lone.stands.word q))) in
         refused_as image t base is (ap parse_usb lone.parts ∙ usb_other lone.item g (λ k. m (sym kind_is ∙ k)))
@@ -209,7 +210,7 @@ module _ (image : List ℕ) (t : Tree) (base stop tail r s : ℕ) (is : List Ite
           subst (λ x. Laid image t base (stop - 1) (tail - 1) (r + 1) (x + 1) inner) begins
           (last_inside image t base stop tail r s lone.item lone.stands (in_parentheses k) (skipped z) lone.ends)
 
-      pub parse_group : (q : UsbResult)
+      pub parse_group : (q : Std.Result Usb Reason)
           → ((base : ℕ) (is : List Item) → base ≤ start + 1 → Laid image t base (stop - 1) (tail - 1) (r + 1) (start + 1) is
           → UsbReads image t base q (read_bound is))
           → UsbReads image t base q (parse_usb is)

@@ -1,6 +1,9 @@
 -- The range of a literal: its start, then its end or none; and of a filler.
-use Rattle.std.specs.Prelude.{◌-◌, ◌^◌, ◌∷◌, ◌-ℤ◌, if◌then◌else◌}
-use mathlib.Core.Bool.{or-true}
+use Rattle.std.specs.Prelude as Std
+use Rattle.std.specs.Option.{is_some}
+use Rattle.std.specs.Prelude.{Some, None, Ok, Err, ◌-◌, ◌^◌, ◌∷◌, ◌-ℤ◌, if◌then◌else◌}
+use Rattle.errors.specs.declared.reasons.Reason.{Reason}
+use Rattle.errors.specs.declared.reasons.Reason.TheVariants as Reasons
 use Rattle.std.proofs.Common.{◌≡◌, ◌<◌, ◌≤◌, Bool, true, false, not, ◌||◌, sym, refl, ap, ◌∙◌, subst, le_of_lt, arith, ltb-false, ltb-true, le-leb}
 use borrow.Author.Tests.{lt-leb}
 use Rattle.definition.specs.Prelude.{ℕ, Option, none, some, List, [], ltb, leb, ℤ, pos, negsuc, lt_z, le_z, non_neg}
@@ -12,41 +15,30 @@ use Rattle.definition.specs.Ranges.{val, static_val, static_width}
 use Rattle.definition.specs.Component.{if_static, if_static_end, if_known, is_zero, has_end, with_end}
 use Rattle.laws.specs.Numbers.{difference}
 use Rattle.laws.specs.Tests.{by_test}
-use Rattle.numbers.specs.Value.{option_of}
+use Rattle.numbers.specs.Value.{value_of, option_of}
 use Rattle.numbers.specs.declared.I128.{I128}
-use Rattle.numbers.specs.declared.OptionI128.{OptionI128}
-use Rattle.numbers.proofs.Small.{small}
 use Rattle.stages.specs.ranges.Values.{Tree, val_by, usb_of, end_of, usbr_of, UsbFits, UsbrFits, Measured, SimplifiedReads}
 use Rattle.stages.specs.ranges.Checks.{passes, Positive, end_checked, to_width, literal_range, filler_range}
 use Rattle.stages.specs.declared.ranges.types.Usb.{Usb}
 use Rattle.stages.specs.declared.ranges.types.Usbr.{Usbr}
-use Rattle.stages.specs.declared.ranges.types.OptionUsb.{OptionUsb}
-use Rattle.stages.specs.declared.ranges.types.OptionUsb.TheVariants as O
 use Rattle.stages.specs.declared.ranges.types.Simplified.{Simplified}
-use Rattle.stages.specs.declared.ranges.types.Simplified.TheVariants as S
 use Rattle.stages.proofs.Cases.{untrue}
 use Rattle.stages.proofs.ranges.Bounds.{val_is, val_fits}
 use Rattle.stages.proofs.ranges.literal.Limits.{limit}
 
 -- ---- the end at the width
 
-abbrev pub width_i : ℕ → I128
-width_i w = record { high = 0; low = w }
+module _ (image : List ℕ) (t : Tree) (base : ℕ) (start e : Usb) (x : I128) (w : ℕ) (q : e ≡ val_by x) (v : value_of x ≡ pos w)
+    (low : x.low < 2 ^ 64) (high : x.high < 2 ^ 64) (f : UsbFits image t base start) where
+  pub to_width_fits : UsbrFits image t base (record { start = start; «end» = Some e })
+  to_width_fits = record { start = f; «end» = subst (UsbFits image t base) (sym q) (val_fits image t base x (omega (arith, f.part.room)) low high) }
 
-module _ (image : List ℕ) (t : Tree) (base : ℕ) (start e : Usb) (w : ℕ) (q : e ≡ val_by (width_i w)) (l : w < 2 ^ 64) (f : UsbFits image t base start) where
-  pub to_width_fits : UsbrFits image t base (record { start = start; «end» = O.Some e })
-  to_width_fits =
-      record {
-        start = f;
-        «end» = subst (UsbFits image t base) (sym q) (val_fits image t base (width_i w) (omega (arith, f.part.room)) l (omega arith));
-      }
-
-  pub to_width_is : (x : OptionI128) → option_of x ≡ static_width (usbr_of image t base (record { start = start; «end» = O.Some e }))
-      → SimplifiedReads image t base (S.Ok (record { start = start; «end» = O.Some e }) x) (to_width w (usb_of image t base start))
-  to_width_is x h =
+  pub to_width_is : (y : Std.Option I128) → option_of y ≡ static_width (usbr_of image t base (record { start = start; «end» = Some e }))
+      → SimplifiedReads image t base (Ok (record { range = record { start = start; «end» = Some e }; width = y })) (to_width w (usb_of image t base start))
+  to_width_is y h =
       record {
         is = ap (λ (u : D.Usb). ok (record { start = usb_of image t base start; «end» = some u }))
-            (ap (usb_of image t base) q ∙ val_is image t base (width_i w) ∙ ap val (small (width_i w) refl));
+            (ap (usb_of image t base) q ∙ val_is image t base x ∙ ap val v);
         held = record { fits = to_width_fits; width = h };
       }
 
@@ -91,14 +83,14 @@ module _ (w : ℕ) where
       ap (λ (a : Bool). gate v a (if_static_end (λ x. le_z x (pos w)) v) (if_known (λ x. le_z x (pos w)) v) (if_static_end (lt_z (pos 0)) v)) h
 
 module _ (image : List ℕ) (t : Tree) (base : ℕ) (r : Usbr) (w : ℕ) (some_bits : 1 ≤ w) (p : Positive (usbr_of image t base r))
-    (s : OptionI128) (ps : option_of s ≡ static_val (usb_of image t base r.start))
-    (a : Bool) (ea : passes non_neg (option_of s) ≡ true → a ≡ not (passes (λ x. le_z x (pos (w - 1))) (option_of s))) where
+    (s : Std.Option I128) (ps : option_of s ≡ static_val (usb_of image t base r.start))
+    (a : Bool) (ea : a ≡ not (passes (λ x. le_z x (pos (w - 1))) (option_of s))) where
   starts : (k : Bool) → a ≡ k → if_static (λ x. lt_z x (pos w)) (usb_of image t base r.start) ≡ not k
   starts k h =
       sym (less_is w (static_val (usb_of image t base r.start)) some_bits)
-      ∙ limit s (static_val (usb_of image t base r.start)) (w - 1) a k ps p.start ea h
+      ∙ limit s (static_val (usb_of image t base r.start)) (w - 1) a k ps ea h
 
-  pub literal_over : a ≡ true → SimplifiedReads image t base (S.Refused 24) (literal_range w (usbr_of image t base r))
+  pub literal_over : a ≡ true → SimplifiedReads image t base (Err Reasons.StartAboveWidth) (literal_range w (usbr_of image t base r))
   literal_over h =
       let v = usbr_of image t base r in
       record {
@@ -107,44 +99,45 @@ module _ (image : List ℕ) (t : Tree) (base : ℕ) (r : Usbr) (w : ℕ) (some_b
         held = tt;
       }
 
-  pub literal_ended : (e : Usb) (q : Simplified) → a ≡ false → r.«end» ≡ O.Some e → SimplifiedReads image t base q (end_checked w (usbr_of image t base r))
+  pub literal_ended : (e : Usb) (q : Std.Result Simplified Reason) → a ≡ false → r.«end» ≡ Some e → SimplifiedReads image t base q (end_checked w (usbr_of image t base r))
       → SimplifiedReads image t base q (literal_range w (usbr_of image t base r))
   literal_ended e q h g k = subst (SimplifiedReads image t base q) (sym (go r.«end» g)) k
     where
-      go : (o : OptionUsb) → o ≡ O.Some e → let v : D.Usbr = record { start = usb_of image t base r.start; «end» = end_of image t base o } in
+      go : (o : Std.Option Usb) → o ≡ Some e → let v : D.Usbr = record { start = usb_of image t base r.start; «end» = end_of image t base o } in
           literal_range w v ≡ end_checked w v
-      go (O.Some u) g = ended_range_lem w (usb_of image t base r.start) (usb_of image t base u) (starts false h)
-      go O.None g = let z : ◌≡◌ {A = ℕ} 0 1 = cc in absurd (omega arith)
+      go (Some u) g = ended_range_lem w (usb_of image t base r.start) (usb_of image t base u) (starts false h)
+      go None g = let z : ◌≡◌ {A = ℕ} 0 1 = cc in absurd (omega arith)
 
-  pub literal_open : (q : Simplified) → a ≡ false → r.«end» ≡ O.None → SimplifiedReads image t base q (to_width w (usb_of image t base r.start))
+  pub literal_open : (q : Std.Result Simplified Reason) → a ≡ false → r.«end» ≡ None → SimplifiedReads image t base q (to_width w (usb_of image t base r.start))
       → SimplifiedReads image t base q (literal_range w (usbr_of image t base r))
   literal_open q h g k =
-      subst (λ (o : OptionUsb). SimplifiedReads image t base q (literal_range w (record { start = usb_of image t base r.start; «end» = end_of image t base o })))
+      subst (λ (o : Std.Option Usb). SimplifiedReads image t base q (literal_range w (record { start = usb_of image t base r.start; «end» = end_of image t base o })))
       (sym g)
       (subst (SimplifiedReads image t base q) (sym (open_range w (usb_of image t base r.start) p.start (starts false h))) k)
 
 -- ---- 28
 
-abbrev sink : D.Usbr → Bool → Result D.Usbr
-sink v b = need b open_start >>= λ _. ok v
+or_comm : (x y : Bool) → (x || y) ≡ (y || x)
+or_comm true true = refl
+or_comm true false = refl
+or_comm false true = refl
+or_comm false false = refl
 
-module _ (image : List ℕ) (t : Tree) (base : ℕ) (r : Usbr) (x : OptionI128) (m : Measured image t base r x) where
-  pub filler_ended : (e : Usb) → r.«end» ≡ O.Some e → SimplifiedReads image t base (S.Ok r x) (filler_range (usbr_of image t base r))
-  filler_ended e p = record { is = go r.«end» p; held = m }
-    where
-      go : (o : OptionUsb) → o ≡ O.Some e → let v : D.Usbr = record { start = usb_of image t base r.start; «end» = end_of image t base o } in ok v ≡ filler_range v
-      go (O.Some u) g =
-          sym (ap (sink (record { start = usb_of image t base r.start; «end» = some (usb_of image t base u) })) (or-true (is_zero (usb_of image t base r.start))))
-      go O.None g = let z : ◌≡◌ {A = ℕ} 0 1 = cc in absurd (omega arith)
+has_end_is : (s : D.Usb) (image : List ℕ) (t : Tree) (base : ℕ) (e : Std.Option Usb) → has_end (record { start = s; «end» = end_of image t base e }) ≡ is_some e
+has_end_is s image t base (Some u) = refl
+has_end_is s image t base None = refl
 
-  module _ (b : Bool) (eb : b ≡ is_zero (usb_of image t base r.start)) where
-    pub filler_zero : b ≡ true → SimplifiedReads image t base (S.Ok r x) (filler_range (usbr_of image t base r))
-    filler_zero h = record { is = sym (ap (λ (b : Bool). sink (usbr_of image t base r) (b || has_end (usbr_of image t base r))) (sym eb ∙ h)); held = m }
+module _ (image : List ℕ) (t : Tree) (base : ℕ) (r : Usbr) (z : Bool) (ez : z ≡ is_zero (usb_of image t base r.start)) where
+  filled : (k : Bool) → (is_some r.«end» || z) ≡ k → filler_range (usbr_of image t base r) ≡ (need k open_start >>= λ _. ok (usbr_of image t base r))
+  filled k h =
+      let v = usbr_of image t base r in
+      ap (λ (b : Bool). need b open_start >>= λ _. ok v)
+      (or_comm (is_zero v.start) (has_end v)
+      ∙ ap (λ (b : Bool). b || is_zero v.start) (has_end_is v.start image t base r.«end») ∙ ap (λ (b : Bool). is_some r.«end» || b) (sym ez) ∙ h)
 
-    pub filler_open : b ≡ false → r.«end» ≡ O.None → SimplifiedReads image t base (S.Refused 28) (filler_range (usbr_of image t base r))
-    filler_open h p =
-        record {
-          is = sym (ap (λ (b : Bool). sink (usbr_of image t base r) (b || has_end (usbr_of image t base r))) (sym eb ∙ h)
-              ∙ ap (λ (o : OptionUsb). sink (usbr_of image t base r) (has_end (record { start = usb_of image t base r.start; «end» = end_of image t base o }))) p);
-          held = tt;
-        }
+  pub filler_passed : (is_some r.«end» || z) ≡ true → (x : Std.Option I128) → Measured image t base r x
+      → SimplifiedReads image t base (Ok (record { range = r; width = x })) (filler_range (usbr_of image t base r))
+  filler_passed h x m = record { is = sym (filled true h); held = m }
+
+  pub filler_open : (is_some r.«end» || z) ≡ false → SimplifiedReads image t base (Err Reasons.OpenStart) (filler_range (usbr_of image t base r))
+  filler_open h = record { is = sym (filled false h); held = tt }

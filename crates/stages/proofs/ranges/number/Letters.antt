@@ -1,14 +1,14 @@
--- A text that begins above `9` is no number: no sign, no `0` before a radix, and no decimal digit. A text within the image is a part of it.
+-- A text that begins above `9` is no number: no sign, no `0` before a radix, and no decimal digit.
 use Rattle.std.specs.Prelude.{◌+◌, ◌*◌, ◌-◌, ◌∷◌, if◌then◌else◌}
 use mathlib.Core.Bool.{and-false}
-use Rattle.std.proofs.Common.{◌≡◌, ◌<◌, ◌≤◌, refl, ap, ◌∙◌, arith, length-drop, le-ltb, ne_eqb}
+use Rattle.std.proofs.Common.{◌≡◌, ◌<◌, ◌≤◌, refl, ap, ◌∙◌, arith, le-ltb, ne_eqb}
 use borrow.Author.Tests.{lt-leb}
-use Rattle.definition.specs.Prelude.{ℕ, zero, suc, Bool, true, false, Option, none, some, List, []}
+use Rattle.definition.specs.Prelude.{ℕ, zero, suc, Bool, true, false, Option, none, some, List}
 use Rattle.definition.specs.Prelude.{length, get_or, take, drop, leb, ltb, eqb}
 use Rattle.definition.specs.Basics.{within}
 use Rattle.definition.specs.Numbers.{digit_worth, digit_in, digits_from, inner, unsigned_parse, try_parse}
 use Rattle.definition.specs.Image.{padded, bytes_at}
-use Rattle.stages.proofs.token_tree.Same.{first_on}
+use Rattle.stages.proofs.token_tree.Same.{first_on, whole_at}
 
 -- the worth of a byte above `9`, and a decimal digit's
 worth_above : (b : ℕ) → 57 < b → digit_worth b ≡ (if within 97 102 b then some (10 + (b - 97)) else if within 65 70 b then some (10 + (b - 65)) else none)
@@ -38,18 +38,10 @@ not_number b rest h =
     let nought : eqb b 48 ≡ false = ne_eqb b 48 (λ q. let z : ◌≡◌ {A = ℕ} b 48 = q in omega (arith, z)) in
     rw (minus, nought, and-false (ltb 2 (suc (length rest))), plus, no_digits b rest h)
 
-whole : (n : ℕ) (s : List ℕ) → n ≤ length s → padded n s ≡ take n s
-unfolding padded
-whole zero s h = refl
-whole (suc n) [] h = absurd (omega arith)
-whole (suc n) (b ∷ s) h = ap (λ (r : List ℕ). b ∷ r) (whole n s (omega arith))
-
 module _ (image : List ℕ) (p : ℕ) where
   pub number_above : (len : ℕ) → 1 ≤ len → 57 < get_or image p 0 → none ≡ try_parse (bytes_at image p len)
   number_above zero l h = absurd (omega arith)
   number_above (suc m) l h = rw (first_on m p image) (not_number (get_or image p 0) (padded m (drop (suc p) image)) h)
 
   pub number_whole : (len m : ℕ) → p + len ≤ length image → m ≡ len → try_parse (take m (drop p image)) ≡ try_parse (bytes_at image p len)
-  number_whole len m h e =
-      let l : len ≤ length (drop p image) = rw length-drop (omega arith) in
-      rw (e, whole len (drop p image) l)
+  number_whole len m h e = ap try_parse (whole_at image p len m h e)

@@ -1,5 +1,5 @@
 -- The text of a run of items is one part of the text; no text.
-use Rattle.std.specs.Prelude.{◌+◌}
+use Rattle.std.specs.Prelude.{Some, ◌+◌}
 use Rattle.std.proofs.Common.{◌≡◌, ◌<◌, ◌≤◌, ap, ◌∙◌, arith}
 use Rattle.definition.specs.Prelude.{ℕ, List, length, some, pos}
 use Rattle.definition.specs.Text as Text
@@ -14,7 +14,6 @@ use Rattle.stages.specs.declared.token_tree.types.Tree.{Tree}
 use Rattle.stages.specs.declared.token_tree.types.Part.{Part}
 use Rattle.stages.specs.declared.ranges.types.Usb.{Usb}
 use Rattle.stages.specs.declared.ranges.types.Usbr.{Usbr}
-use Rattle.stages.specs.declared.ranges.types.OptionUsb.TheVariants as O
 use Rattle.stages.proofs.token_tree.Places.{laid_first, laid_order}
 use Rattle.stages.proofs.token_tree.Written.{laid_part, laid_fits}
 
@@ -24,7 +23,7 @@ one_by p = record { s = p; x = record { high = 0; low = 1 } }
 
 -- a text up to the next bit
 abbrev pub bit_by : Usb → Part → Usbr
-bit_by u p = record { start = u; «end» = O.Some (one_by p) }
+bit_by u p = record { start = u; «end» = Some (one_by p) }
 
 module _ (image : List ℕ) (t : Tree) (base : ℕ) where
   -- "In a bracket without dots, text s means s up to s + 1"

@@ -1,6 +1,7 @@
 -- The scan for dots: one step, its end, and what the loop keeps.
-use Rattle.std.specs.Prelude.{◌+◌, ◌-◌, ◌∷◌, ◌++◌, if◌then◌else◌}
-use Rattle.std.proofs.Common.{◌≡◌, ◌<◌, ◌≤◌, sym, refl, ap, ◌∙◌, append_assoc, append-nil, add-one, arith, length-append, ne_eqb, eqb-true}
+use Rattle.std.specs.Prelude as Std
+use Rattle.std.specs.Prelude.{None, Ok, Err, ◌+◌, ◌-◌, ◌∷◌, ◌++◌, if◌then◌else◌}
+use Rattle.std.proofs.Common.{◌≡◌, ◌<◌, ◌≤◌, sym, refl, ap, ◌∙◌, append_assoc, add-one, arith, length-append, ne_eqb, eqb-true}
 use borrow.Author.Tests.{eqb-false}
 use Rattle.definition.specs.Prelude.{ℕ, suc, Bool, true, false, Option, none, some, List, [], length, eqb}
 use Rattle.definition.specs.Basics.{Result, ok, refused, refusal_of, ◌>>=◌}
@@ -9,18 +10,33 @@ use Rattle.definition.specs.Ranges.{Scan, find, scan_step, scan_from, scan_dots}
 use Rattle.laws.specs.Tests.{by_test}
 use Rattle.stages.specs.token_tree.Laid.{Laid, place_of}
 use Rattle.stages.specs.token_tree.Table.{skip_in, single_of, start_or}
-use Rattle.stages.specs.ranges.Dots.{refused_dots, found_by, dotted_by, undotted_by, scanned_by, ended_by, dots_of, dots_result, dots_in}
+use Rattle.stages.specs.ranges.Dots.{dots_by, found_by, dotted_by, undotted_by, scanned_by, ended_by, cut_of, dots_of, dots_in}
 use Rattle.stages.specs.declared.token_tree.types.Tree.{Tree}
+use Rattle.errors.specs.declared.reasons.Reason.{Reason}
+use Rattle.errors.specs.Refused.{reasoned}
+use Rattle.stages.specs.declared.ranges.scan.Cut.{Cut}
 use Rattle.stages.specs.declared.ranges.scan.Dots.{Dots}
+use Rattle.stages.proofs.Cases.{never}
 use Rattle.stages.proofs.token_tree.Places.{place_first, place_suc, laid_none, laid_next, laid_from}
 
 abbrev state_of : ℕ → Option (ℕ × ℕ) → Bool → Scan
 state_of d o b = record { dots = d; found = o; inclusive = b }
 
 module _ (image : List ℕ) (t : Tree) (e : ℕ) where
+  -- the definition's state before item n as the code's, and what it found
+  abbrev moved : ℕ → Result Scan → Result Dots
+  moved n r = r >>= λ st. ok (dots_of image t e n st)
+
+  abbrev cut_in : Result Dots → Result (Std.Option Cut)
+  cut_in r = r >>= λ d. ok d.cut
+
+  cut_is : (n : ℕ) (r : Result Scan) → cut_in (moved n r) ≡ (r >>= λ st. ok (cut_of image t e st.found st.inclusive))
+  cut_is n (ok st) = refl
+  cut_is n (refused q) = refl
+
   -- dots found: a second is refused
   found_is : (n k : ℕ) (o : Option (ℕ × ℕ)) (i b : Bool) (hi m : ℕ) → hi ≡ place_of image t e m
-      → found_by (dots_of image t e n (state_of 2 o i)) hi b ≡ dots_result image t e k (find (state_of 2 o i) (n - 2) m b)
+      → reasoned (found_by (dots_of image t e n (state_of 2 o i)) hi b) ≡ moved k (find (state_of 2 o i) (n - 2) m b)
   found_is n k none i b hi m q = rw q refl
   found_is n k (some f) i b hi m q = refl
 
@@ -29,68 +45,68 @@ module _ (image : List ℕ) (t : Tree) (e : ℕ) where
       by_test (eqb d 0) (λ q. rw q (ap (place_of image t e) (let z = eqb-true d 0 q in let g : n ≡ n - d = omega (arith, z) in g))) (λ q. rw q refl)
 
   dotted_is : (n d : ℕ) (o : Option (ℕ × ℕ)) (i : Bool)
-      → dotted_by (dots_of image t e n (state_of d o i)) (place_of image t e n)
-      ≡ dots_result image t e (suc n) (if eqb d 2 then refused (refusal_of 14 0 0) else ok (state_of (suc d) o i))
+      → reasoned (dotted_by (dots_of image t e n (state_of d o i)) (place_of image t e n))
+      ≡ moved (suc n) (if eqb d 2 then refused (refusal_of 14 0 0) else ok (state_of (suc d) o i))
   dotted_is n d o i =
       let s : suc n - suc d ≡ n - d = omega arith in
       by_test (eqb d 2) (λ q. rw q refl)
       (λ q. rw (q, first_is n d, add-one d, s, ne_eqb (suc d) 0 (λ z. let y : ◌≡◌ {A = ℕ} (suc d) 0 = z in omega (arith, y))) refl)
 
   -- at an item that is no dot: behind two dots it is `=` or not
-  abbrev found_at : ℕ → Scan → Bool → Dots
+  abbrev found_at : ℕ → Scan → Bool → Std.Result Dots Reason
   found_at n st b =
       if b then found_by (dots_of image t e n st) (place_of image t e (suc n)) true else found_by (dots_of image t e n st) (place_of image t e n) false
 
   abbrev find_at : ℕ → Scan → Bool → Result Scan
   find_at n st b = if b then find st (n - 2) (n + 1) true else find st (n - 2) n false
 
-  two_dots : (n d : ℕ) (o : Option (ℕ × ℕ)) (i b : Bool) → d ≡ 2 → found_at n (state_of d o i) b ≡ dots_result image t e (suc n) (find_at n (state_of d o i) b)
+  two_dots : (n d : ℕ) (o : Option (ℕ × ℕ)) (i b : Bool) → d ≡ 2 → reasoned (found_at n (state_of d o i) b) ≡ moved (suc n) (find_at n (state_of d o i) b)
   two_dots n d o i true q = rw q (found_is n (suc n) o i true (place_of image t e (suc n)) (n + 1) (ap (place_of image t e) (sym (add-one n))))
   two_dots n d o i false q = rw q (found_is n (suc n) o i false (place_of image t e n) n refl)
 
   undotted_is : (n d : ℕ) (o : Option (ℕ × ℕ)) (i b : Bool)
-      → (if eqb d 2 then found_at n (state_of d o i) b else undotted_by (dots_of image t e n (state_of d o i)))
-      ≡ dots_result image t e (suc n) (if eqb d 2 then find_at n (state_of d o i) b else ok (state_of 0 o i))
+      → reasoned (if eqb d 2 then found_at n (state_of d o i) b else Ok (undotted_by (dots_of image t e n (state_of d o i))))
+      ≡ moved (suc n) (if eqb d 2 then find_at n (state_of d o i) b else ok (state_of 0 o i))
   undotted_is n d o i b = by_test (eqb d 2) (λ q. rw q (two_dots n d o i b (eqb-true d 2 q))) (λ q. rw q refl)
 
   -- one step is the definition's
   step_of : (n d : ℕ) (o : Option (ℕ × ℕ)) (i : Bool) (item : Item) (b : ℕ) → is_token 46 item ≡ eqb b 46 → is_token 61 item ≡ eqb b 61
-      → scanned_by (dots_of image t e n (state_of d o i)) (place_of image t e n) (place_of image t e (suc n)) b
-      ≡ dots_result image t e (suc n) (scan_step n item (state_of d o i))
+      → reasoned (scanned_by (dots_of image t e n (state_of d o i)) (place_of image t e n) (place_of image t e (suc n)) b)
+      ≡ moved (suc n) (scan_step n item (state_of d o i))
   step_of n d o i item b f g = rw (f, g) (by_test (eqb b 46) (λ q. rw q (dotted_is n d o i)) (λ q. rw q (undotted_is n d o i (eqb b 61))))
 
   step_is : (n : ℕ) (st : Scan) (item : Item) (b : ℕ) → is_token 46 item ≡ eqb b 46 → is_token 61 item ≡ eqb b 61
-      → scanned_by (dots_of image t e n st) (place_of image t e n) (place_of image t e (suc n)) b ≡ dots_result image t e (suc n) (scan_step n item st)
+      → reasoned (scanned_by (dots_of image t e n st) (place_of image t e n) (place_of image t e (suc n)) b) ≡ moved (suc n) (scan_step n item st)
   step_is n st item b f g = step_of n st.dots st.found st.inclusive item b f g
 
   -- and so is the end
-  end_is : (n : ℕ) (st : Scan) (stop : ℕ) → stop ≡ place_of image t e n → ended_by (dots_of image t e n st) stop ≡ dots_result image t e n (scan_from n [] st)
+  end_is : (n : ℕ) (st : Scan) (stop : ℕ) → stop ≡ place_of image t e n → reasoned (ended_by (dots_of image t e n st) stop) ≡ moved n (scan_from n [] st)
   unfolding scan_from
   end_is n st stop q =
       by_test (eqb st.dots 2) (λ h. rw h (go st.dots st.found st.inclusive (eqb-true st.dots 2 h))) (λ h. rw h refl)
     where
       go : (d : ℕ) (o : Option (ℕ × ℕ)) (i : Bool) → d ≡ 2
-          → found_by (dots_of image t e n (state_of d o i)) stop false ≡ dots_result image t e n (find (state_of d o i) (n - 2) n false)
+          → reasoned (found_by (dots_of image t e n (state_of d o i)) stop false) ≡ moved n (find (state_of d o i) (n - 2) n false)
       go d o i z = rw z (found_is n n o i false stop n q)
 
--- a refusal of a step has a number that is not 0, and its dots are two at most
-abbrev Numbered : Result Scan → Type 0
-Numbered (ok st) = st.dots ≤ 2
-Numbered (refused q) = 0 < q.number
+-- the dots before an item are two at most
+abbrev Few : Result Scan → Type 0
+Few (ok st) = st.dots ≤ 2
+Few (refused q) = Unit
 
-find_numbered : (st : Scan) (lo hi : ℕ) (b : Bool) → Numbered (find st lo hi b)
-find_numbered st lo hi b = go st.found
+find_few : (st : Scan) (lo hi : ℕ) (b : Bool) → Few (find st lo hi b)
+find_few st lo hi b = go st.found
   where
-    go : (o : Option (ℕ × ℕ)) → Numbered (elim o [ none ↦ ok (state_of 0 (some (lo, hi)) b) | some f ↦ refused (refusal_of 13 0 0) ])
+    go : (o : Option (ℕ × ℕ)) → Few (elim o [ none ↦ ok (state_of 0 (some (lo, hi)) b) | some f ↦ refused (refusal_of 13 0 0) ])
     go none = omega arith
-    go (some f) = omega arith
+    go (some f) = tt
 
-step_numbered : (n : ℕ) (i : Item) (st : Scan) → st.dots ≤ 2 → Numbered (scan_step n i st)
-step_numbered n i st few =
+step_few : (n : ℕ) (i : Item) (st : Scan) → st.dots ≤ 2 → Few (scan_step n i st)
+step_few n i st few =
     by_test (is_token 46 i)
-    (λ q. rw q (by_test (eqb st.dots 2) (λ h. rw h (omega arith)) (λ h. rw h (let z = eqb-false st.dots 2 h in omega (arith, z, few)))))
+    (λ q. rw q (by_test (eqb st.dots 2) (λ h. rw h tt) (λ h. rw h (let z = eqb-false st.dots 2 h in omega (arith, z, few)))))
     (λ q. rw q (by_test (eqb st.dots 2)
-    (λ h. rw h (by_test (is_token 61 i) (λ k. rw k (find_numbered st (n - 2) (n + 1) true)) (λ k. rw k (find_numbered st (n - 2) n false))))
+    (λ h. rw h (by_test (is_token 61 i) (λ k. rw k (find_few st (n - 2) (n + 1) true)) (λ k. rw k (find_few st (n - 2) n false))))
     (λ h. rw h (omega arith))))
 
 -- ---- what the loop keeps
@@ -107,7 +123,7 @@ module _ (image : List ℕ) (t : Tree) (base stop tail e : ℕ) where
     pub few : st.dots ≤ 2
     pub result : scan_dots is ≡ scan_from (length passed) rest st
 
-  pub scanning_start : (s u : ℕ) (is : List Item) (d : Dots) → d ≡ refused_dots 0 → u ≡ start_or image t e stop tail → Laid image t base stop tail e s is
+  pub scanning_start : (s u : ℕ) (is : List Item) (d : Dots) → d ≡ dots_by 0 0 None → u ≡ start_or image t e stop tail → Laid image t base stop tail e s is
       → Scanning is d e u
   scanning_start s u is d p q h =
       record {
@@ -122,64 +138,59 @@ module _ (image : List ℕ) (t : Tree) (base stop tail e : ℕ) where
         result = refl;
       }
 
-  pub scanning_few : (is : List Item) (d : Dots) (at s : ℕ) → Scanning is d at s → d.dots ≤ 2
-  scanning_few is d at s h = let k : d.dots ≡ h.st.dots = ap (λ (x : Dots). x.dots) h.state in omega (arith, k, h.few)
-
   -- at the end of the run
-  pub scanning_end : (is : List Item) (d : Dots) (at s : ℕ) → Scanning is d at s → stop ≤ at → ended_by d stop ≡ dots_in image t e is
-  scanning_end is d at s h l =
-      let (z, q) = laid_none image t base stop tail at s h.rest l h.laid in
-      let p : is ≡ h.passed = h.parts ∙ ap (λ r. h.passed ++ r) z ∙ append-nil h.passed in
-      ap (λ x. ended_by x stop) h.state
-      ∙ end_is image t e (length h.passed) h.st stop (sym q ∙ h.here)
-      ∙ ap (dots_result image t e (length h.passed)) (ap (λ r. scan_from (length h.passed) r h.st) (sym z) ∙ sym h.result)
-      ∙ ap {A = List Item} (λ l. dots_result image t e (length l) (scan_dots is)) (sym p)
+  pub scanning_end : (is : List Item) (d : Dots) (at s : ℕ) (q : Std.Result Dots Reason) → Scanning is d at s → stop ≤ at → q ≡ ended_by d stop
+      → cut_in image t e (reasoned q) ≡ dots_in image t e is
+  scanning_end is d at s q h l eq =
+      let (z, k) = laid_none image t base stop tail at s h.rest l h.laid in
+      let n : ℕ = length h.passed in
+      ap (λ x. cut_in image t e (reasoned x)) (eq ∙ ap (λ x. ended_by x stop) h.state)
+      ∙ ap (cut_in image t e) (end_is image t e n h.st stop (sym k ∙ h.here)
+      ∙ ap (moved image t e n) (ap (λ r. scan_from n r h.st) (sym z) ∙ sym h.result))
+      ∙ cut_is image t e n (scan_dots is)
 
   scan_cons : (n : ℕ) (i : Item) (rest : List Item) (st : Scan) → scan_from n (i ∷ rest) st ≡ (scan_step n i st >>= scan_from (suc n) rest)
   unfolding scan_from
   scan_cons n i rest st = refl
 
   -- after one item: the scan goes on, or has ended with a refusal
-  pub record After (is : List Item) (d : Dots) (at s : ℕ) : Type 0 where
-    pub on : d.number ≡ 0 → Scanning is d at s
-    pub off : (d.number ≡ 0 → ⊥) → d ≡ dots_in image t e is
+  abbrev pub After : List Item → Std.Result Dots Reason → ℕ → ℕ → Type 0
+  After is (Ok d) at s = Scanning is d at s
+  After is (Err r) at s = reasoned {A = Std.Option Cut} (Err r) ≡ dots_in image t e is
 
-  go_on : (is passed : List Item) (i : Item) (rest : List Item) (at s : ℕ) (d : Dots) (r : Result Scan)
+  go_on : (is passed : List Item) (i : Item) (rest : List Item) (at s : ℕ) (q : Std.Result Dots Reason) (r : Result Scan)
       → is ≡ passed ++ (i ∷ rest) → at ≡ place_of image t e (suc (length passed)) → Laid image t base stop tail at s rest
-      → scan_dots is ≡ (r >>= scan_from (suc (length passed)) rest) → d ≡ dots_result image t e (suc (length passed)) r → Numbered r → After is d at s
-  go_on is passed i rest at s d (refused v) p h l q f g =
-      record {
-        on = λ z. absurd (let y : v.number ≡ 0 = sym (ap (λ (x : Dots). x.number) f) ∙ z in omega (arith, y, g));
-        off = λ z. f ∙ sym (ap (dots_result image t e (length is)) q);
-      }
-  go_on is passed i rest at s d (ok st') p h l q f g =
+      → scan_dots is ≡ (r >>= scan_from (suc (length passed)) rest) → reasoned q ≡ moved image t e (suc (length passed)) r → Few r → After is q at s
+  go_on is passed i rest at s (Err v) (refused w) p h l k f g =
+      ap (cut_in image t e) f ∙ ap (λ (m : Result Scan). m >>= λ st. ok (cut_of image t e st.found st.inclusive)) (sym k)
+  go_on is passed i rest at s (Err v) (ok st) p h l k f g = never f
+  go_on is passed i rest at s (Ok d) (refused w) p h l k f g = never (sym f)
+  go_on is passed i rest at s (Ok d) (ok st) p h l k f g =
       let n : length (passed ++ (i ∷ [])) ≡ suc (length passed) = length-append passed (i ∷ []) ∙ add-one (length passed) in
+      let same : d ≡ dots_of image t e (suc (length passed)) st = cc in
       record {
-        on = λ z. record {
-          passed = passed ++ (i ∷ []);
-          rest = rest;
-          st = st';
-          parts = p ∙ sym (append_assoc passed (i ∷ []) rest);
-          here = rw n h;
-          laid = l;
-          state = rw n f;
-          few = g;
-          result = rw n q;
-        };
-        off = λ z. absurd (z (ap (λ (x : Dots). x.number) f));
+        passed = passed ++ (i ∷ []);
+        rest = rest;
+        st = st;
+        parts = p ∙ sym (append_assoc passed (i ∷ []) rest);
+        here = rw n h;
+        laid = l;
+        state = rw n same;
+        few = g;
+        result = rw n k;
       }
 
-  pub scanning_next : (is : List Item) (d d' : Dots) (at next s u b : ℕ) → Scanning is d at s → at < stop → next ≡ at + skip_in image t at
-      → u ≡ start_or image t next stop tail → b ≡ single_of image (t.text + s) (u - s) → d' ≡ scanned_by d at next b → After is d' next u
-  scanning_next is d d' at next s u b h l en et eb ed =
+  pub scanning_next : (is : List Item) (d : Dots) (q : Std.Result Dots Reason) (at next s u b : ℕ) → Scanning is d at s → at < stop → next ≡ at + skip_in image t at
+      → u ≡ start_or image t next stop tail → b ≡ single_of image (t.text + s) (u - s) → q ≡ scanned_by d at next b → After is q next u
+  scanning_next is d q at next s u b h l en et eb eq =
       let f = laid_next image t base stop tail at s next u h.rest l en et h.laid in
       let i : Item = f.item in
       let n : ℕ = length h.passed in
       let pl : at ≡ place_of image t e n = h.here in
       let pn : next ≡ place_of image t e (suc n) = en ∙ ap (λ (x : ℕ). x + skip_in image t x) pl ∙ sym (place_suc image t e n) in
-      go_on is h.passed i f.rest next u d' (scan_step n i h.st) (h.parts ∙ ap (λ r. h.passed ++ r) f.parts) pn f.laid
+      go_on is h.passed i f.rest next u q (scan_step n i h.st) (h.parts ∙ ap (λ r. h.passed ++ r) f.parts) pn f.laid
       (h.result ∙ ap (λ r. scan_from n r h.st) f.parts ∙ scan_cons n i f.rest h.st)
-      (ed ∙ ap (λ x. scanned_by x at next b) h.state ∙ ap (λ x. scanned_by (dots_of image t e n h.st) x next b) pl
-      ∙ ap (λ x. scanned_by (dots_of image t e n h.st) (place_of image t e n) x b) pn
+      (ap reasoned (eq ∙ ap (λ x. scanned_by x at next b) h.state ∙ ap (λ x. scanned_by (dots_of image t e n h.st) x next b) pl
+      ∙ ap (λ x. scanned_by (dots_of image t e n h.st) (place_of image t e n) x b) pn)
       ∙ step_is image t e n h.st i b (f.token 46 b (omega arith) eb) (f.token 61 b (omega arith) eb))
-      (step_numbered n i h.st h.few)
+      (step_few n i h.st h.few)

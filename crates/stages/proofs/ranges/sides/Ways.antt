@@ -1,7 +1,9 @@
 -- The two sides of a bound's sign: one law for each way through the code.
-use Rattle.std.specs.Prelude.{◌+◌, ◌^◌, if◌then◌else◌}
-use Rattle.std.proofs.Common.{◌≡◌, ◌<◌, ◌≤◌, sym, refl, ap, ◌∙◌, subst, arith}
-use Rattle.definition.specs.Prelude.{ℕ, Bool, true, false, Option, none, some, List, eqb, get_or, ℤ, pos}
+use Rattle.std.specs.Prelude as Std
+use Rattle.std.specs.Prelude.{Some, None, Ok, ◌+◌, ◌^◌, if◌then◌else◌}
+use Rattle.errors.specs.declared.reasons.Reason.{Reason}
+use Rattle.std.proofs.Common.{◌≡◌, ◌<◌, ◌≤◌, sym, ap, ◌∙◌, subst, arith}
+use Rattle.definition.specs.Prelude.{ℕ, Bool, Option, none, some, List, eqb, get_or, ℤ, pos}
 use Rattle.definition.specs.Basics.{Result, ok}
 use Rattle.definition.specs.Numbers.{narrow}
 use Rattle.definition.specs.Refusals.{bound_overflow}
@@ -10,25 +12,21 @@ use Rattle.definition.specs.Ranges as Ranges
 use Rattle.definition.specs.Ranges.{number_in, side}
 use Rattle.numbers.specs.Value.{value_of, option_of}
 use Rattle.numbers.specs.declared.I128.{I128}
-use Rattle.numbers.specs.declared.OptionI128.{OptionI128}
-use Rattle.numbers.specs.declared.OptionI128.TheVariants as I
 use Rattle.stages.specs.token_tree.Parts.{no_part, part_by, part_of, PartFits}
 use Rattle.stages.specs.ranges.Values.{zero_i, new_by, UsbReads}
 use Rattle.stages.specs.ranges.Sides.{bound_of, summed, moved_by, text_kept, join_parts, text_in, sides_in, Between}
 use Rattle.stages.specs.declared.token_tree.types.Part.{Part}
 use Rattle.stages.specs.declared.token_tree.types.Tree.{Tree}
 use Rattle.stages.specs.declared.ranges.types.Usb.{Usb}
-use Rattle.stages.specs.declared.ranges.types.UsbResult.{UsbResult}
-use Rattle.stages.specs.declared.ranges.types.UsbResult.TheVariants as U
 use Rattle.stages.proofs.token_tree.Written.{no_text_is, none_fits}
 use Rattle.stages.proofs.ranges.Bounds.{zero_value}
 use Rattle.stages.proofs.ranges.sides.Texts.{part_fits}
 
 -- the number of a side that was read
-number_is : (q : OptionI128) (v : I128) {m : Option ℤ} → option_of q ≡ m → q ≡ I.Some v → m ≡ some (value_of v)
+number_is : (q : Std.Option I128) (v : I128) {m : Option ℤ} → option_of q ≡ m → q ≡ Some v → m ≡ some (value_of v)
 number_is q v e h = sym e ∙ ap option_of h
 
-number_none : (q : OptionI128) {m : Option ℤ} → option_of q ≡ m → q ≡ I.None → m ≡ none
+number_none : (q : Std.Option I128) {m : Option ℤ} → option_of q ≡ m → q ≡ None → m ≡ none
 number_none q e h = sym e ∙ ap option_of h
 
 -- the definition's ways
@@ -41,9 +39,6 @@ side_text p e = rw (e, side)
 bound_is : (a b : Text.Part) (o : Option ℤ) (z : ℤ) → a ≡ b → o ≡ narrow z → bound_of a o ≡ Ranges.with_x bound_overflow b z
 bound_is a b o z p q = rw (p, q)
 
-kept_some : (original before kept : Text.Part) (l : ℤ) → number_in before ≡ some l → ok (Ranges.text kept l) ≡ text_kept original before kept
-kept_some original before kept l e = rw (e, text_kept)
-
 kept_none : (original before kept : Text.Part) → number_in before ≡ none → ok (Ranges.text original (pos 0)) ≡ text_kept original before kept
 kept_none original before kept e = rw (e, text_kept)
 
@@ -54,47 +49,26 @@ module _ (original before after kept : Text.Part) (negative : Bool) where
   join_kept : number_in after ≡ none → text_kept original before kept ≡ join_parts original before after kept negative
   join_kept e = rw (e, join_parts)
 
--- where the kept text starts
-module _ (p from : ℕ) (negative : Bool) where
-  pub from_minus : negative ≡ true → from ≡ p → from ≡ (if negative then p else p + 1)
-  from_minus n e = rw n e
-
-  pub from_plus : negative ≡ false → from ≡ p + 1 → from ≡ (if negative then p else p + 1)
-  from_plus n e = rw n e
-
-pub kept_from : (p e : ℕ) (negative : Bool) (from : ℕ) → p < e → from ≡ (if negative then p else p + 1) → from ≤ e
-kept_from p e true from l q = omega (arith, l, q)
-kept_from p e false from l q = omega (arith, l, q)
-
 module _ (image : List ℕ) (t : Tree) (base : ℕ) where
   -- an answer that holds a text and a number
   pub made : (s : Part) (x : I128) {m : Result Ranges.Usb} → PartFits image t base s → x.low < 2 ^ 64 → x.high < 2 ^ 64
-      → ok (Ranges.text (part_of image t base s) (value_of x)) ≡ m → UsbReads image t base (U.Ok (record { s = s; x = x })) m
+      → ok (Ranges.text (part_of image t base s) (value_of x)) ≡ m → UsbReads image t base (Ok (record { s = s; x = x })) m
   made s x f l h e = record { is = e; held = record { part = f; low = l; high = h } }
 
   pub made_new : (s : Part) (u : Usb) {m : Result Ranges.Usb} → u ≡ new_by s → PartFits image t base s
-      → ok (Ranges.text (part_of image t base s) (pos 0)) ≡ m → UsbReads image t base (U.Ok u) m
+      → ok (Ranges.text (part_of image t base s) (pos 0)) ≡ m → UsbReads image t base (Ok u) m
   made_new s u {m} q f e =
       rw q (made s zero_i f (omega arith) (omega arith) (ap (λ z. ok (Ranges.text (part_of image t base s) z)) zero_value ∙ e))
 
-  -- ---- with_x
-
-  pub with_some : (s : Part) (n : OptionI128) (x : I128) → n ≡ I.Some x → x.low < 2 ^ 64 → x.high < 2 ^ 64 → PartFits image t base s
-      → UsbReads image t base (U.Ok (record { s = s; x = x })) (bound_of (part_of image t base s) (option_of n))
-  with_some s n x e l h f = made s x f l h (rw e)
-
-  pub with_none : (s : Part) (n : OptionI128) → n ≡ I.None → UsbReads image t base (U.Refused 16) (bound_of (part_of image t base s) (option_of n))
-  with_none s n e = record { is = rw e; held = tt }
-
   -- ---- number_right: the left side a number, or a text
 
-  module _ (q : UsbResult) (part : Part) (s p : ℕ) (l j : OptionI128) (negative : Bool) (r : I128) (b : Between image t base s p)
+  module _ (q : Std.Result Usb Reason) (part : Part) (s p : ℕ) (l j : Std.Option I128) (negative : Bool) (r : I128) (b : Between image t base s p)
       (e : option_of l ≡ number_in (text_in image t base s p))
       (w : PartFits image t base part → UsbReads image t base q (bound_of (part_of image t base part) (option_of j))) where
     abbrev moved : Result Ranges.Usb
     moved = moved_by (side (text_in image t base s p)) negative (value_of r)
 
-    pub right_number : (x : I128) → l ≡ I.Some x → part ≡ no_part → option_of j ≡ narrow (summed negative (value_of x) (value_of r)) → UsbReads image t base q moved
+    pub right_number : (x : I128) → l ≡ Some x → part ≡ no_part → option_of j ≡ narrow (summed negative (value_of x) (value_of r)) → UsbReads image t base q moved
     right_number x h g k =
         let f : PartFits image t base part = rw g (none_fits image t base (let m = b.room in omega (arith, m))) in
         subst (λ m. UsbReads image t base q m)
@@ -102,7 +76,7 @@ module _ (image : List ℕ) (t : Tree) (base : ℕ) where
         (ap (part_of image t base) g ∙ no_text_is image t base) k
         ∙ ap (λ u. moved_by u negative (value_of r)) (sym (side_number (text_in image t base s p) (value_of x) (number_is l x e h)))) (w f)
 
-    pub right_text : (x : I128) → l ≡ I.None → part ≡ part_by s p → x ≡ zero_i
+    pub right_text : (x : I128) → l ≡ None → part ≡ part_by s p → x ≡ zero_i
         → option_of j ≡ narrow (summed negative (value_of x) (value_of r)) → UsbReads image t base q moved
     right_text x h g z k =
         let f : PartFits image t base part = rw g (part_fits image t base s p b) in
@@ -113,36 +87,19 @@ module _ (image : List ℕ) (t : Tree) (base : ℕ) where
 
   -- ---- text_right
 
-  module _ (s p e : ℕ) (l : OptionI128) (negative : Bool) (b : Between image t base s e) (o : s ≤ p) (below : p < e)
+  module _ (s p e : ℕ) (l : Std.Option I128) (negative : Bool) (b : Between image t base s e) (o : s ≤ p) (below : p < e)
       (n : option_of l ≡ number_in (text_in image t base s p)) where
     abbrev kept : Text.Part
     kept = if negative then text_in image t base p e else text_in image t base (p + 1) e
 
-    pub kept_number : (part : Part) (x : I128) (from : ℕ) → l ≡ I.Some x → x.low < 2 ^ 64 → x.high < 2 ^ 64
-        → from ≡ (if negative then p else p + 1) → part ≡ part_by from e
-        → UsbReads image t base (U.Ok (record { s = part; x = x })) (text_kept (text_in image t base s e) (text_in image t base s p) kept)
-    kept_number part x from h low high g d =
-        made part x (rw d (part_fits image t base from e (within negative g))) low high
-        (ap (λ y. ok (Ranges.text (part_of image t base y) (value_of x))) (d ∙ ap (λ y. part_by y e) g) ∙ same negative
-        ∙ kept_some (text_in image t base s e) (text_in image t base s p) kept (value_of x) (number_is l x n h))
-      where
-        within : (m : Bool) → from ≡ (if m then p else p + 1) → Between image t base from e
-        within true q = let a = b.above in record { above = omega (arith, a, o, q); order = omega (arith, below, q); room = b.room }
-        within false q = let a = b.above in record { above = omega (arith, a, o, q); order = omega (arith, below, q); room = b.room }
-
-        same : (m : Bool) → ok (Ranges.text (text_in image t base (if m then p else p + 1) e) (value_of x))
-            ≡ ok (Ranges.text (if m then text_in image t base p e else text_in image t base (p + 1) e) (value_of x))
-        same true = refl
-        same false = refl
-
-    pub kept_whole : (part : Part) (u : Usb) → l ≡ I.None → part ≡ part_by s e → u ≡ new_by part
-        → UsbReads image t base (U.Ok u) (text_kept (text_in image t base s e) (text_in image t base s p) kept)
+    pub kept_whole : (part : Part) (u : Usb) → l ≡ None → part ≡ part_by s e → u ≡ new_by part
+        → UsbReads image t base (Ok u) (text_kept (text_in image t base s e) (text_in image t base s p) kept)
     kept_whole part u h g d = made_new part u d (rw g (part_fits image t base s e b))
         (ap (λ y. ok (Ranges.text (part_of image t base y) (pos 0))) g ∙ kept_none (text_in image t base s e) (text_in image t base s p) kept (number_none l n h))
 
   -- ---- sides
 
-  module _ (q : UsbResult) (s p e b : ℕ) (r : OptionI128) (eb : b ≡ get_or image (t.text + p) 0)
+  module _ (q : Std.Result Usb Reason) (s p e b : ℕ) (r : Std.Option I128) (eb : b ≡ get_or image (t.text + p) 0)
       (n : option_of r ≡ number_in (text_in image t base (p + 1) e)) where
     abbrev kept_by : Bool → Text.Part
     kept_by negative = if negative then text_in image t base p e else text_in image t base (p + 1) e
@@ -150,14 +107,14 @@ module _ (image : List ℕ) (t : Tree) (base : ℕ) where
     abbrev minus : Bool
     minus = eqb (get_or image (t.text + p) 0) 45
 
-    pub sides_number : (x : I128) → r ≡ I.Some x → UsbReads image t base q (moved_by (side (text_in image t base s p)) (eqb b 45) (value_of x))
+    pub sides_number : (x : I128) → r ≡ Some x → UsbReads image t base q (moved_by (side (text_in image t base s p)) (eqb b 45) (value_of x))
         → UsbReads image t base q (sides_in image t base p s e)
     sides_number x h u =
         subst (λ m. UsbReads image t base q m)
         (ap (λ y. moved_by (side (text_in image t base s p)) (eqb y 45) (value_of x)) eb
         ∙ join_moved (text_in image t base s e) (text_in image t base s p) (text_in image t base (p + 1) e) (kept_by minus) minus (value_of x) (number_is r x n h)) u
 
-    pub sides_text : r ≡ I.None → UsbReads image t base q (text_kept (text_in image t base s e) (text_in image t base s p) (kept_by (eqb b 45)))
+    pub sides_text : r ≡ None → UsbReads image t base q (text_kept (text_in image t base s e) (text_in image t base s p) (kept_by (eqb b 45)))
         → UsbReads image t base q (sides_in image t base p s e)
     sides_text h u =
         subst (λ m. UsbReads image t base q m)

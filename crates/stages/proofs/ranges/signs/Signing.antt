@@ -1,6 +1,8 @@
 -- The search for the signs: one step, its end, and what the loop keeps.
-use Rattle.std.specs.Prelude.{◌+◌, ◌-◌, ◌∷◌, ◌++◌, if◌then◌else◌}
-use Rattle.std.proofs.Common.{◌≡◌, ◌<◌, ◌≤◌, ◌⊎◌, sym, refl, ap, ◌∙◌, subst, inl, inr, append_assoc, add-one, arith, length-append, eq-eqb, ne_eqb, eqb-true}
+use Rattle.std.specs.Prelude as Std
+use Rattle.std.specs.Prelude.{Some, None, ◌+◌, ◌-◌, ◌∷◌, ◌++◌, if◌then◌else◌}
+use Rattle.std.specs.Option.{option_or}
+use Rattle.std.proofs.Common.{◌≡◌, ◌<◌, ◌≤◌, sym, refl, ap, ◌∙◌, subst, append_assoc, add-one, arith, length-append, eq-eqb, ne_eqb, eqb-true}
 use borrow.Author.Tests.{not-true}
 use Rattle.definition.specs.Prelude.{ℕ, suc, Bool, true, false, not, Option, none, some, List, [], length, eqb}
 use Rattle.definition.specs.Basics.{same_bytes}
@@ -9,17 +11,35 @@ use Rattle.definition.specs.Ranges.{Cut, cut_last, cut_pair, cut_bound, or_else}
 use Rattle.laws.specs.Tests.{by_test, and_iff}
 use Rattle.stages.specs.token_tree.Laid.{Stands, Laid, place_of}
 use Rattle.stages.specs.token_tree.Table.{skip_in, single_of, start_or}
-use Rattle.stages.specs.ranges.Signs.{paired_by, signs_by, signed_by, cut_of, cut_place, signs_in}
+use Rattle.stages.specs.ranges.Signs.{record_at, paired_by, signed_by, cut_place, signs_in}
 use Rattle.stages.specs.declared.token_tree.types.Tree.{Tree}
+use Rattle.stages.specs.declared.token_tree.types.PBind.{PBind}
 use Rattle.stages.specs.declared.ranges.signs.Signs.{Signs}
-use Rattle.stages.proofs.token_tree.Places.{place_above, place_first, place_suc, laid_order, laid_none, laid_next, laid_from}
+use Rattle.stages.proofs.token_tree.Places.{place_first, place_suc, laid_none, laid_next, laid_from}
 use Rattle.stages.proofs.ranges.signs.Cuts.{ahead, ahead_none, or_none, resume, Fresh, cut_here, last_step, pair_step, last_done, pair_done}
+
+-- a minus before a place, and one that does not stand just before it
+abbrev Low : Std.Option PBind → ℕ → Type 0
+Low None at = Unit
+Low (Some m) at = m.0 + 1 ≤ at
+
+abbrev Far : Std.Option PBind → ℕ → Type 0
+Far None at = Unit
+Far (Some m) at = m.0 + 1 ≡ at → ⊥
+
+low_far : (m : Std.Option PBind) (at next : ℕ) → at < next → Low m at → Far m next
+low_far None at next l h = tt
+low_far (Some m) at next l h = λ z. omega (arith, l, h, z)
+
+low_later : (m : Std.Option PBind) (at next : ℕ) → at < next → Low m at → Low m next
+low_later None at next l h = tt
+low_later (Some m) at next l h = omega (arith, l, h)
 
 module _ (image : List ℕ) (t : Tree) (e : ℕ) where
   -- the minus just passed, if it was one
-  abbrev PrevIs : Signs → ℕ → Option Cut → Type 0
-  PrevIs g at none = (g.minus.0 ≡ 0) ⊎ (g.minus.0 + 1 ≡ at → ⊥)
-  PrevIs g at (some c) = (g.minus.0 + 1 ≡ at) × (g.minus.0 ≡ place_of image t e (length c.before))
+  abbrev PrevIs : Std.Option PBind → ℕ → Option Cut → Type 0
+  PrevIs m at none = Far m at
+  PrevIs m at (some c) = (m ≡ Some (record_at (place_of image t e (length c.before)))) × (place_of image t e (length c.before) + 1 ≡ at)
 
 -- the last item of a kind, from what was passed and what the rest gives
 abbrev LastAt : ℕ → List Item → List Item → List Item → Option Cut → Type 0
@@ -40,11 +60,11 @@ module _ (image : List ℕ) (t : Tree) (base stop tail e : ℕ) where
     pub minus_at : LastAt 45 is passed rest minus
     pub pair_at : cut_pair is ≡ or_else pair (resume passed prev rest)
     pub fresh : Fresh passed rest prev
-    pub plus_is : g.plus.0 ≡ cut_place image t e plus
-    pub pair_is : g.pair.0 ≡ cut_place image t e pair
-    pub minus_is : g.minus.0 ≡ cut_place image t e minus
-    pub prev_is : PrevIs image t e g at prev
-    pub low : g.minus.0 + 1 ≤ at
+    pub plus_is : g.plus ≡ cut_place image t e plus
+    pub pair_is : g.pair ≡ cut_place image t e pair
+    pub minus_is : g.minus ≡ cut_place image t e minus
+    pub prev_is : PrevIs image t e g.minus at prev
+    pub low : Low g.minus at
 
 first_last : (c : ℕ) (is : List Item) → cut_last (is_token c) is ≡ or_else (ahead [] (cut_last (is_token c) is)) none
 first_last c is = sym (or_none (ahead [] (cut_last (is_token c) is)) ∙ ahead_none (cut_last (is_token c) is))
@@ -54,42 +74,39 @@ token_word : (c : ℕ) (i : Item) → is_token c i ≡ true → is_group i ≡ f
 token_word c i h = not-true (is_group i) ((and_iff (not (is_group i)) (same_bytes i.part.bytes (c ∷ []))).0 h).0
 
 -- what a step does to each sign
-signed_plus : (g : Signs) (at b : ℕ) → (signed_by g at b).plus.0 ≡ (if eqb b 43 then at else g.plus.0)
+signed_plus : (g : Signs) (at b : ℕ) → (signed_by g at b).plus ≡ (if eqb b 43 then Some (record_at at) else g.plus)
 signed_plus g at b = by_test (eqb b 43) (λ q. rw q refl) (λ q. rw q (by_test (eqb b 45) (λ k. rw k refl) (λ k. rw k refl)))
 
-signed_minus : (g : Signs) (at b : ℕ) → (signed_by g at b).minus.0 ≡ (if eqb b 45 then at else g.minus.0)
+signed_minus : (g : Signs) (at b : ℕ) → (signed_by g at b).minus ≡ (if eqb b 45 then Some (record_at at) else g.minus)
 signed_minus g at b =
     by_test (eqb b 43) (λ q. rw (eqb-true b 43 q) refl) (λ q. rw q (by_test (eqb b 45) (λ k. rw k refl) (λ k. rw k refl)))
 
-signed_pair : (g : Signs) (at b : ℕ) → (signed_by g at b).pair.0 ≡ (if eqb b 45 then paired_by g.pair.0 g.minus.0 at else g.pair.0)
+signed_pair : (g : Signs) (at b : ℕ) → (signed_by g at b).pair ≡ (if eqb b 45 then paired_by g.pair g.minus at else g.pair)
 signed_pair g at b =
     by_test (eqb b 43) (λ q. rw (eqb-true b 43 q) refl) (λ q. rw q (by_test (eqb b 45) (λ k. rw k refl) (λ k. rw k refl)))
 
-module _ (image : List ℕ) (t : Tree) (e : ℕ) (above : 1 ≤ e) where
-  place_some : (n : ℕ) → eqb (place_of image t e n) 0 ≡ false
-  place_some n =
-      ne_eqb (place_of image t e n) 0 (λ q. let z : ◌≡◌ {A = ℕ} (place_of image t e n) 0 = q in let h = place_above image t e n in omega (arith, z, h, above))
-
+module _ (image : List ℕ) (t : Tree) (e : ℕ) where
   -- the pair with a minus at a place
-  pair_by : (g : Signs) (at : ℕ) (best prev : Option Cut) → g.pair.0 ≡ cut_place image t e best → PrevIs image t e g at prev
-      → paired_by g.pair.0 g.minus.0 at ≡ cut_place image t e (or_else best prev)
-  pair_by g at (some b) prev p h = rw (p, place_some (length b.before)) refl
-  pair_by g at none none p (inl z) = rw p (by_test (eqb (g.minus.0 + 1) at) (λ k. rw k z) (λ k. rw k refl))
-  pair_by g at none none p (inr h) = rw (p, ne_eqb (g.minus.0 + 1) at h) refl
-  pair_by g at none (some c) p h = rw (p, eq-eqb (g.minus.0 + 1) at h.0) h.1
+  pair_by : (pair minus : Std.Option PBind) (at : ℕ) (best prev : Option Cut) → pair ≡ cut_place image t e best → PrevIs image t e minus at prev
+      → paired_by pair minus at ≡ cut_place image t e (or_else best prev)
+  pair_by pair minus at (some b) prev p h = rw p refl
+  pair_by pair None at none none p h = rw p refl
+  pair_by pair (Some m) at none none p h = rw (p, ne_eqb (m.0 + 1) at h) refl
+  pair_by pair minus at none (some c) p h = rw (p, h.0, eq-eqb (place_of image t e (length c.before) + 1) at h.1) refl
 
   -- the cut in code is the definition's
-  pub cut_is : (is : List Item) → cut_of (signs_in image t e is) ≡ cut_place image t e (cut_bound is)
+  pub cut_is : (is : List Item)
+      → (let g = signs_in image t e is in option_or (option_or g.plus g.pair) g.minus) ≡ cut_place image t e (cut_bound is)
   cut_is is = go (cut_last (is_token 43) is) (cut_pair is) (cut_last (is_token 45) is)
     where
-      go : (a b c : Option Cut)
-          → cut_of (signs_by (cut_place image t e a) (cut_place image t e b) (cut_place image t e c)) ≡ cut_place image t e (or_else a (or_else b c))
-      go (some a) b c = rw (place_some (length a.before)) refl
-      go none (some b) c = rw (place_some (length b.before)) refl
+      go : (a b c : Option Cut) → option_or (option_or (cut_place image t e a) (cut_place image t e b)) (cut_place image t e c)
+          ≡ cut_place image t e (or_else a (or_else b c))
+      go (some a) b c = refl
+      go none (some b) c = refl
       go none none c = refl
 
-module _ (image : List ℕ) (t : Tree) (base stop tail e : ℕ) (above : 1 ≤ e) where
-  pub signing_start : (s u : ℕ) (is : List Item) (g : Signs) → g ≡ signs_by 0 0 0 → u ≡ start_or image t e stop tail
+module _ (image : List ℕ) (t : Tree) (base stop tail e : ℕ) where
+  pub signing_start : (s u : ℕ) (is : List Item) (g : Signs) → g ≡ record { plus = None; pair = None; minus = None } → u ≡ start_or image t e stop tail
       → Laid image t base stop tail e s is → Signing image t base stop tail e is g e u
   signing_start s u is g p q h =
       record {
@@ -106,15 +123,12 @@ module _ (image : List ℕ) (t : Tree) (base stop tail e : ℕ) (above : 1 ≤ e
         minus_at = first_last 45 is;
         pair_at = sym (ahead_none (cut_pair is));
         fresh = tt;
-        plus_is = ap (λ (x : Signs). x.plus.0) p;
-        pair_is = ap (λ (x : Signs). x.pair.0) p;
-        minus_is = ap (λ (x : Signs). x.minus.0) p;
-        prev_is = inl (ap (λ (x : Signs). x.minus.0) p);
-        low = let m : g.minus.0 ≡ 0 = ap (λ (x : Signs). x.minus.0) p in omega (arith, m, above);
+        plus_is = ap (λ (x : Signs). x.plus) p;
+        pair_is = ap (λ (x : Signs). x.pair) p;
+        minus_is = ap (λ (x : Signs). x.minus) p;
+        prev_is = rw p tt;
+        low = rw p tt;
       }
-
-  pub signing_low : (is : List Item) (g : Signs) (at s : ℕ) → Signing image t base stop tail e is g at s → (g.minus.0 + 1 ≤ at) × (at ≤ stop)
-  signing_low is g at s h = (h.low, (laid_order image t base stop tail at s h.rest h.laid).0)
 
   -- at the end of the run
   pub signing_end : (is : List Item) (g : Signs) (at s : ℕ) → Signing image t base stop tail e is g at s → stop ≤ at → g ≡ signs_in image t e is
@@ -125,10 +139,11 @@ module _ (image : List ℕ) (t : Tree) (base stop tail e : ℕ) (above : 1 ≤ e
       let b : cut_last (is_token 45) is ≡ h.minus = h.minus_at
       ∙ ap (λ r. or_else (ahead h.passed (cut_last (is_token 45) r)) h.minus) z ∙ last_done (is_token 45) h.passed h.minus in
       let d : cut_pair is ≡ h.pair = h.pair_at ∙ ap (λ r. or_else h.pair (resume h.passed h.prev r)) z ∙ pair_done h.passed h.pair h.prev in
-      made g.plus.0 _ g.pair.0 _ g.minus.0 _
+      made g.plus _ g.pair _ g.minus _
       (h.plus_is ∙ ap (cut_place image t e) (sym a)) (h.pair_is ∙ ap (cut_place image t e) (sym d)) (h.minus_is ∙ ap (cut_place image t e) (sym b))
     where
-      made : (a a' b b' c c' : ℕ) → a ≡ a' → b ≡ b' → c ≡ c' → signs_by a b c ≡ signs_by a' b' c'
+      made : (a a' b b' c c' : Std.Option PBind) → a ≡ a' → b ≡ b' → c ≡ c'
+          → ◌≡◌ {A = Signs} (record { plus = a; pair = b; minus = c }) (record { plus = a'; pair = b'; minus = c' })
       made a a' b b' c c' p q r = cc
 
   -- after an item: by what it is
@@ -164,43 +179,43 @@ module _ (image : List ℕ) (t : Tree) (base stop tail e : ℕ) (above : 1 ≤ e
               pair_at = h.pair_at ∙ ap (λ r. or_else h.pair (resume h.passed h.prev r)) p
                   ∙ pair_step h.passed i rest h.pair h.prev (subst (λ r. Fresh h.passed r h.prev) p h.fresh) (is_token 45 i) refl;
               fresh = fresh_by (is_token 45 i) refl;
-              plus_is = ap (λ (x : Signs). x.plus.0) eg ∙ signed_plus g at b
-                  ∙ ap (λ m. if m then at else g.plus.0) (sym pt) ∙ last_by (is_token 43 i) g.plus.0 h.plus h.plus_is;
-              pair_is = ap (λ (x : Signs). x.pair.0) eg ∙ signed_pair g at b
-                  ∙ ap (λ m. if m then paired_by g.pair.0 g.minus.0 at else g.pair.0) (sym mt) ∙ pair_both (is_token 45 i);
-              minus_is = minus_now ∙ last_by (is_token 45 i) g.minus.0 h.minus h.minus_is;
+              plus_is = ap (λ (x : Signs). x.plus) eg ∙ signed_plus g at b
+                  ∙ ap (λ m. if m then Some (record_at at) else g.plus) (sym pt) ∙ last_by (is_token 43 i) g.plus h.plus h.plus_is;
+              pair_is = ap (λ (x : Signs). x.pair) eg ∙ signed_pair g at b
+                  ∙ ap (λ m. if m then paired_by g.pair g.minus at else g.pair) (sym mt) ∙ pair_both (is_token 45 i);
+              minus_is = minus_now ∙ last_by (is_token 45 i) g.minus h.minus h.minus_is;
               prev_is = prev_by (is_token 45 i) refl;
               low = low_by (is_token 45 i) minus_now;
             }
           where
-            minus_now : g'.minus.0 ≡ (if is_token 45 i then at else g.minus.0)
-            minus_now = ap (λ (x : Signs). x.minus.0) eg ∙ signed_minus g at b ∙ ap (λ m. if m then at else g.minus.0) (sym mt)
+            minus_now : g'.minus ≡ (if is_token 45 i then Some (record_at at) else g.minus)
+            minus_now = ap (λ (x : Signs). x.minus) eg ∙ signed_minus g at b ∙ ap (λ m. if m then Some (record_at at) else g.minus) (sym mt)
 
-            last_by : (m : Bool) (old : ℕ) (best : Option Cut) → old ≡ cut_place image t e best
-                → (if m then at else old) ≡ cut_place image t e (if m then some (cut_here h.passed i rest) else best)
-            last_by true old best q = h.here
+            later : at < next
+            later = let some = st.skip in omega (arith, some, en)
+
+            last_by : (m : Bool) (old : Std.Option PBind) (best : Option Cut) → old ≡ cut_place image t e best
+                → (if m then Some (record_at at) else old) ≡ cut_place image t e (if m then some (cut_here h.passed i rest) else best)
+            last_by true old best q = ap (λ n. Some (record_at n)) h.here
             last_by false old best q = q
 
             pair_both : (m : Bool)
-                → (if m then paired_by g.pair.0 g.minus.0 at else g.pair.0) ≡ cut_place image t e (or_else h.pair (if m then h.prev else none))
-            pair_both true = pair_by image t e above g at h.pair h.prev h.pair_is h.prev_is
+                → (if m then paired_by g.pair g.minus at else g.pair) ≡ cut_place image t e (or_else h.pair (if m then h.prev else none))
+            pair_both true = pair_by image t e g.pair g.minus at h.pair h.prev h.pair_is h.prev_is
             pair_both false = h.pair_is ∙ ap (cut_place image t e) (sym (or_none h.pair))
 
             fresh_by : (m : Bool) → is_token 45 i ≡ m → Fresh (h.passed ++ (i ∷ [])) rest (if m then some (cut_here h.passed i rest) else none)
             fresh_by true q = (q, refl, refl)
             fresh_by false q = tt
 
-            prev_by : (m : Bool) → is_token 45 i ≡ m → PrevIs image t e g' next (if m then some (cut_here h.passed i rest) else none)
+            prev_by : (m : Bool) → is_token 45 i ≡ m → PrevIs image t e g'.minus next (if m then some (cut_here h.passed i rest) else none)
             prev_by true q =
-                let now : g'.minus.0 ≡ at = minus_now ∙ ap (λ m. if m then at else g.minus.0) q in
                 let one = st.single (token_word 45 i q) in
-                (omega (arith, now, one, en), now ∙ h.here)
+                let here = h.here in
+                (minus_now ∙ ap (λ m. if m then Some (record_at at) else g.minus) q ∙ ap (λ n. Some (record_at n)) here, omega (arith, here, one, en))
             prev_by false q =
-                let now : g'.minus.0 ≡ g.minus.0 = minus_now ∙ ap (λ m. if m then at else g.minus.0) q in
-                let some = st.skip in
-                let low = h.low in
-                inr (λ z. omega (arith, now, some, en, z, low))
+                rw (minus_now ∙ ap (λ m. if m then Some (record_at at) else g.minus) q) (low_far g.minus at next later h.low)
 
-            low_by : (m : Bool) → g'.minus.0 ≡ (if m then at else g.minus.0) → g'.minus.0 + 1 ≤ next
-            low_by true q = let some = st.skip in omega (arith, q, some, en)
-            low_by false q = let some = st.skip in let low = h.low in omega (arith, q, some, en, low)
+            low_by : (m : Bool) → g'.minus ≡ (if m then Some (record_at at) else g.minus) → Low g'.minus next
+            low_by true q = rw q (let l = later in omega (arith, l))
+            low_by false q = rw q (low_later g.minus at next later h.low)

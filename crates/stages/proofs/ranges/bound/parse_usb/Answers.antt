@@ -1,3 +1,4 @@
+use Rattle.std.specs.Prelude.{Ok}
 use Rattle.std.proofs.Common.{arith}
 use Rattle.stages.proofs.ranges.bound.Lone.{first_ends, parse_many, parse_token, parse_other, parse_group, token_order, group_order, inner_runs}
 use Rattle.stages.proofs.ranges.bound.parse_usb.Goals as goal
@@ -24,17 +25,17 @@ token-requires c =
       w.text_fits,
     )
 
-pub returns-then-e-eq0 : goal.returns-then-e-eq0
-returns-then-e-eq0 c base s is h =
+pub returns-in-0 : goal.returns-in-0
+returns-in-0 c base s is h =
     let a = c.args in
     parse_token a.image.now a.tree base a.stop.0 a.«end».0 a.r.0 s is c.requires.0 h c.record-e.result.kind c.record-e.result.start.0 c.record-e.result.skip
-    c.record-e.ensures.0 c.record-e.ensures.1.0 c.record-e.ensures.1.1 c.if-r-e.false c.if-e-eq0.true c.token.result c.token.ensures
+    c.record-e.ensures.0 c.record-e.ensures.1.0 c.record-e.ensures.1.1 c.if-r-e.false c.in-0.is (Ok c.token.result) c.token.ensures
 
-pub returns-then-e-ne2 : goal.returns-then-e-ne2
-returns-then-e-ne2 c base s is h =
+pub returns-in_default : goal.returns-in_default
+returns-in_default c base s is h =
     let a = c.args in
     parse_other a.image.now a.tree base a.stop.0 a.«end».0 a.r.0 s is c.requires.0 h c.record-e.result.kind c.record-e.result.start.0 c.record-e.result.skip
-    c.record-e.ensures.0 c.record-e.ensures.1.0 c.record-e.ensures.1.1 c.if-r-e.false c.if-e-eq0.false c.if-e-ne2.true
+    c.record-e.ensures.0 c.record-e.ensures.1.0 c.record-e.ensures.1.1 c.if-r-e.false (λ z. omega (arith, z)) (λ z. omega (arith, z))
 
 pub overflow_add-s : goal.overflow_add-s
 overflow_add-s c =
@@ -42,7 +43,7 @@ overflow_add-s c =
     let a = c.args in
     let w = c.requires.1.1 in
     let o = group_order a.image.now a.tree w.base a.stop.0 a.«end».0 a.r.0 c.requires.1.0 w.items c.requires.0 w.laid e.result.kind
-    e.result.start.0 e.result.skip e.ensures.0 e.ensures.1.0 e.ensures.1.1 c.if-r-e.false c.if-e-ne2.false in
+    e.result.start.0 e.result.skip e.ensures.0 e.ensures.1.0 e.ensures.1.1 c.if-r-e.false c.in-2.is in
     omega (arith, o, w.text_small)
 
 pub overflow_sub-end : goal.overflow_sub-end
@@ -51,21 +52,19 @@ overflow_sub-end c =
     let a = c.args in
     let w = c.requires.1.1 in
     let o = group_order a.image.now a.tree w.base a.stop.0 a.«end».0 a.r.0 c.requires.1.0 w.items c.requires.0 w.laid e.result.kind
-    e.result.start.0 e.result.skip e.ensures.0 e.ensures.1.0 e.ensures.1.1 c.if-r-e.false c.if-e-ne2.false in
+    e.result.start.0 e.result.skip e.ensures.0 e.ensures.1.0 e.ensures.1.1 c.if-r-e.false c.in-2.is in
     omega (arith, o)
 
 pub group-requires : goal.group-requires
 group-requires c =
     let e = c.record-e in
-    let a = c.args in (
-      omega arith,
-      inner_runs a.image.now a.tree a.stop.0 a.«end».0 a.r.0 c.requires.1.0 c.requires.0 c.requires.1.1 e.result.kind
-          e.result.start.0 e.result.skip e.ensures.0 e.ensures.1.0 e.ensures.1.1 c.if-r-e.false c.if-e-ne2.false,
-    )
+    let a = c.args in
+    inner_runs a.image.now a.tree a.stop.0 a.«end».0 a.r.0 c.requires.1.0 c.requires.0 c.requires.1.1 e.result.kind
+    e.result.start.0 e.result.skip e.ensures.0 e.ensures.1.0 e.ensures.1.1 c.if-r-e.false c.in-2.is
 
-pub returns : goal.returns
-returns c base s is h =
+pub returns-in-2 : goal.returns-in-2
+returns-in-2 c base s is h =
     let e = c.record-e in
     let a = c.args in
     parse_group a.image.now a.tree base a.stop.0 a.«end».0 a.r.0 s is c.requires.0 h e.result.kind e.result.start.0 e.result.skip
-    e.ensures.0 e.ensures.1.0 e.ensures.1.1 c.if-r-e.false c.if-e-ne2.false c.group.result c.group.ensures
+    e.ensures.0 e.ensures.1.0 e.ensures.1.1 c.if-r-e.false c.in-2.is c.group.result c.group.ensures

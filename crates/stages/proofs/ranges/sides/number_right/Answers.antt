@@ -1,3 +1,4 @@
+use Rattle.std.proofs.Common.{refl}
 use Rattle.stages.proofs.ranges.sides.Ways.{right_number, right_text}
 use Rattle.stages.proofs.ranges.sides.number_right.Goals as goal
 
@@ -12,8 +13,7 @@ returns-in-Some c image t base between e =
 pub returns-in-None : goal.returns-in-None
 returns-in-None c image t base between e =
     let j = c.joined-in-None in
-    let z = c.zero in
     let p = c.part_of in
     let a = c.args in
     right_text image t base c.with_x-in-None.result p.result a.s.0 a.p.0 a.l j.result a.negative a.r between e
-    (c.with_x-in-None.ensures image t base) z.result c.in-None.is p.ensures z.ensures j.ensures
+    (c.with_x-in-None.ensures image t base) _ c.in-None.is p.ensures refl j.ensures

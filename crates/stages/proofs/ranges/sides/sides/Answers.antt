@@ -1,3 +1,4 @@
+use Rattle.std.specs.Prelude.{Ok}
 use Rattle.std.proofs.Common.{arith}
 use Rattle.stages.proofs.ranges.sides.Ways.{sides_number, sides_text}
 use Rattle.stages.proofs.ranges.sides.sides.Goals as goal
@@ -19,7 +20,7 @@ returns-in-None c base above =
     let b = c.byte_at-negative in
     let a = c.args in
     let pre = c.requires in
-    sides_text a.image.now a.tree base c.text_right.result a.s.0 a.p.0 a.t.0 b.result right.result b.ensures
+    sides_text a.image.now a.tree base (Ok c.text_right.result) a.s.0 a.p.0 a.t.0 b.result right.result b.ensures
     (right.ensures base) c.in-None.is
     (c.text_right.ensures a.image.now a.tree base record { above = above; order = omega (arith, pre.0, pre.1); room = pre.2 }
     (c.side-l.ensures base))

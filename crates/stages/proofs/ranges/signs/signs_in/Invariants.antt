@@ -1,15 +1,13 @@
 -- The loop keeps what Signing says.
-use Rattle.std.proofs.Common.{ℕ, ◌-◌, ◌≤◌, List}
+use Rattle.std.proofs.Common.{ℕ, List}
 use Rattle.definition.specs.Text.{Item}
-use Rattle.stages.specs.token_tree.Laid.{Laid, Runs}
+use Rattle.stages.specs.token_tree.Laid.{Laid}
+use Rattle.stages.proofs.token_tree.Stepping.{Over}
 use Rattle.stages.proofs.ranges.signs.Signing.{Signing}
 use Rattle.stages.proofs.ranges.signs.signs_in.Given as goal
 
-abbrev pub invariant-loop-at : goal.invariant-loop-at
-invariant-loop-at l =
-    Runs l.image l.tree l.stop.0 l.end.0 l.at.0 l.s.0 × (1 ≤ l.initial.at.0)
-    × ((base s' : ℕ) (is : List Item) → Laid l.image l.tree base l.stop.0 l.end.0 l.initial.at.0 s' is
-    → Signing l.image l.tree base l.stop.0 l.end.0 l.initial.at.0 is l.g l.at.0 l.s.0)
-
-abbrev pub decreases-loop-at : goal.decreases-loop-at
-decreases-loop-at l = l.stop.0 - l.at.0
+abbrev pub invariant-loop-item : goal.invariant-loop-item
+invariant-loop-item l =
+    Over l.image l.fn.tree l.fn.stop.0 l.fn.end.0 l.item-iterator
+    × ((base s' : ℕ) (is : List Item) → Laid l.image l.fn.tree base l.fn.stop.0 l.fn.end.0 l.fn.r.0 s' is
+    → Signing l.image l.fn.tree base l.fn.stop.0 l.fn.end.0 l.fn.r.0 is l.g l.item-iterator.at.0 l.item-iterator.s.0)

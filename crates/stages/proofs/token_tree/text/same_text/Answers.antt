@@ -1,6 +1,6 @@
--- `token_tree::text::same_text` meets its contract: by the lengths, and then by the bytes.
+-- Of other lengths.
 use Rattle.std.proofs.Common.{◌+◌, drop}
-use Rattle.stages.proofs.token_tree.Same.{lengths_apart, same_length}
+use Rattle.stages.proofs.token_tree.Same.{lengths_apart}
 use Rattle.stages.proofs.token_tree.text.same_text.Goals as goal
 
 pub returns-then-a-b : goal.returns-then-a-b
@@ -8,9 +8,3 @@ returns-then-a-b c =
     let a = c.args in
     lengths_apart a.a.len a.b.len (drop (a.tree.text + a.a.at.0) a.image.now)
     (drop (a.tree.text + a.b.at.0) a.image.now) c.if-a-b.true
-
-pub returns : goal.returns
-returns c =
-    let a = c.args in
-    same_length a.image.now (a.tree.text + a.a.at.0) (a.tree.text + a.b.at.0) a.a.len a.b.len _
-    c.if-a-b.false c.same_bytes.ensures

@@ -1,14 +1,9 @@
-use Rattle.stages.proofs.ranges.usbr.Joins.{start_fits, numbers_ok, numbers_refused}
+use Rattle.stages.specs.ranges.Values.{usbr_of}
+use Rattle.stages.proofs.ranges.usbr.Joins.{both_read}
 use Rattle.stages.proofs.ranges.types.Usbr.numbers.Goals as goal
 
-pub returns-in-Ok : goal.returns-in-Ok
-returns-in-Ok c base f =
+pub returns : goal.returns
+returns c base f =
     let a = c.args in
-    let h = c.simplify.ensures base f.start in
-    numbers_ok a.image.now a.tree base a.self c.simplify.result h c.in-Ok.a c.simplified_end.result c.in-Ok.is
-    (c.simplified_end.ensures base (start_fits a.image.now a.tree base a.self c.simplify.result h c.in-Ok.a c.in-Ok.is) f.«end»)
-
-pub returns-in-Refused : goal.returns-in-Refused
-returns-in-Refused c base f =
-    let a = c.args in
-    numbers_refused a.image.now a.tree base a.self c.simplify.result (c.simplify.ensures base f.start) c.in-Refused.n c.in-Refused.is
+    both_read a.image.now a.tree base (usbr_of a.image.now a.tree base a.self) c.in_ok-start.start c.in_ok-end.end
+    (c.in_ok-start.ensures base f.start) (c.in_ok-end.ensures base f.«end»)

@@ -1,7 +1,0 @@
-use Rattle.stages.proofs.ranges.scan.found.Goals as goal
-
-pub returns-then-d : goal.returns-then-d
-returns-then-d c = rw (c.refuse.ensures, c.if-d.true)
-
-pub returns : goal.returns
-returns c = rw c.if-d.false
