@@ -1,6 +1,6 @@
 -- Stages 1 and 2 of one component after the other in one loop: what each function of the loop gives.
 use Rattle.std.specs.Prelude as Std
-use Rattle.std.specs.Prelude.{Ok, Err, set, ◌≡◌, ◌≤◌, ◌+◌, ◌/◌, if◌then◌else◌}
+use Rattle.std.specs.Prelude.{Ok, Err, set, ◌≡◌, ◌≤◌, ◌+◌, if◌then◌else◌}
 use Rattle.definition.specs.Prelude.{ℕ, Bool, List, length, take, leb}
 use Rattle.definition.specs.Basics.{Result, ok, refused, refusal_of, ◌>>=◌, with_places, joined}
 use Rattle.definition.specs.Image.{Unparsed, Placed, bytes_for, tree_of}
@@ -47,9 +47,6 @@ abbrev pub without_by : Run → Std.Option Start → Run
 without_by run start = without_after run (after_of start)
 
 -- ---- the loop: `each f >>= each g` in one, so the first refusal of f, else the first of g
-
-abbrev pub bytes_by : ℕ → ℕ
-bytes_by w = (w + 7) / 8
 
 abbrev pub walk_from : Walk
 walk_from = record { k = record { 0 = 0 }; r = record { 0 = 0 }; l = 0; second = Ok tt }

@@ -3,19 +3,14 @@ use Rattle.std.specs.Prelude as Std
 use Rattle.std.specs.Prelude.{◌≡◌}
 use Rattle.definition.specs.Prelude.{ℕ, Bool, true, false, Option, none, some, List, eqb, nat_abs, non_neg}
 use Rattle.definition.specs.Ranges.{Usb, static_val}
-use Rattle.definition.specs.Component.{if_static_end}
-use Rattle.stages.specs.ranges.Values.{Tree, end_of, usbr_of}
+use Rattle.stages.specs.ranges.Values.{Tree, end_of}
 use Rattle.stages.specs.declared.ranges.types.Usb.{Usb as Now}
-use Rattle.stages.specs.declared.component.types.Component.{Component}
 
 -- a literal of w bits ends at its width, or has no end
 abbrev pub full_end : Option Usb → ℕ → Bool
 full_end e w = elim e [ none ↦ true | some u ↦ elim (static_val u) [ none ↦ false | some x ↦ eqb (nat_abs x) w ] ]
 
--- of an end that is no number below 0
-abbrev pub EndPositive : List ℕ → Tree → ℕ → Component → Type 0
-EndPositive image t base c = if_static_end non_neg (usbr_of image t base c.range) ≡ true
-
+-- an end that is no number below 0
 abbrev EndNonNeg : Option Usb → Type 0
 EndNonNeg e = elim e [ none ↦ true | some u ↦ elim (static_val u) [ none ↦ true | some x ↦ non_neg x ] ] ≡ true
 

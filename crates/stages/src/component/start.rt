@@ -8,8 +8,8 @@ ghost use Rattle.stages.specs.token_tree.Grown.{Grown};
 ghost use Rattle.stages.specs.component.Start.{records_before, RecordsFit, before_by, colon_place, colon_by, ColonAt, PrefixReads, StartReads};
 
 use crate::token_tree::{
-    PBind, PText, PVal, Part, Run, Tables, Tree, behind, components_of, last_item, part_of, record,
-    records_of, run_of, single, start_of, start_or,
+    Items, PBind, PText, PVal, Part, Run, Tables, Tree, components_of, last_item, part_of, record,
+    records_of, run_of, start_of,
 };
 use errors::{Reason, Refusal};
 
@@ -48,20 +48,14 @@ fn colon_in(image: &[u8], tree: Tree, r: PBind, stop: PBind, end: PText) -> Opti
     ensures { (base s : ℕ) (is : List Item) → Laid image.now tree base stop.0 «end».0 r.0 s is
         → result ≡ colon_place image.now tree r.0 (split_colon is) }
 {
-    let mut at = r;
-    let mut s = start_or(image, tree, r, stop, end);
     let mut seen = None;
-    while at < stop {
-        let next = behind(image, tree, at);
-        let t = start_or(image, tree, next, stop, end);
-        let colon = single(image, tree, s, t) == b':';
+    for item in Items::new(image, tree, r, stop, end) {
+        let colon = item.byte == b':';
         if colon {
-            seen = opened(seen, at);
+            seen = opened(seen, item.at);
         } else if seen.is_some() {
             return seen;
         }
-        at = next;
-        s = t;
     }
     seen
 }

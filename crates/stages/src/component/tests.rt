@@ -4,7 +4,8 @@ ghost use Rattle.definition.specs.Concatenation.{is_static_literal, has_full_ran
 ghost use Rattle.definition.specs.Overall.{is_filler};
 ghost use Rattle.stages.specs.ranges.Values.{Tree as TreeIn};
 ghost use Rattle.stages.specs.component.Values.{component_of, Ordered};
-ghost use Rattle.stages.specs.component.Tests.{EndsAt, EndPositive};
+ghost use Rattle.stages.specs.component.Kept.{EndGiven};
+ghost use Rattle.stages.specs.component.Tests.{EndsAt};
 
 use super::types::{Component, ComponentType};
 use crate::ranges::Usb;
@@ -44,7 +45,7 @@ impl Component {
     // "Unbounded fillers return false". Of an end that is no number below 0.
     pub(crate) fn has_full_range(self) -> bool
         requires { Ordered self.c_type }
-        ensures { (image : List ℕ) (t : TreeIn) (base : ℕ) → EndPositive image t base self
+        ensures { (image : List ℕ) (t : TreeIn) (base : ℕ) → EndGiven image t base self
             → result ≡ has_full_range (component_of image t base self) }
     {
         if !self.range.start.is_guaranteed_zero() {

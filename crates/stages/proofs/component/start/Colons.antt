@@ -2,9 +2,8 @@
 use Rattle.std.specs.Prelude as Std
 use Rattle.std.specs.Prelude.{Some, None, ◌+◌, ◌-◌, ◌∷◌}
 use Rattle.std.specs.Option.{is_some}
-use Rattle.std.specs.Ordering.{is_lt, nat_cmp}
 use Rattle.std.proofs.Common.{◌≡◌, ◌<◌, ◌≤◌, sym, refl, ap, ◌∙◌, arith, eq-eqb, ne_eqb}
-use Rattle.definition.specs.Prelude.{ℕ, Bool, true, false, Option, none, some, List, []}
+use Rattle.definition.specs.Prelude.{ℕ, true, false, Option, none, some, List, []}
 use Rattle.definition.specs.Text.{Item, is_token}
 use Rattle.definition.specs.Component.{Prefix, beyond, split_colon}
 use Rattle.stages.specs.token_tree.Table.{skip_in, single_of, start_or}
@@ -39,13 +38,6 @@ colon_other i [] h = rw h refl
 colon_other i (j ∷ l) h = rw h refl
 
 -- ---- the loop
-
--- what its test says
-pub at_below : (x y : ℕ) {b : Bool} → b ≡ is_lt (nat_cmp x y) → b ≡ true → x < y
-at_below x y e f = grind (arith, e, f)
-
-pub at_above : (x y : ℕ) {b : Bool} → b ≡ is_lt (nat_cmp x y) → b ≡ false → y ≤ x
-at_above x y e f = grind (arith, e, f)
 
 some_none : {G : Type 0} {A : Type 0} {x : A} (o : Std.Option A) → o ≡ Some x → is_some o ≡ false → G
 some_none None a y = let z : ◌≡◌ {A = ℕ} 0 1 = (let b = a in cc) in absurd (omega (arith, z))

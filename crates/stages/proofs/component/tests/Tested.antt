@@ -43,9 +43,6 @@ module _ (image : List ℕ) (t : Tree) (base : ℕ) (e : Std.Option Usb) (w : �
   abbrev pub Given : Std.Option Usb → Type 0
   Given e = if_static_end non_neg (record { start = val (pos 0); «end» = end_of image t base e }) ≡ true
 
-  pub ends_none : e ≡ None → true ≡ full_end (end_of image t base e) w
-  ends_none p = sym (ap (λ (e : Std.Option Usb). full_end (end_of image t base e) w) p)
-
   module _ (u : Usb) (p : e ≡ Some u) where
     there : {b : Bool} → b ≡ at_width w (static_val (usb_of image t base u)) → b ≡ full_end (end_of image t base e) w
     there h = h ∙ sym (ap (λ (e : Std.Option Usb). full_end (end_of image t base e) w) p)

@@ -19,7 +19,7 @@ use Rattle.prepared.specs.Bits.{bits_at_holds}
 use Rattle.stages.specs.token_tree.Rows.{node_of, Rooted, Rows}
 use Rattle.stages.specs.component.Values.{component_of}
 use Rattle.stages.specs.component.Parse.{parse_items, items_read}
-use Rattle.stages.specs.component.Read.{verdict, bytes_by, ReadIs, TurnIs}
+use Rattle.stages.specs.component.Read.{verdict, ReadIs, TurnIs}
 use Rattle.stages.specs.declared.token_tree.types.Tables.{Tables}
 use Rattle.stages.specs.declared.component.types.Component.{Component}
 use Rattle.stages.specs.declared.component.read.Unread.{Unread}
@@ -31,7 +31,7 @@ use Rattle.stages.proofs.component.parse.Splits.{stage_items}
 use Rattle.stages.proofs.component.walk.Each.{ok_is, same_ok, err_ok}
 
 -- a literal's bytes
-pub rounded : (w : ℕ) → div_ceil w 8 ≡ bytes_by w
+pub rounded : (w : ℕ) → div_ceil w 8 ≡ bytes_for w
 rounded w = omega arith
 
 -- the first refusal of stage 2

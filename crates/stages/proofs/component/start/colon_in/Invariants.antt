@@ -1,15 +1,13 @@
 -- The loop keeps what Colons says.
-use Rattle.std.proofs.Common.{ℕ, ◌-◌, List}
+use Rattle.std.proofs.Common.{ℕ, List}
 use Rattle.definition.specs.Text.{Item}
-use Rattle.stages.specs.token_tree.Laid.{Laid, Runs}
+use Rattle.stages.specs.token_tree.Laid.{Laid}
+use Rattle.stages.proofs.token_tree.Stepping.{Over}
 use Rattle.stages.proofs.component.start.Colons.{Seeing}
 use Rattle.stages.proofs.component.start.colon_in.Given as goal
 
-abbrev pub invariant-loop-tree : goal.invariant-loop-tree
-invariant-loop-tree l =
-    Runs l.image l.tree l.stop.0 l.«end».0 l.at.0 l.s.0
-    × ((base s' : ℕ) (is : List Item) → Laid l.image l.tree base l.stop.0 l.«end».0 l.initial.at.0 s' is
-    → Seeing l.image l.tree base l.stop.0 l.«end».0 l.initial.at.0 is l.seen l.at.0 l.s.0)
-
-abbrev pub decreases-loop-tree : goal.decreases-loop-tree
-decreases-loop-tree l = l.stop.0 - l.at.0
+abbrev pub invariant-loop-item : goal.invariant-loop-item
+invariant-loop-item l =
+    Over l.image l.fn.tree l.fn.stop.0 l.fn.end.0 l.item-iterator
+    × ((base s' : ℕ) (is : List Item) → Laid l.image l.fn.tree base l.fn.stop.0 l.fn.end.0 l.fn.r.0 s' is
+    → Seeing l.image l.fn.tree base l.fn.stop.0 l.fn.end.0 l.fn.r.0 is l.seen l.item-iterator.at.0 l.item-iterator.s.0)

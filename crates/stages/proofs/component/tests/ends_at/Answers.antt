@@ -1,5 +1,5 @@
 use Rattle.std.proofs.Common.{◌∙◌, inl, inr, arith, ne_eqb}
-use Rattle.stages.proofs.component.tests.Tested.{ends_none, ends_yes, ends_no}
+use Rattle.stages.proofs.component.tests.Tested.{ends_yes, ends_no}
 use Rattle.stages.proofs.component.tests.ends_at.Goals.{then-u-eq0, else-u-eq0}
 use Rattle.stages.proofs.component.tests.ends_at.Goals as goal
 
@@ -21,6 +21,3 @@ returns-else-u-eq0-2 c image t base g =
       | else-u-eq0 w ↦ inr (w.if-u-eq0.false, w.t-6-is ∙ ne_eqb c.in-Some.u.s.len 0 w.if-u-eq0.false)
     ]) c.if-u-eq0-2.false-raw
     (omega (arith, c.ranges.w)) g
-
-pub returns-in-None : goal.returns-in-None
-returns-in-None c image t base g = ends_none image t base c.args.«end» c.args.w c.in-None.is

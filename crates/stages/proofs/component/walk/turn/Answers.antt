@@ -1,7 +1,7 @@
 use Rattle.std.specs.Prelude.{Ok, Err}
 use Rattle.std.proofs.Common.{◌+◌, refl, ap, ◌∙◌}
 use Rattle.errors.specs.Refused.{refused_as, result_of}
-use Rattle.stages.specs.component.Read.{bytes_by}
+use Rattle.definition.specs.Image.{bytes_for}
 use Rattle.stages.specs.component.Start.{after_of}
 use Rattle.stages.specs.declared.component.read.Unread.TheVariants as U
 use Rattle.stages.proofs.component.walk.Cutting.{cut_of}
@@ -50,7 +50,7 @@ returns c = λ s n ns b h e.
     let (u, z) = cut_of a.image.now a.t a.w.k.0 a.w.r.0 s a.w.l _ _ _ (after_of a.start) n ns b h f.tables e c.records_of.result
     c.run_of-run.result c.without_start.result c.records_of.ensures c.run_of-run.ensures c.without_start.ensures in
     let width = width_is a.image.now a.t a.w.k.0 a.w.r.0 s a.w.l n ns h c.width_of-width.result c.width_of-width.ensures in
-    let l = ap (λ m. a.w.l + m) (c.div_ceil.ensures ∙ rounded c.width_of-width.result ∙ ap bytes_by width) in
+    let l = ap (λ m. a.w.l + m) (c.div_ceil.ensures ∙ rounded c.width_of-width.result ∙ ap bytes_for width) in
     elim c.match-read.branch [
       | in-Ok w ↦
           rw w.kept-is
