@@ -56,7 +56,7 @@ pub(crate) fn last_item(image: &[u8], tree: Tree, r: PBind, stop: PBind, end: PT
 {
     let mut at = r;
     let mut next = behind(image, tree, r);
-    while next.0 < stop.0 {
+    while next < stop {
         at = next;
         next = behind(image, tree, at);
     }
