@@ -1,11 +1,12 @@
 -- Bounds in code and in the definition: a text's emptiness, the number of a bound, and what simplifying and raising give.
 use Rattle.std.specs.Prelude as Std
+use Rattle.std.specs.Bool.{then_some}
 use Rattle.std.specs.Option.{option_zip}
 use Rattle.std.specs.Prelude.{Some, None, Ok, Err, ◌+◌, ◌*◌, ◌-◌, ◌^◌, ◌∷◌, ◌+ℤ◌, if◌then◌else◌}
 use Rattle.errors.specs.declared.reasons.Reason.TheVariants as Reasons
 use Rattle.std.proofs.Common.{◌≡◌, ◌<◌, ◌≤◌, sym, refl, ap, ◌∙◌, subst, arith, eq-eqb, ne_eqb}
 use lib.Dec.{eqb-suc-zero}
-use Rattle.definition.specs.Prelude.{ℕ, zero, suc, Bool, false, Option, none, some, List, [], length, ltb, eqb, ℤ, pos, negsuc, nat_abs}
+use Rattle.definition.specs.Prelude.{ℕ, zero, suc, Bool, true, false, Option, none, some, List, [], length, ltb, eqb, ℤ, pos, negsuc, nat_abs}
 use Rattle.definition.specs.Basics.{Result, ok, is_empty}
 use Rattle.definition.specs.Numbers.{narrow, try_parse}
 use Rattle.definition.specs.Refusals.{Reason, refuse, overflow, bound_overflow}
@@ -78,8 +79,15 @@ module _ (image : List ℕ) (t : Tree) (base : ℕ) where
   pub zero_fits : t.text ≤ length image → UsbFits image t base zero_by
   zero_fits h = val_fits zero_i h (omega arith) (omega arith)
 
-  pub static_by : (u : Usb) → static_val (usb_of image t base u) ≡ (if eqb u.s.len 0 then some (value_of u.x) else none)
+  static_by : (u : Usb) → static_val (usb_of image t base u) ≡ (if eqb u.s.len 0 then some (value_of u.x) else none)
   static_by u = rw empty_is
+
+  pub static_is : (u : Usb) → option_of (then_some (eqb u.s.len 0) u.x) ≡ static_val (usb_of image t base u)
+  static_is u = go (eqb u.s.len 0) ∙ sym (static_by u)
+    where
+      go : (b : Bool) → option_of (then_some b u.x) ≡ (if b then some (value_of u.x) else none)
+      go true = refl
+      go false = refl
 
   pub static_yes : (u : Usb) → u.s.len ≡ 0 → some (value_of u.x) ≡ static_val (usb_of image t base u)
   static_yes u h = sym (static_by u ∙ rw (eq-eqb u.s.len 0 h))

@@ -1,13 +1,18 @@
 -- The last item of a run, found by stepping from item to item.
+use Rattle.std.specs.Ordering.{is_lt, nat_cmp}
 use Rattle.std.specs.Prelude.{◌+◌, ◌∷◌}
-use Rattle.std.proofs.Common.{◌≡◌, ◌<◌, ◌≤◌, sym, refl, ap, ◌∙◌, subst}
-use Rattle.definition.specs.Prelude.{ℕ, List, length}
+use Rattle.std.proofs.Common.{◌≡◌, ◌<◌, ◌≤◌, sym, refl, ap, ◌∙◌, subst, arith}
+use Rattle.definition.specs.Prelude.{ℕ, true, List, length}
 use Rattle.definition.specs.Text.{Item}
 use Rattle.stages.specs.token_tree.Laid.{Laid, Runs, place_of}
 use Rattle.stages.specs.token_tree.Table.{skip_in, start_or}
 use Rattle.stages.specs.declared.token_tree.types.Tree.{Tree}
 use Rattle.stages.proofs.token_tree.Places.{laid_first, laid_none}
 use Rattle.stages.proofs.token_tree.Walks.{runs_next}
+
+-- what `<` of two records says
+pub before : (x y : ℕ) → true ≡ is_lt (nat_cmp x y) → x < y
+before x y e = grind (arith, e)
 
 module _ (image : List ℕ) (t : Tree) (stop : ℕ) where
   -- item p of a run, counted from a place within it

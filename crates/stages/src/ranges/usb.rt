@@ -69,7 +69,7 @@ impl Usb {
     pub(crate) fn static_val(self) -> Option<I128>
         ensures { (image : List ℕ) (t : TreeIn) (base : ℕ) → option_of result ≡ static_val (usb_of image t base self) }
     {
-        if self.s.len == 0 { Some(self.x) } else { None }
+        (self.s.len == 0).then_some(self.x)
     }
 
     pub(crate) fn is_guaranteed_zero(self) -> bool

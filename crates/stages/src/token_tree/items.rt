@@ -42,7 +42,7 @@ pub(crate) fn start_or(image: &[u8], tree: Tree, r: PBind, stop: PBind, end: PTe
     requires { (r.0 ≤ stop.0) × (r.0 < stop.0 → RecordFits image.now tree r.0) }
     ensures { result.0 ≡ start_or image.now tree r.0 stop.0 «end».0 }
 {
-    if r.0 == stop.0 {
+    if r == stop {
         return end;
     }
     start_of(image, tree, r)
@@ -56,7 +56,7 @@ pub(crate) fn last_item(image: &[u8], tree: Tree, r: PBind, stop: PBind, end: PT
 {
     let mut at = r;
     let mut next = behind(image, tree, r);
-    while next.0 < stop.0 {
+    while next < stop {
         at = next;
         next = behind(image, tree, at);
     }

@@ -41,7 +41,7 @@ pub(crate) fn part_of(s: PText, t: PText) -> Part
     requires { s.0 ≤ t.0 }
     ensures { result ≡ part_by s.0 t.0 }
 {
-    if s.0 == t.0 {
+    if s == t {
         return no_text();
     }
     Part {
