@@ -112,7 +112,8 @@ fn argument_error(error: FillError) -> io::Error {
 }
 
 // The two lines that say what is read.
-const HELP: &[u8] = b"layout [FILE]: prints the listing of one mode byte (0, 1, 2) and a prepared image, from FILE or standard input.\n\
+const HELP: &[u8] =
+    b"layout [FILE]: prints the listing of one mode byte (0, 1, 2) and a prepared image, from FILE or standard input.\n\
 A line of text is read by ./line; docs/FORMAT.md has the image's bytes, README.md the listing and the numbers.\n";
 
 // Where the program reads, prints and says what failed. Where that cannot be written either, nobody is left to tell.

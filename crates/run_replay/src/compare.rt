@@ -37,12 +37,7 @@ fn listing_buffer() -> [u8; limits::MAX_LISTING]
 }
 
 // Whether the listing of the outcome is the one told.
-fn same_listing(
-    image: &[u8],
-    area: &[u8],
-    outcome: Result<usize, Refusal>,
-    told: &[u8],
-) -> bool
+fn same_listing(image: &[u8], area: &[u8], outcome: Result<usize, Refusal>, told: &[u8]) -> bool
     ensures { result ≡ true → listing_of image.now area.now outcome ≡ told.now }
 {
     let mut out = listing_buffer();

@@ -1,5 +1,5 @@
 -- What a reader had and has left where an entry was not read.
-use Rattle.std.specs.Prelude.{◌≤◌, ◌<◌, ℕ, List, length, Option, ◌⊎◌}
+use Rattle.std.specs.Prelude.{◌<◌, ℕ, List, length, Option, ◌⊎◌}
 use Rattle.std.specs.Io.KnownBytes.{Consumes, IsAtEnd}
 use Rattle.streams.specs.declared.entry.NoEntry.{NoEntry}
 use Rattle.streams.specs.declared.entry.NoEntry.TheVariants.{End, Cut, Failed}

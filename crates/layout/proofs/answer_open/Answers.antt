@@ -21,4 +21,4 @@ pub returns-clause-printed : goal.returns-clause-printed
 returns-clause-printed g c =
     passed _ _ _ _ _ c.map_err-2.ensures.cases c.answer.ensures
     (appends_judged _ _ _ c.read_input.new.buf c.in_ok-n.n (omega arith)
-        (came _ _ _ _ _ c.map_err.ensures.cases c.in_ok-n.was c.read_input.ensures.front))
+    (came _ _ _ _ _ c.map_err.ensures.cases c.in_ok-n.was c.read_input.ensures.front))
