@@ -16,14 +16,6 @@ returns-then-divides-semicolon c =
       record { semicolons = omega arith; dividers = omega arith; records = omega arith; bytes = omega arith },
     )
 
-pub returns-in-Opener : goal.returns-in-Opener
-returns-in-Opener c =
-    let a = c.args in
-    let (s, (v, (_, _))) = c.default-in-Opener.ensures in (
-      rw (s, v) (group_tally a.self.now.list.now a.self.now.text.now a.k a.d c.requires.1 c.requires.0 (grind arith)),
-      record { semicolons = omega arith; dividers = omega arith; records = omega arith; bytes = omega arith },
-    )
-
 pub returns-in-Identifier : goal.returns-in-Identifier
 returns-in-Identifier c =
     let a = c.args in
