@@ -1,6 +1,6 @@
 use Rattle.std.proofs.Common.{◌∙◌, sym, ap, refl, arith}
 use Rattle.token_stream.specs.counts.Counting.{tally_of, sum_of}
-use Rattle.token_stream.proofs.counts.Walk.{walked_start, walked_turn, walked_over, walked_end, walked_counts}
+use Rattle.token_stream.proofs.counts.Walk.{walked_turn, walked_over, walked_end, walked_counts}
 use Rattle.token_stream.proofs.list.TokenList.counts.Goals as goal
 
 pub returns-then-not-within : goal.returns-then-not-within

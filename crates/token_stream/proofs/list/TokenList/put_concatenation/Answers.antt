@@ -1,6 +1,6 @@
-use mathlib.Core.Path.{refl, ◌∙◌}
+use mathlib.Core.Path.{◌∙◌}
 use native.Mathlib.Omega.{arith}
-use Rattle.token_stream.proofs.write.Turns.{going_start, here_turn, going_next, going_end}
+use Rattle.token_stream.proofs.write.Turns.{here_turn, going_next, going_end}
 use Rattle.token_stream.proofs.list.TokenList.put_concatenation.Goals as goal
 
 pub put_component-p-requires : goal.put_component-p-requires

@@ -1,6 +1,6 @@
-use mathlib.Core.Path.{refl, ◌∙◌}
+use mathlib.Core.Path.{◌∙◌}
 use native.Mathlib.Omega.{arith}
-use Rattle.token_stream.proofs.write.Rounds.{going_start, here_round, steps, going_next, going_end}
+use Rattle.token_stream.proofs.write.Rounds.{here_round, steps, going_next, going_end}
 use Rattle.token_stream.proofs.list.TokenList.put_concatenations.Goals as goal
 
 pub put_concatenation-q-requires : goal.put_concatenation-q-requires

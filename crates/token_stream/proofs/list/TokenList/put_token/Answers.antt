@@ -1,6 +1,6 @@
 -- A token by its kind: an opener, a closer, a leaf.
-use Rattle.std.proofs.Common.{ℕ, ap, arith}
-use Rattle.token_stream.proofs.write.component.Steps.{put_closer, put_opener, opener_fits}
+use Rattle.std.proofs.Common.{ℕ, ap}
+use Rattle.token_stream.proofs.write.component.Steps.{put_closer, put_opener}
 use Rattle.token_stream.proofs.list.TokenList.put_token.Goals as goal
 
 pub returns-in-Opener : goal.returns-in-Opener

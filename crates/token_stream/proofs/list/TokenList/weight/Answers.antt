@@ -1,7 +1,7 @@
 -- A divider, a group's token, or a leaf.
 use Rattle.std.proofs.Common.{ap, ◌∙◌, not, arith}
 use Rattle.token_stream.specs.list.Kinds.{joined_by}
-use Rattle.token_stream.proofs.counts.Tallies.{one_is, divider_tally, group_tally, leaf_tally}
+use Rattle.token_stream.proofs.counts.Tallies.{one_is, divider_tally, leaf_tally}
 use Rattle.token_stream.proofs.list.TokenList.weight.Goals as goal
 
 pub returns-then-divides-semicolon : goal.returns-then-divides-semicolon
