@@ -1,3 +1,2 @@
--- Laws that the proofs of several parts cite.
-pub mod Calls
-mod Refusing
+-- The laws that the proof of what is admitted cites.
+pub mod Refusing

@@ -51,7 +51,8 @@ impl TokenList<'_> {
     // What token k weighs, d groups being open.
     fn weight(&self, k: usize, d: usize) -> Tally
         requires { (k < count self.now.list.now) × (tokens_right self.now.list.now self.now.text.now ≡ true) }
-        ensures { (tally_of result ≡ token_tally d (token_at self.now.list.now self.now.text.now k) (drop (k + 1) (tokens self.now.list.now self.now.text.now)))
+        ensures { let s = self.now in
+            (tally_of result ≡ token_tally d (token_at s.list.now s.text.now k) (drop (k + 1) (tokens s.list.now s.text.now)))
             × Small result }
     {
         let semicolon = self.divides(k, d, b';');

@@ -5,7 +5,7 @@ ghost use Rattle.token_stream.specs.list.Kinds.{after_kind, before_kind, KindIs,
 
 use image::token_tree::{byte_at, u32_at};
 
-// What a token is. An opener has document 01's kind of its group, if 50 has passed.
+// What a token is. An opener has document 01's kind of its group; before 50 has passed it may be any number.
 #[derive(Clone, Copy)]
 pub(crate) enum Kind {
     Identifier,
@@ -92,7 +92,7 @@ impl TokenList<'_> {
         }
     }
 
-    // How many are open before it, d being open after it.
+    // How many are open before token k, d being open after it.
     pub(crate) fn before(&self, k: usize, d: usize) -> usize
         requires { (k < count self.now.list.now) × (d < 2 ^ 63) }
         ensures open { result ≡ before_kind d (kind_at self.now.list.now k) }

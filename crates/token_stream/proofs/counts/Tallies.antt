@@ -3,19 +3,18 @@ use Rattle.std.specs.Prelude.{◌+◌, ◌&&◌, if◌then◌else◌}
 use mathlib.Core.Path.{◌≡◌, refl, sym, ap, ◌∙◌}
 use Prim.Native.Nat.{◌≤◌, ◌<◌}
 use native.Mathlib.Omega.{arith}
-use borrow.Author.Tests.{eqb-true, le-ltb}
+use borrow.Author.Tests.{le-ltb}
 use lib.Seq.{slice, take_all}
 use Rattle.std.specs.Int.{from_bool}
 use Rattle.definition.specs.Prelude.{ℕ, Bool, true, false, not, List, length, drop, ltb, eqb}
 use Rattle.definition.specs.Characters.{char}
 use Rattle.definition.specs.TokenStream.{Leaf, leaf_text, is_punct}
 use Rattle.definition.specs.Tokens.{Token, single, opener, closer, kind_at, text_start, text_length, text_at, token_at, count, tokens, tokens_right}
-use Rattle.laws.specs.Tests.{by_test, eqb_apart}
 use Rattle.laws.specs.Padded.{length_padded}
 use Rattle.token_facts.specs.Flat.{joins, divides_at}
 use Rattle.token_facts.specs.Dividing.{either_not}
 use Rattle.token_stream.specs.list.Kinds.{divides_by, joined_by}
-use Rattle.token_stream.specs.list.Tokens.{punct_is, goes_on, length_tokens, leaf_token, opener_token, closer_token, divides_token, joins_token}
+use Rattle.token_stream.specs.list.Tokens.{punct_is, goes_on, length_tokens, leaf_token, divides_token, joins_token}
 use Rattle.token_stream.specs.counts.Counting.{Sums, token_tally}
 use Rattle.token_stream.proofs.list.Dividers.{divider, dividing, divider_token}
 
@@ -58,12 +57,6 @@ module _ (list text : List ℕ) (k d : ℕ) (r : tokens_right list text ≡ true
   divider_tally b t s e =
       ap (λ (y : ℕ). sums y 1 0 0) (e ∙ ap one_if (s ∙ divides_token list text char.semicolon d k r h))
       ∙ divider_weighs d (token_at list text k) rest (sym (divider_token list text d k r h) ∙ t)
-
-  pub group_tally : 2 < kind_at list k → sums 0 0 1 1 ≡ token_tally d (token_at list text k) rest
-  group_tally g =
-      by_test (eqb (kind_at list k) 7)
-      (λ t. sym (ap (λ (x : Token). token_tally d x rest) (closer_token list text k (eqb-true (kind_at list k) 7 t))))
-      (λ t. sym (ap (λ (x : Token). token_tally d x rest) (opener_token list text k g (eqb_apart (kind_at list k) 7 t))))
 
   whole : slice (k + 1) (count list) (tokens list text) ≡ rest
   whole =

@@ -2,7 +2,7 @@
 use Rattle.std.specs.Prelude.{◌+◌, ◌&&◌, ◌∷◌}
 use mathlib.Core.Path.{◌≡◌, refl, sym, ap, ◌∙◌}
 use Prim.Native.Nat.{◌≤◌, ◌<◌}
-use native.Mathlib.Nat.{zero-add, add-zero, add_assoc}
+use native.Mathlib.Nat.{add-zero, add_assoc}
 use native.Mathlib.Omega.{arith}
 use borrow.Author.Tests.{lt-ltb, ltb-true, le-leb, leb-true, leb-false, lt-leb}
 use Rattle.definition.specs.Prelude.{ℕ, max, Bool, true, false, List, [], drop, leb, ltb}
@@ -12,8 +12,7 @@ use Rattle.laws.specs.Tests.{by_test, and_iff}
 use Rattle.token_facts.specs.Flat.{after, weigh, deepest}
 use Rattle.token_stream.specs.list.Kinds.{after_kind}
 use Rattle.token_stream.specs.list.Tokens.{tokens_from, after_token}
-use Rattle.token_stream.specs.declared.counts.Tally.{Tally}
-use Rattle.token_stream.specs.counts.Counting.{Sums, tally_of, sum_of, token_tally, list_tally, Small, within, within_in, counts_in}
+use Rattle.token_stream.specs.counts.Counting.{Sums, sum_of, token_tally, list_tally, within, within_in, counts_in}
 use Rattle.token_stream.proofs.list.Dividers.{tokens_end}
 
 -- ---- the limits
@@ -55,15 +54,6 @@ module _ (t : Sums) (d : ℕ) where
         le-leb t.bytes limits.text h.bytes,
         le-leb d limits.depth h.depth,
       )
-
-pub small_held : (t : Tally) (d : ℕ) → Held (tally_of t) d → Small t
-small_held t d h =
-    record {
-      semicolons = omega (arith, h.semicolons);
-      dividers = omega (arith, h.dividers);
-      records = omega (arith, h.records);
-      bytes = omega (arith, h.bytes);
-    }
 
 -- ---- sums and depths
 
@@ -125,9 +115,6 @@ pub record Walked (list text : List ℕ) (k d : ℕ) (t : Sums) : Type 0 where
   pub depths : leb (deepest d (drop k (tokens list text))) limits.depth ≡ leb (deepest 0 (tokens list text)) limits.depth
 
 module _ (list text : List ℕ) where
-  pub walked_start : Walked list text 0 0 (record { semicolons = 0; dividers = 0; records = 0; bytes = 0 })
-  walked_start = record { now = refl; sums = simp zero-add; depths = refl }
-
   module _ (k d : ℕ) (t : Sums) (w : Walked list text k d t) where
     module _ {d' : ℕ} {t' : Sums} (h : k < count list) (e : d' ≡ after_kind d (kind_at list k))
         (f : t' ≡ sum_of t (token_tally d (token_at list text k) (drop (k + 1) (tokens list text)))) where

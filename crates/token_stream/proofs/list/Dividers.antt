@@ -42,8 +42,5 @@ divider_token list text d k r h =
     either_of : {x y p q : Bool} → x ≡ p → y ≡ q → (x || y) ≡ (p || q)
     either_of f g = cc
 
-pub either_is : {e x y p q t : Bool} → e ≡ (x || y) → x ≡ p → y ≡ q → e ≡ t → (p || q) ≡ t
-either_is h f g i = cc
-
 pub tokens_end : (list text : List ℕ) (k : ℕ) → count list ≤ k → drop k (tokens list text) ≡ []
 tokens_end list text k h = drop_of_length-le (tokens list text) {i = k} (rw length_tokens h)

@@ -194,9 +194,6 @@ module _ (list text : List ℕ) (base : ℕ) where
       pub here : Concatenations list text base row a p left
       pub goes : (area' : List ℕ) → TreeWritten base row p left area area' → TreeWritten base at pen cc area₀ area'
 
-    pub going_start : Concatenations list text base at 0 pen cc → Going at 0 pen area₀
-    going_start h = record { left = cc; here = h; goes = λ area' w. w }
-
 module _ {list text : List ℕ} {base at : ℕ} {pen : Pen} {area₀ : List ℕ} {cc : List (List Stream)} {row a b : ℕ} {p : Pen} {area : List ℕ}
     (g : Going list text base at pen area₀ cc row a p area) (ends_at : b ≡ a + to_semicolon 0 (drop a (tokens list text))) where
   pub here_round : Round list text base row a b p g.left

@@ -161,9 +161,6 @@ module _ (list text : List ℕ) (base a : ℕ) where
       pub goes : (area' : List ℕ) (r : Pen) → NodesWritten base p (nodes_of left) area area' r
           → NodesWritten base pen (nodes_of cs) area₀ area' r
 
-    pub going_start : (b : ℕ) → Concatenation list text base a b pen cs → Going b pen area₀
-    going_start b h = record { left = cs; here = h; goes = λ area' r w. w }
-
 -- after the component of tokens s to e
 module _ {list text : List ℕ} {base a : ℕ} {pen : Pen} {area₀ : List ℕ} {cs : List Stream} {s e : ℕ} {p : Pen} {area : List ℕ}
     (g : Going list text base a pen area₀ cs e p area)

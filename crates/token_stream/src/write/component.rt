@@ -11,7 +11,8 @@ use crate::list::{Kind, TokenList};
 use image::token_tree::delimiter_of;
 use image::writer;
 
-// Where the next component's row, the next record's row and the next byte of text go.
+// Where the next component's row, the next record's row and the next byte of text go. Where the text begins, `base`, is handed on beside
+// pen and mark: in them it is no plainer, since each contract would then also say that it stays.
 #[derive(Clone, Copy)]
 pub(crate) struct Pen {
     pub components: usize,
@@ -20,7 +21,8 @@ pub(crate) struct Pen {
 }
 
 // The same within a component: where the next record's row and byte of text go, where the text of the record that was begun starts,
-// and the kinds of the open groups, two bits each, the innermost lowest: a stack of at most 32 needs no memory (docs/DECISIONS.md, 66).
+// and the kinds of the open groups, two bits each, the innermost lowest: by a rule of the project no memory is asked for, and a stack
+// of 32 fits one number (docs/DECISIONS.md, 66).
 #[derive(Clone, Copy)]
 pub(crate) struct Mark {
     pub record: usize,
@@ -91,8 +93,8 @@ impl TokenList<'_> {
     // An identifier, punctuation or a literal: its text, and a space where the run of identifiers goes on.
     fn put_leaf(&self, area: &mut [u8], base: usize, k: usize, e: usize, m: Mark) -> Mark
         requires { LeafFits self.now.list.now self.now.text.now base k e m }
-        ensures { StepIs base (token_at self.now.list.now self.now.text.now k) (slice (k + 1) e (tokens self.now.list.now self.now.text.now))
-            area.old area.new m result }
+        ensures { let s = self.now in
+            StepIs base (token_at s.list.now s.text.now k) (slice (k + 1) e (tokens s.list.now s.text.now)) area.old area.new m result }
     {
         let n = self.length_at(k) as usize;
         writer::put_bytes(area, m.text, self.text, self.start_at(k) as usize, n);
@@ -106,8 +108,8 @@ impl TokenList<'_> {
 
     fn put_token(&self, area: &mut [u8], base: usize, k: usize, e: usize, m: Mark) -> Mark
         requires { StepFits self.now.list.now self.now.text.now base k e m }
-        ensures { StepIs base (token_at self.now.list.now self.now.text.now k) (slice (k + 1) e (tokens self.now.list.now self.now.text.now))
-            area.old area.new m result }
+        ensures { let s = self.now in
+            StepIs base (token_at s.list.now s.text.now k) (slice (k + 1) e (tokens s.list.now s.text.now)) area.old area.new m result }
     {
         match self.kind_at(k) {
             Kind::Opener(kind) => {
@@ -120,9 +122,9 @@ impl TokenList<'_> {
                 let d = delimiter_of((m.groups % 4) as u32 + 1);
                 m.put_delimiter(area, base, d.closing, 5, 1, m.groups / 4)
             }
-            Kind::Identifier | Kind::Punctuation | Kind::Literal => self.put_leaf(
-                area, base, k, e, m,
-            ),
+            Kind::Identifier | Kind::Punctuation | Kind::Literal => {
+                self.put_leaf(area, base, k, e, m)
+            }
         }
     }
 

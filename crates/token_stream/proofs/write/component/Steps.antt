@@ -1,5 +1,5 @@
 -- One token: what is written of it, by its kind.
-use Rattle.std.specs.Prelude.{◌+◌, ◌*◌, ◌-◌, ◌/◌, ◌^◌, ◌∷◌}
+use Rattle.std.specs.Prelude.{◌+◌, ◌*◌, ◌-◌, ◌/◌, ◌∷◌}
 use mathlib.Core.Path.{◌≡◌, refl, sym, ap, ◌∙◌}
 use Prim.Native.Nat.{◌≤◌, ◌<◌}
 use native.Mathlib.Nat.{add-zero}
@@ -18,7 +18,7 @@ use Rattle.token_facts.specs.Flat.{joins, inner, innermost}
 use Rattle.token_stream.specs.list.Kinds.{KindIs, joined_by}
 use Rattle.token_stream.specs.declared.list.Kind.TheVariants.{Opener, Closer}
 use Rattle.token_stream.specs.list.Tokens.{goes_on, leaf_token, opener_token, closer_token, joins_token}
-use Rattle.token_stream.specs.write.Steps.{open_after, EndIs, DelimiterIs, StepIs}
+use Rattle.token_stream.specs.write.Steps.{EndIs, DelimiterIs, StepIs}
 use Rattle.token_stream.specs.declared.write.component.Mark.{Mark}
 
 -- ---- a leaf
@@ -126,7 +126,3 @@ module _ (list text : List ℕ) (k : ℕ) where
         → StepIs base (token_at list text k) (slice (k + 1) e (tokens list text)) area area' m m'
     put_opener base e b skip area area' m m' u v d =
         opener_put base (token_at list text k) (slice (k + 1) e (tokens list text)) area area' group b skip _ m m' is_opener u v refl d
-
-    -- the open groups' kinds fit
-    pub opener_fits : (groups : ℕ) → open_after groups (token_at list text k) < 2 ^ 64 → groups * 4 + (group - 1) < 2 ^ 64
-    opener_fits groups f = rw is_opener at f

@@ -1,13 +1,7 @@
 use Rattle.std.proofs.Common.{◌∙◌, sym, ap, refl, arith}
 use Rattle.token_stream.specs.counts.Counting.{tally_of, sum_of}
-use Rattle.token_stream.proofs.counts.Walk.{walked_start, walked_turn, walked_over, walked_end, walked_counts}
+use Rattle.token_stream.proofs.counts.Walk.{walked_turn, walked_over, walked_end, walked_counts}
 use Rattle.token_stream.proofs.list.TokenList.counts.Goals as goal
-
-pub loop-k-init : goal.loop-k-init
-loop-k-init c =
-    let a = c.args.self.now in
-    let (s, (v, (r, b))) = c.default-t.ensures in
-    (omega arith, rw (s, v, r, b) (walked_start a.list.now a.text.now))
 
 pub returns-then-not-within : goal.returns-then-not-within
 returns-then-not-within c =

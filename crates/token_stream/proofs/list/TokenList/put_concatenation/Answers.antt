@@ -1,12 +1,7 @@
-use mathlib.Core.Path.{refl, ◌∙◌}
+use mathlib.Core.Path.{◌∙◌}
 use native.Mathlib.Omega.{arith}
-use Rattle.token_stream.proofs.write.Turns.{going_start, here_turn, going_next, going_end}
+use Rattle.token_stream.proofs.write.Turns.{here_turn, going_next, going_end}
 use Rattle.token_stream.proofs.list.TokenList.put_concatenation.Goals as goal
-
-pub loop-p-init : goal.loop-p-init
-loop-p-init c =
-    let a = c.args in
-    (refl, λ cs h. going_start a.self.now.list.now a.self.now.text.now a.base a.a a.pen a.area.now cs a.b h)
 
 pub put_component-p-requires : goal.put_component-p-requires
 put_component-p-requires c =

@@ -1,12 +1,7 @@
-use mathlib.Core.Path.{refl, ◌∙◌}
+use mathlib.Core.Path.{◌∙◌}
 use native.Mathlib.Omega.{arith}
-use Rattle.token_stream.proofs.write.Rounds.{going_start, here_round, steps, going_next, going_end}
+use Rattle.token_stream.proofs.write.Rounds.{here_round, steps, going_next, going_end}
 use Rattle.token_stream.proofs.list.TokenList.put_concatenations.Goals as goal
-
-pub loop-q-init : goal.loop-q-init
-loop-q-init c =
-    let a = c.args in
-    (refl, λ cc h. going_start a.self.now.list.now a.self.now.text.now a.base a.at a.pen a.area.now cc h)
 
 pub put_concatenation-q-requires : goal.put_concatenation-q-requires
 put_concatenation-q-requires c =

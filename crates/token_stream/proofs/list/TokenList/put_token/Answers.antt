@@ -1,20 +1,7 @@
 -- A token by its kind: an opener, a closer, a leaf.
-use Rattle.std.proofs.Common.{ℕ, ap, arith}
-use Rattle.token_stream.proofs.write.component.Steps.{put_closer, put_opener, opener_fits}
+use Rattle.std.proofs.Common.{ℕ, ap}
+use Rattle.token_stream.proofs.write.component.Steps.{put_closer, put_opener}
 use Rattle.token_stream.proofs.list.TokenList.put_token.Goals as goal
-
--- the open groups' kinds with that of the opener
-pub overflow_mul-groups : goal.overflow_mul-groups
-overflow_mul-groups c =
-    let a = c.args in
-    let f = opener_fits a.self.now.list.now a.self.now.text.now a.k _ c.in-Opener.ensures a.m.groups c.requires.nests in
-    omega arith
-
-pub overflow_add-groups : goal.overflow_add-groups
-overflow_add-groups c =
-    let a = c.args in
-    let f = opener_fits a.self.now.list.now a.self.now.text.now a.k _ c.in-Opener.ensures a.m.groups c.requires.nests in
-    omega arith
 
 pub returns-in-Opener : goal.returns-in-Opener
 returns-in-Opener c =

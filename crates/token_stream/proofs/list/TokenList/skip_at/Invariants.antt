@@ -7,5 +7,6 @@ use Rattle.token_stream.proofs.list.TokenList.skip_at.Given as goal
 
 abbrev pub invariant-loop-j : goal.invariant-loop-j
 invariant-loop-j l =
+    let list = l.self.list.now in
     (l.d ≤ l.j) × (l.r ≤ 1 + l.j)
-    × ((text : List ℕ) → l.r + inner l.d (slice l.j l.e (tokens l.self.list.now text)) ≡ 2 + inner 0 (slice (l.k + 1) l.e (tokens l.self.list.now text)))
+    × ((text : List ℕ) → l.r + inner l.d (slice l.j l.e (tokens list text)) ≡ 2 + inner 0 (slice (l.k + 1) l.e (tokens list text)))

@@ -1,7 +1,7 @@
 -- A divider, a group's token, or a leaf.
 use Rattle.std.proofs.Common.{ap, ◌∙◌, not, arith}
 use Rattle.token_stream.specs.list.Kinds.{joined_by}
-use Rattle.token_stream.proofs.counts.Tallies.{one_is, divider_tally, group_tally, leaf_tally}
+use Rattle.token_stream.proofs.counts.Tallies.{one_is, divider_tally, leaf_tally}
 use Rattle.token_stream.proofs.list.TokenList.weight.Goals as goal
 
 pub returns-then-divides-semicolon : goal.returns-then-divides-semicolon
@@ -13,14 +13,6 @@ returns-then-divides-semicolon c =
       rw (r, b)
           (divider_tally a.self.now.list.now a.self.now.text.now a.k a.d c.requires.1 c.requires.0 s.result
           (rw (c.divides.ensures, s.ensures) at c.if-divides-semicolon.true) s.ensures one),
-      record { semicolons = omega arith; dividers = omega arith; records = omega arith; bytes = omega arith },
-    )
-
-pub returns-in-Opener : goal.returns-in-Opener
-returns-in-Opener c =
-    let a = c.args in
-    let (s, (v, (_, _))) = c.default-in-Opener.ensures in (
-      rw (s, v) (group_tally a.self.now.list.now a.self.now.text.now a.k a.d c.requires.1 c.requires.0 (grind arith)),
       record { semicolons = omega arith; dividers = omega arith; records = omega arith; bytes = omega arith },
     )
 
