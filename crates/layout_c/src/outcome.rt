@@ -9,8 +9,9 @@ use errors::Refusal;
 fn code(r: Refusal) -> u64
     ensures { result ≡ code_of (refused_as r) % 2 ^ 64 }
 {
-    ((r.number as u64) * 0x1_0000_0000)
-        .wrapping_add((r.concatenation as u64) * 0x1_0000 + (r.component as u64))
+    ((r.number as u64) * 0x1_0000_0000).wrapping_add(
+        (r.concatenation as u64) * 0x1_0000 + (r.component as u64),
+    )
 }
 
 // The answer's length, or a refusal. The remainder is the number itself for what a run comes to.

@@ -1,5 +1,5 @@
 -- What cannot be.
-use Rattle.std.proofs.Common.{◌≡◌, refl, arith}
+use Rattle.std.proofs.Common.{◌≡◌, arith}
 use Rattle.definition.specs.Prelude.{ℕ, true, false, none, some}
 use Rattle.definition.specs.Basics.{ok, Refusal, refused}
 

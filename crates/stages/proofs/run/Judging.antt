@@ -2,8 +2,8 @@
 use Rattle.std.specs.Prelude.{◌∷◌}
 use Rattle.std.proofs.Common.{◌≡◌, sym, refl, ap, ap₂, ◌∙◌}
 use lib.ListN.{length-map}
-use Rattle.definition.specs.Prelude.{ℕ, suc, true, List, [], map, length}
-use Rattle.definition.specs.Basics.{ok, ◌>>=◌}
+use Rattle.definition.specs.Prelude.{ℕ, suc, true, List, [], length}
+use Rattle.definition.specs.Basics.{ok}
 use Rattle.definition.specs.Image.{Placed}
 use Rattle.definition.specs.Component.{Component}
 use Rattle.definition.specs.Concatenation.{Concatenation, unchecked, check_from, check, stage3}

@@ -1,5 +1,5 @@
 -- Stages 1 and 2 keep the sizes of a tree, and leave every component fixed.
-use Rattle.std.specs.Prelude.{◌+◌, ◌*◌, ◌&&◌, ◌∷◌}
+use Rattle.std.specs.Prelude.{◌+◌, ◌&&◌, ◌∷◌}
 use Rattle.std.proofs.Common.{◌≡◌, ◌≤◌, sym, refl, ap, ◌∙◌, arith}
 use lib.ListN.{length-map}
 use Rattle.definition.specs.Prelude.{ℕ, suc, Bool, List, [], map, length}

@@ -5,7 +5,7 @@ use Rattle.std.proofs.lemmas.List.Edits.{sets, sets-eq}
 use borrow.Rule.Slice.PartMut.{put_mid}
 use lib.Pow.{field, mod-mod-pow, high, low}
 use lib.Seq.{drop-drop}
-use Rattle.definition.specs.Prelude.{ℕ, suc, Bool, true, false, none, some, List, [], length, ltb, pos, negsuc}
+use Rattle.definition.specs.Prelude.{ℕ, suc, Bool, true, false, List, [], length, ltb, pos, negsuc}
 use Rattle.definition.specs.Basics.{is_empty, tab}
 use Rattle.definition.specs.Tree.{u32}
 use Rattle.definition.specs.Answer.{text_bytes, twos, usb_bytes}

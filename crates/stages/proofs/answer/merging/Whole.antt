@@ -1,5 +1,5 @@
 -- Whole bytes behind others: they are copied as they are.
-use Rattle.std.specs.Prelude.{◌+◌, ◌*◌, ◌-◌, ◌/◌, ◌%◌, ◌^◌, ◌++◌}
+use Rattle.std.specs.Prelude.{◌+◌, ◌*◌, ◌/◌, ◌%◌, ◌^◌, ◌++◌}
 use Rattle.std.proofs.Common.{◌≡◌, ◌<◌, ◌≤◌, sym, ap, ◌∙◌, zero-add, arith, length-append, get_or-append-add}
 use lib.ListN.{get_or-append}
 use lib.Seq.{sets}

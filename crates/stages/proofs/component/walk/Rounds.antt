@@ -3,7 +3,7 @@ use Rattle.std.specs.Prelude as Std
 use Rattle.std.specs.Prelude.{Ok, Err, ◌+◌, ◌&&◌, ◌∷◌}
 use Rattle.std.proofs.Common.{◌≡◌, ◌<◌, ◌≤◌, sym, refl, ap, ◌∙◌, subst, add-zero, arith, length-append, take-take}
 use Rattle.definition.specs.Prelude.{ℕ, suc, List, [], length, take, eqb}
-use Rattle.definition.specs.Basics.{Result, ok, ◌>>=◌, with_places, is_empty, joined}
+use Rattle.definition.specs.Basics.{ok, ◌>>=◌, with_places, is_empty, joined}
 use Rattle.definition.specs.Image.{Placed, Unparsed}
 use Rattle.definition.specs.Tree.{Node, recs_of, all_recs, literals_of, text_of, packed}
 use Rattle.definition.specs.Component as Def

@@ -1,6 +1,6 @@
 -- `stages::run::later` meets its contract: stage 3, and what comes behind it. Assumes nothing.
 use Rattle.std.specs.Prelude.{Err}
-use Rattle.std.proofs.Common.{◌≡◌, ◌≤◌, rules, arith}
+use Rattle.std.proofs.Common.{◌≡◌, rules, arith}
 use Rattle.stages.proofs.run.Outcomes.{read_counts, few_heads, judged_fits, later_on, later_off}
 use Rattle.stages.proofs.run.later.Goals as goal
 

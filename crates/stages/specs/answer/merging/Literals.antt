@@ -4,7 +4,7 @@ use Rattle.std.proofs.Common.{ap, add-zero, suc-add}
 use Rattle.std.proofs.Math.Nat.{add-suc}
 use native.Mathlib.Omega.{arith}
 use Rattle.std.proofs.lemmas.List.Edits.{sets}
-use Rattle.definition.specs.Prelude.{ℕ, zero, suc, some, List, [], length, take, drop, pos}
+use Rattle.definition.specs.Prelude.{ℕ, zero, suc, some, List, length, take, drop, pos}
 use Rattle.definition.specs.Basics.{tab}
 use Rattle.definition.specs.Image.{bytes_for}
 use Rattle.definition.specs.Tree.{packed}

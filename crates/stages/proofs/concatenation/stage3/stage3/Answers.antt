@@ -1,4 +1,4 @@
-use Rattle.std.proofs.Common.{rules, ◌≡◌, ◌-◌, length, take, ◌∙◌, zero-add, arith, Err}
+use Rattle.std.proofs.Common.{rules, ◌≡◌, length, take, ◌∙◌, zero-add, arith, Err}
 use Rattle.definition.specs.Basics.{joined, refusal_of}
 use Rattle.definition.specs.Concatenation.{stage3}
 use Rattle.stages.specs.token_tree.Table.{tree_in}

@@ -1,4 +1,4 @@
-use Rattle.std.proofs.Common.{◌||◌, true, false, sym, ap, ◌∙◌}
+use Rattle.std.proofs.Common.{◌||◌, sym, ap, ◌∙◌}
 use Rattle.stages.proofs.ranges.literal.Whole.{filler_passed, filler_open}
 use Rattle.stages.proofs.ranges.types.Usbr.simplify_filler.Goals as goal
 
