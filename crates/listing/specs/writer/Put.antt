@@ -1,12 +1,12 @@
 -- Writing at a place of a buffer: as much as fits is written, and the place after it is counted up to 2^64 - 1, the greatest usize.
 use Rattle.std.specs.Prelude.{◌≡◌, refl, ◌≤◌, ◌<◌, min, set, ◌+◌, ◌-◌, ◌^◌, ◌∷◌, ◌++◌}
-use Rattle.std.proofs.Common.{sym, ap, ◌∙◌, append-nil, le_refl, add_assoc, arith, length-append, take-append-drop, drop_of_length-le, length-take-le, take_all, le-leb, leb-true, leb-false}
+use Rattle.std.proofs.Common.{sym, ap, ◌∙◌, append-nil, le_refl, add_assoc, arith, length-append, take-append-drop, drop_of_length-le, length-take-le, take_all, le-leb, leb-true, leb-false, add-one, take-suc}
 use Rattle.std.proofs.lemmas.List.Edits.{sets}
 use Rattle.std.proofs.Math.Seq.{length-sets, set_out}
 use Rattle.std.proofs.lemmas.Bool.{lt-leb}
 use Rattle.laws.specs.Sets.{sets_append, sets_past, sets_front}
 use Rattle.laws.specs.Tests.{by_test}
-use Rattle.definition.specs.Prelude.{ℕ, true, false, List, [], length, take, drop, leb}
+use Rattle.definition.specs.Prelude.{ℕ, true, false, List, [], length, get_or, take, drop, leb}
 
 -- a place, or the greatest usize where it is beyond
 abbrev pub capped : ℕ → ℕ
@@ -26,6 +26,10 @@ capped_small n h = omega arith
 
 pub capped_large : (n : ℕ) → 2 ^ 64 ≤ n → capped n ≡ 2 ^ 64 - 1
 capped_large n h = omega arith
+
+by_size : {G : Type 0} (n : ℕ) → (n < 2 ^ 64 → G) → (2 ^ 64 ≤ n → G) → G
+by_size n f g =
+    by_test (leb n (2 ^ 64 - 1)) (λ t. f (omega (arith, leb-true n (2 ^ 64 - 1) t))) (λ t. g (omega (arith, leb-false n (2 ^ 64 - 1) t)))
 
 pub capped_add : (a b : ℕ) → capped (capped a + b) ≡ capped (a + b)
 capped_add a b = omega arith
@@ -87,6 +91,11 @@ pub ◌⨾◌ : {l m o a b : List ℕ} {at r q : ℕ} → Put l at a m r → Put
       place = y.place ∙ rw (x.place, length-append, ← add_assoc) (capped_add (at + length a) (length b));
       room = x.room;
     }
+
+-- the bytes of a list, one by one
+pub put_next : {l m o : List ℕ} {at r q : ℕ} (s : List ℕ) (i : ℕ) → i < length s → Put l at (take i s) m r → Put m r (get_or s i 0 ∷ []) o q
+    → Put l at (take (i + 1) s) o q
+put_next s i h x y = rw (add-one, take-suc s i 0) (x ⨾ y)
 
 -- all bytes of a list
 pub put_all : {l m : List ℕ} {at r : ℕ} (s : List ℕ) (i : ℕ) → i ≤ length s → length s ≤ i → Put l at (take i s) m r → Put l at s m r

@@ -11,6 +11,13 @@ use Rattle.laws.specs.Sets.{sets_append, sets_past}
 use Rattle.laws.specs.Tests.{by_test}
 
 module _ {A : Type 0} where
+  -- one more of the same
+  pub sets_more : (l : List A) (i n : ℕ) (a : A) → slice_set (sets l i (replicate n a)) (i + n) a ≡ sets l i (replicate (n + 1) a)
+  sets_more l i n a =
+      ap (λ (k : ℕ). slice_set (sets l i (replicate n a)) (i + k) a) (sym (length-replicate n a))
+      ∙ sets_append l i (replicate n a) (replicate 1 a)
+      ∙ ap (sets l i) (replicate-append-replicate n 1 a)
+
   -- what is past the end is not written
   pub sets_cut : (l : List A) (i n : ℕ) (a : A) → sets l i (replicate (min n (length l - i)) a) ≡ sets l i (replicate n a)
   sets_cut l i n a =
