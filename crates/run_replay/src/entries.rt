@@ -1,5 +1,5 @@
-// The entries of the files of data/: numbers of 4 bytes, and then the parts whose lengths they are. What an entry came to is None where it is
-// not as told.
+// The entries of the files of data/: numbers of 4 bytes, and then the parts whose lengths they are. What an entry came to is None where it
+// is not as told.
 use crate::compare::judged;
 use crate::counts::Came;
 use image::token_tree::u32_at;

@@ -1,4 +1,4 @@
-// What the programs share of reading, of comparing, and of saying why a call failed, over std's readers and writers. Nothing here allocates.
+// What the programs share of reading, of comparing, and of saying why a call failed, over std's readers and writers. It allocates nothing.
 #![tactic(auto)]
 
 mod entry;
