@@ -38,8 +38,7 @@ pub(crate) fn without_start(run: Run, start: Option<Start>) -> Run
     match start {
         Some(s) if run.r < s.after && s.after < run.stop => Run {
             r: s.after,
-            stop: run.stop,
-            end: run.end,
+            ..run
         },
         _ => run,
     }

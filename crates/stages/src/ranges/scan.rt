@@ -5,7 +5,7 @@ ghost use Rattle.errors.specs.Refused.{reasoned};
 ghost use Rattle.stages.specs.token_tree.Laid.{Laid, Runs};
 ghost use Rattle.stages.specs.ranges.Dots.{found_by, dotted_by, undotted_by, scanned_by, ended_by, dots_in};
 
-use crate::token_tree::{Items, PBind, PText, Tree};
+use crate::token_tree::{Items, PBind, Run, Tree};
 use errors::Reason;
 
 // Where a range is cut: the dots are the records from lo up to hi.
@@ -94,24 +94,18 @@ fn at_stop(d: Dots, stop: PBind) -> Result<Dots, Reason>
 }
 
 // 13, 14; none without dots.
-pub(crate) fn dots_in(
-    image: &[u8],
-    tree: Tree,
-    r: PBind,
-    stop: PBind,
-    end: PText,
-) -> Result<Option<Cut>, Reason>
-    requires { (s : ℕ) × Runs image.now tree stop.0 «end».0 r.0 s }
-    ensures { (base s : ℕ) (is : List Item) → Laid image.now tree base stop.0 «end».0 r.0 s is
-        → reasoned result ≡ dots_in image.now tree r.0 is }
+pub(crate) fn dots_in(image: &[u8], tree: Tree, run: Run) -> Result<Option<Cut>, Reason>
+    requires { (s : ℕ) × Runs image.now tree run.stop.0 run.«end».0 run.r.0 s }
+    ensures { (base s : ℕ) (is : List Item) → Laid image.now tree base run.stop.0 run.«end».0 run.r.0 s is
+        → reasoned result ≡ dots_in image.now tree run.r.0 is }
 {
     let mut d = Dots {
         dots: 0,
         first: PBind(0),
         cut: None,
     };
-    for item in Items::new(image, tree, r, stop, end) {
+    for item in Items::new(image, tree, run) {
         d = scanned(d, item.at, item.next, item.byte)?;
     }
-    Ok(at_stop(d, stop)?.cut)
+    Ok(at_stop(d, run.stop)?.cut)
 }
