@@ -21,9 +21,9 @@ fn cut_both(literal: Bits, x: I128, y: I128, width: Option<I128>) -> Component
 {
     Component {
         c_type: ComponentType::Literal(Bits {
-            at: literal.at,
             from: x.low as u32,
             to: y.low as u32,
+            ..literal
         }),
         range: Usbr {
             start: Usb::zero(),
@@ -52,9 +52,9 @@ fn cut(literal: Bits, m: Simplified) -> Component
     let to = if number { end.x.low as u32 } else { literal.to };
     Component {
         c_type: ComponentType::Literal(Bits {
-            at: literal.at,
             from: 0,
             to,
+            ..literal
         }),
         range: m.range,
         width: m.width,

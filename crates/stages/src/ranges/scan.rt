@@ -53,7 +53,7 @@ fn dotted(d: Dots, r: PBind) -> Result<Dots, Reason>
     Ok(Dots {
         dots: d.dots + 1,
         first: if d.dots == 0 { r } else { d.first },
-        cut: d.cut,
+        ..d
     })
 }
 
@@ -63,7 +63,7 @@ fn undotted(d: Dots) -> Dots
     Dots {
         dots: 0,
         first: PBind(0),
-        cut: d.cut,
+        ..d
     }
 }
 

@@ -36,9 +36,9 @@ fn signed(g: Signs, r: PBind, b: u8) -> Signs
     match b {
         b'+' => Signs { plus: Some(r), ..g },
         b'-' => Signs {
-            plus: g.plus,
             pair: paired(g.pair, g.minus, r),
             minus: Some(r),
+            ..g
         },
         _ => g,
     }

@@ -17,10 +17,7 @@ use numbers::I128;
 fn below_zero(n: Option<I128>) -> bool
     ensures { result ≡ not (passes non_neg (option_of n)) }
 {
-    match n {
-        Some(x) => x.is_negative(),
-        None => false,
-    }
+    n.is_some_and(I128::is_negative)
 }
 
 // 22, 23.

@@ -23,8 +23,7 @@ pub(crate) fn start_of(image: &[u8], tree: Tree, r: PBind) -> PText
     requires { RecordFits image.now tree r.0 }
     ensures { result.0 ≡ start_in image.now tree r.0 }
 {
-    let e = record(image, tree, r);
-    e.start
+    record(image, tree, r).start
 }
 
 // The item behind the item at r: a word's skip is 1.
@@ -32,8 +31,7 @@ pub(crate) fn behind(image: &[u8], tree: Tree, r: PBind) -> PBind
     requires { RecordFits image.now tree r.0 × (r.0 + skip_in image.now tree r.0 < 2 ^ 32) }
     ensures { result.0 ≡ r.0 + skip_in image.now tree r.0 }
 {
-    let e = record(image, tree, r);
-    PBind(r.0 + e.skip)
+    PBind(r.0 + record(image, tree, r).skip)
 }
 
 // The text start at r, or where the run's text ends.

@@ -63,10 +63,7 @@ pub(crate) fn run_of(image: &[u8], t: Tables, r: PBind, records: u32) -> Run
     requires { RunFits image.now t r.0 records }
     ensures { result ≡ run_in image.now t r.0 records }
 {
-    let tree = t.tree;
-    let last = t.last;
-    let tail = t.t;
     let stop = PBind(r.0 + records);
-    let end = start_or(image, tree, stop, last, tail);
+    let end = start_or(image, t.tree, stop, t.last, t.t);
     Run { r, stop, end }
 }

@@ -50,25 +50,11 @@ pub(crate) fn part_of(s: PText, t: PText) -> Part
     }
 }
 
-// Whether the n bytes from p are the n bytes from q.
-fn same_bytes(image: &[u8], p: usize, q: usize, n: usize) -> bool
-    requires { (p + n ≤ length image.now) × (q + n ≤ length image.now) }
-    ensures { result ≡ same_bytes (bytes_at image.now p n) (bytes_at image.now q n) }
-{
-    image[p..p + n] == image[q..q + n]
-}
-
 pub(crate) fn same_text(image: &[u8], tree: Tree, a: Part, b: Part) -> bool
     requires { Room image.now tree a × Room image.now tree b }
     ensures { result ≡ same_bytes (bytes_in image.now tree a) (bytes_in image.now tree b) }
 {
-    if a.len != b.len {
-        return false;
-    }
-    same_bytes(
-        image,
-        tree.text + (a.at.0 as usize),
-        tree.text + (b.at.0 as usize),
-        a.len as usize,
-    )
+    let p = tree.text + (a.at.0 as usize);
+    let q = tree.text + (b.at.0 as usize);
+    image[p..p + a.len as usize] == image[q..q + b.len as usize]
 }

@@ -41,13 +41,8 @@ pub(crate) fn join_align(overall: FillerAlign, this: FillerAlign) -> FillerAlign
         (FillerAlign::None, _) | (_, FillerAlign::None) => FillerAlign::None,
         (FillerAlign::Single, _) => this,
         (_, FillerAlign::Single) => overall,
-        _ => {
-            if overall == this {
-                overall
-            } else {
-                FillerAlign::Multiple
-            }
-        }
+        _ if overall == this => overall,
+        _ => FillerAlign::Multiple,
     }
 }
 
