@@ -6,7 +6,8 @@ ghost use Rattle.stages.specs.in_force.InForce.{part_at, part_in, told_in, told_
 use errors::Refusal;
 use image::token_tree::{text_place, u32_at};
 
-// Where it stands: a place and a length in the image, or the whole default; nothing after a refusal.
+// Where it stands: a place and a length in the image, or the whole default; nothing after a refusal. Three ways with names of their own,
+// and numbers for a place, as the C interface tells them.
 #[derive(Clone, Copy, Debug, PartialEq, Eq)]
 pub enum InForce {
     Nothing,
@@ -14,7 +15,7 @@ pub enum InForce {
     Default,
 }
 
-// What an answer's head says of it: flag 4, and the text's start and length.
+// What an answer's head says of it: flag 4 of its number of flags (document 01), and the text's start and length.
 fn told_in(image: &[u8], answer: &[u8]) -> InForce
     ensures { result ≡ told_in image.now answer.now }
 {

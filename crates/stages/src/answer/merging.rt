@@ -59,7 +59,7 @@ fn lengthen(area: &mut [u8], image: &[u8], b: Bits, s: Merging) -> Merging
     }
 }
 
-// The open run becomes one literal.
+// The open run becomes one literal. Here and in put_other, `as` wants a number that fits: `%` says so of any state.
 fn close(area: &mut [u8], s: Merging) -> Writing
     requires { (ms : List (Placed Def.Component)) × Closable area.old s ms }
     ensures { CloseIs s result area.old area.new }

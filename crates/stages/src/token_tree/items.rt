@@ -45,7 +45,7 @@ pub(crate) fn start_or(image: &[u8], tree: Tree, r: PBind, stop: PBind, end: PTe
     start_of(image, tree, r)
 }
 
-// The last item of a run that has one.
+// The last item of a run that has one. Not by Items, which reads each item's text too: here only skips are.
 pub(crate) fn last_item(image: &[u8], tree: Tree, run: Run) -> PBind
     requires { (run.r.0 < run.stop.0) × ((s : ℕ) × Runs image.now tree run.stop.0 run.«end».0 run.r.0 s) }
     ensures { (base s : ℕ) (i : Item) (is : List Item) → Laid image.now tree base run.stop.0 run.«end».0 run.r.0 s (i ∷ is)

@@ -16,7 +16,8 @@ pub(crate) fn byte_at(image: &[u8], tree: Tree, p: PText) -> u8
     image[tree.text + (p.0 as usize)]
 }
 
-// The byte of an item of one byte, which is a token; 0 of any other.
+// The byte of an item of one byte, which is a token; 0 of any other: no token that is asked for is 0, and an Option would put Some around
+// each byte that it is compared with.
 pub(crate) fn single(image: &[u8], tree: Tree, s: PText, t: PText) -> u8
     requires { (s.0 ≤ t.0) × (tree.text + t.0 ≤ length image.now) }
     ensures { result ≡ single_of image.now (tree.text + s.0) (t.0 - s.0) }
@@ -36,7 +37,7 @@ pub(crate) fn no_text() -> Part
     }
 }
 
-// The text from s to t.
+// The text from s to t. What is only looked at stays two places, as the records give them; a Part is what is kept.
 pub(crate) fn part_of(s: PText, t: PText) -> Part
     requires { s.0 ≤ t.0 }
     ensures { result ≡ part_by s.0 t.0 }
