@@ -42,13 +42,10 @@ pub(crate) fn told_by(image: &[u8], answer: &[u8], outcome: Result<usize, Refusa
 fn image_part<'a>(image: &'a [u8], at: usize, length: usize) -> &'a [u8]
     ensures { result.now ≡ part_at image.now at length }
 {
-    if image.len() < at {
-        return &image[..0];
+    match image.get(at..) {
+        Some(rest) if length <= rest.len() => &rest[..length],
+        _ => &image[..0],
     }
-    if image.len() - at < length {
-        return &image[..0];
-    }
-    &image[at..at + length]
 }
 
 // The starting value in force, handed back as a part of the image or of the default.

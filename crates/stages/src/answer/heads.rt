@@ -75,7 +75,7 @@ fn flags_of(o: Overall, given: bool) -> u32
     flag(o.deterministic, 1) + flag(o.nonzero, 2) + flag(given, 4)
 }
 
-// The head's 32 bytes.
+// The head's 32 bytes. (The text by a match: tried `map_or`, and the proof did not close.)
 pub(crate) fn put_head(area: &mut [u8], c: u32, m: u32, o: Overall, s: Option<Start>)
     requires { 32 ≤ length area.old }
     ensures { area.new ≡ sets area.old 0 (head_of c m (width_number o.width)
