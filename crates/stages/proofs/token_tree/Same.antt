@@ -1,5 +1,5 @@
 -- When two runs of bytes are the same.
-use Rattle.std.proofs.Common.{◌≡◌, ℕ, zero, suc, ◌+◌, ◌-◌, ◌≤◌, Bool, true, false, ◌&&◌, eqb, List, [], ◌∷◌, length, get_or, take, drop, sym, refl, ap, arith, length-drop}
+use Rattle.std.proofs.Common.{◌≡◌, ℕ, zero, suc, ◌+◌, ◌-◌, ◌≤◌, ◌&&◌, eqb, List, [], ◌∷◌, length, get_or, take, drop, sym, refl, ap, arith, length-drop}
 use lib.Pointwise.{pointwise}
 use Rattle.definition.specs.Basics.{same_bytes}
 use Rattle.definition.specs.Image.{padded, bytes_at}

@@ -14,7 +14,7 @@ use crate::token_tree::Tree;
 use errors::Reason;
 use numbers::I128;
 
-// Both bounds are numbers: the bits between them, with the range from 0.
+// Both bounds are numbers, their high halves 0: the bits between them, with the range from 0.
 fn cut_both(literal: Bits, x: I128, y: I128, width: Option<I128>) -> Component
     requires { CutFits x y }
     ensures { result ≡ cut_both_by literal.at x y width }

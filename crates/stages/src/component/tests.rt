@@ -10,7 +10,7 @@ ghost use Rattle.stages.specs.component.Tests.{EndsAt};
 use super::types::{Component, ComponentType};
 use crate::ranges::Usb;
 
-// No end, or one at w.
+// No end, or one at w: by halves, as document 01 has numbers of 128 bits.
 fn ends_at(end: Option<Usb>, w: u32) -> bool
     ensures { EndsAt «end» w result }
 {

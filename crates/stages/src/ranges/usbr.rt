@@ -43,6 +43,7 @@ pub(crate) fn end_val(end: Option<Usb>) -> Option<I128>
     end?.static_val()
 }
 
+// A match: `map` and `transpose` would need a closure over image and tree, and be no plainer.
 fn simplified_end(image: &[u8], tree: Tree, end: Option<Usb>) -> Result<Option<Usb>, Reason>
     requires { (base : ℕ) × EndFits image.now tree base «end» }
     ensures { (base : ℕ) → EndFits image.now tree base «end»

@@ -7,7 +7,8 @@ use super::items::start_or;
 use super::types::{Run, Tables, Tree};
 use crate::token_tree::types::{PBind, PText, PVal};
 
-// Four bytes that are all there. The image check's own (`four_at`) is of its crate alone.
+// Four bytes that are all there, by name: a part of a slice made an array is a conversion that might fail. The image check's own
+// (`four_at`) is of its crate alone.
 pub(crate) fn number_at(s: &[u8], at: usize) -> u32
     requires { at + 4 ≤ length s.now }
     ensures { result ≡ u32_at s.now at }

@@ -1,7 +1,7 @@
 -- The scan for dots: one step, its end, and what the loop keeps.
 use Rattle.std.specs.Prelude as Std
 use Rattle.std.specs.Prelude.{None, Ok, Err, ◌+◌, ◌-◌, ◌∷◌, ◌++◌, if◌then◌else◌}
-use Rattle.std.proofs.Common.{◌≡◌, ◌<◌, ◌≤◌, sym, refl, ap, ◌∙◌, append_assoc, add-one, arith, length-append, ne_eqb, eqb-true}
+use Rattle.std.proofs.Common.{◌≡◌, ◌<◌, ◌≤◌, sym, refl, ap, ◌∙◌, append_assoc, add-one, arith, length-append}
 use borrow.Author.Tests.{eqb-false}
 use Rattle.definition.specs.Prelude.{ℕ, zero, suc, Bool, true, false, Option, none, some, List, [], length, eqb}
 use Rattle.definition.specs.Basics.{Result, ok, refused, refusal_of, ◌>>=◌}
