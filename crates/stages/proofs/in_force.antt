@@ -1,3 +1,2 @@
--- What an answer's head says of the starting value, and parts of an image.
+-- What an answer's head says of the starting value.
 pub mod Heads
-pub mod Parts

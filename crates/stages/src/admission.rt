@@ -18,7 +18,7 @@ fn enough(image: &[u8], area: usize) -> bool
     limits::HEAD_SIZE + limits::CONCATENATION_SIZE * c + limits::COMPONENT_SIZE * n + b <= area
 }
 
-// 1, the image check, 8.
+// 1, the image check, 8. The mode is any number of 32 bits, as the C interface hands it over and the definition tests it.
 pub(crate) fn admitted(image: &[u8], mode: u32, area: usize) -> Result<(), Refusal>
     ensures { result_of result ≡ admitted_of image.now (under mode) area }
 {

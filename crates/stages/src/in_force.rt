@@ -6,7 +6,8 @@ ghost use Rattle.stages.specs.in_force.InForce.{part_at, part_in, told_in, told_
 use errors::Refusal;
 use image::token_tree::{text_place, u32_at};
 
-// Where it stands: a place and a length in the image, or the whole default; nothing after a refusal.
+// Where it stands: a place and a length in the image, or the whole default; nothing after a refusal. Three ways with names of their own,
+// and numbers for a place, as the C interface tells them.
 #[derive(Clone, Copy, Debug, PartialEq, Eq)]
 pub enum InForce {
     Nothing,
@@ -14,7 +15,7 @@ pub enum InForce {
     Default,
 }
 
-// What an answer's head says of it: flag 4, and the text's start and length.
+// What an answer's head says of it: flag 4 of its number of flags (document 01), and the text's start and length.
 fn told_in(image: &[u8], answer: &[u8]) -> InForce
     ensures { result ≡ told_in image.now answer.now }
 {
@@ -41,13 +42,10 @@ pub(crate) fn told_by(image: &[u8], answer: &[u8], outcome: Result<usize, Refusa
 fn image_part<'a>(image: &'a [u8], at: usize, length: usize) -> &'a [u8]
     ensures { result.now ≡ part_at image.now at length }
 {
-    if image.len() < at {
-        return &image[..0];
+    match image.get(at..) {
+        Some(rest) if length <= rest.len() => &rest[..length],
+        _ => &image[..0],
     }
-    if image.len() - at < length {
-        return &image[..0];
-    }
-    &image[at..at + length]
 }
 
 // The starting value in force, handed back as a part of the image or of the default.

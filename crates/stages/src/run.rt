@@ -16,6 +16,7 @@ use crate::token_tree::{number_at, tables_of};
 use errors::Refusal;
 
 // What the stages are told of a call's choices: the mode, and whether it has a default that is not empty. No stage looks at its bytes.
+// The mode stays the number of the C interface: the definition's 40 and 42 compare it so.
 #[derive(Clone, Copy)]
 struct Choices {
     mode: u32,

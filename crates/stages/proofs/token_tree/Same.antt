@@ -1,5 +1,5 @@
 -- When two runs of bytes are the same.
-use Rattle.std.proofs.Common.{◌≡◌, ℕ, zero, suc, ◌+◌, ◌-◌, ◌≤◌, Bool, true, false, ◌&&◌, eqb, List, [], ◌∷◌, length, get_or, take, drop, sym, refl, ap, arith, length-drop}
+use Rattle.std.proofs.Common.{◌≡◌, ℕ, zero, suc, ◌+◌, ◌-◌, ◌≤◌, ◌&&◌, eqb, List, [], ◌∷◌, length, get_or, take, drop, sym, refl, ap, arith, length-drop}
 use lib.Pointwise.{pointwise}
 use Rattle.definition.specs.Basics.{same_bytes}
 use Rattle.definition.specs.Image.{padded, bytes_at}
@@ -11,23 +11,6 @@ first_on m zero [] = refl
 first_on m zero (b ∷ s) = refl
 first_on m (suc k) [] = refl
 first_on m (suc k) (b ∷ s) = first_on m k s
-
-no : {r : Bool} (t : Bool) → false ≡ r → false ≡ (t && r)
-no true h = h
-no false h = refl
-
--- runs of other lengths
-pub lengths_apart : (m n : ℕ) (s t : List ℕ) → (m ≡ n → ⊥) → false ≡ same_bytes (padded m s) (padded n t)
-unfolding padded same_bytes
-lengths_apart zero zero s t f = absurd (f refl)
-lengths_apart zero (suc n) s [] f = refl
-lengths_apart zero (suc n) s (c ∷ t) f = refl
-lengths_apart (suc m) zero [] t f = refl
-lengths_apart (suc m) zero (b ∷ s) t f = refl
-lengths_apart (suc m) (suc n) [] [] f = lengths_apart m n [] [] (λ e. f (ap suc e))
-lengths_apart (suc m) (suc n) [] (c ∷ t) f = no (eqb 0 c) (lengths_apart m n [] t (λ e. f (ap suc e)))
-lengths_apart (suc m) (suc n) (b ∷ s) [] f = no (eqb b 0) (lengths_apart m n s [] (λ e. f (ap suc e)))
-lengths_apart (suc m) (suc n) (b ∷ s) (c ∷ t) f = no (eqb b c) (lengths_apart m n s t (λ e. f (ap suc e)))
 
 -- a text within the image is a part of it
 pub whole : (n : ℕ) (s : List ℕ) → n ≤ length s → padded n s ≡ take n s
@@ -47,6 +30,6 @@ same_is [] (b ∷ t) = refl
 same_is (a ∷ s) [] = refl
 same_is (a ∷ s) (b ∷ t) = ap (λ r. eqb a b && r) (same_is s t)
 
-pub slices_same : (s : List ℕ) (p q n : ℕ) → p + n ≤ length s → q + n ≤ length s
-    → pointwise eqb (take (p + n - p) (drop p s)) (take (q + n - q) (drop q s)) ≡ same_bytes (bytes_at s p n) (bytes_at s q n)
-slices_same s p q n h k = rw (whole_at s p n (p + n - p) h (omega arith), whole_at s q n (q + n - q) k (omega arith)) (same_is _ _)
+pub slices_same : (s : List ℕ) (p q m n : ℕ) → p + m ≤ length s → q + n ≤ length s
+    → pointwise eqb (take (p + m - p) (drop p s)) (take (q + n - q) (drop q s)) ≡ same_bytes (bytes_at s p m) (bytes_at s q n)
+slices_same s p q m n h k = rw (whole_at s p m (p + m - p) h (omega arith), whole_at s q n (q + n - q) k (omega arith)) (same_is _ _)

@@ -1,7 +1,7 @@
 -- The scan for dots in code, and the definition's: the code's state is the definition's, items by their records.
 use Rattle.std.specs.Prelude as Std
 use Rattle.std.specs.Prelude.{Some, None, Ok, Err, ◌≡◌, ◌<◌, ◌≤◌, ◌+◌, ◌-◌, if◌then◌else◌}
-use Rattle.definition.specs.Prelude.{ℕ, Bool, true, false, Option, none, some, List, length, take, drop, eqb}
+use Rattle.definition.specs.Prelude.{ℕ, zero, suc, Bool, true, false, Option, none, some, List, length, take, drop, eqb}
 use Rattle.definition.specs.Basics.{Result, ok, ◌>>=◌}
 use Rattle.definition.specs.Text.{Item}
 use Rattle.definition.specs.Ranges.{Usb, Usbr, Scan, scan_dots, parse_start, parse_end}
@@ -14,38 +14,43 @@ use Rattle.stages.specs.declared.token_tree.types.Tree.{Tree}
 use Rattle.stages.specs.declared.token_tree.types.Run.{Run}
 use Rattle.stages.specs.declared.ranges.scan.Cut.{Cut}
 use Rattle.stages.specs.declared.ranges.scan.Dots.{Dots}
+use Rattle.stages.specs.declared.ranges.scan.Lead.{Lead}
+use Rattle.stages.specs.declared.ranges.scan.Lead.TheVariants as Leads
 use Rattle.stages.specs.declared.ranges.types.Usbr.{Usbr as Now}
 
 abbrev pub cut_by : ℕ → ℕ → Bool → Cut
 cut_by lo hi inclusive = record { lo = record { 0 = lo }; hi = record { 0 = hi }; inclusive = inclusive }
 
-abbrev pub dots_by : ℕ → ℕ → Std.Option Cut → Dots
-dots_by n first cut = record { dots = n; first = record { 0 = first }; cut = cut }
+abbrev pub dots_by : Lead → Std.Option Cut → Dots
+dots_by lead cut = record { lead = lead; cut = cut }
 
 -- ---- the steps
 
-abbrev pub found_with : Std.Option Cut → ℕ → ℕ → Bool → Std.Result Dots Reason
-found_with (Some c) lo hi inclusive = Err Reasons.SecondDots
-found_with None lo hi inclusive = Ok (dots_by 0 0 (Some (cut_by lo hi inclusive)))
+abbrev pub found_by : Std.Option Cut → ℕ → ℕ → Bool → Std.Result Dots Reason
+found_by (Some c) lo hi inclusive = Err Reasons.SecondDots
+found_by None lo hi inclusive = Ok (dots_by Leads.Nothing (Some (cut_by lo hi inclusive)))
 
-abbrev pub found_by : Dots → ℕ → Bool → Std.Result Dots Reason
-found_by d hi inclusive = found_with d.cut d.first.0 hi inclusive
+abbrev pub dotted_by : Lead → Std.Option Cut → ℕ → Std.Result Dots Reason
+dotted_by Leads.Nothing cut at = Ok (dots_by (Leads.One (record { 0 = at })) cut)
+dotted_by (Leads.One first) cut at = Ok (dots_by (Leads.Two first) cut)
+dotted_by (Leads.Two first) cut at = Err Reasons.ThreeDots
 
-abbrev pub dotted_by : Dots → ℕ → Std.Result Dots Reason
-dotted_by d at =
-    if eqb d.dots 2 then Err Reasons.ThreeDots
-    else Ok (dots_by (d.dots + 1) (if eqb d.dots 0 then at else d.first.0) d.cut)
-
-abbrev pub undotted_by : Dots → Dots
-undotted_by d = dots_by 0 0 d.cut
+-- at an item that is no dot: whether it is `=`
+abbrev pub undotted_by : Lead → Std.Option Cut → ℕ → ℕ → Bool → Std.Result Dots Reason
+undotted_by Leads.Nothing cut at next equal = Ok (dots_by Leads.Nothing cut)
+undotted_by (Leads.One first) cut at next equal = Ok (dots_by Leads.Nothing cut)
+undotted_by (Leads.Two first) cut at next equal = if equal then found_by cut first.0 next true else found_by cut first.0 at false
 
 abbrev pub scanned_by : Dots → ℕ → ℕ → ℕ → Std.Result Dots Reason
-scanned_by d at next b =
-    if eqb b 46 then dotted_by d at
-    else if eqb d.dots 2 then (if eqb b 61 then found_by d next true else found_by d at false) else Ok (undotted_by d)
+scanned_by d at next b = if eqb b 46 then dotted_by d.lead d.cut at else undotted_by d.lead d.cut at next (eqb b 61)
+
+abbrev ended_with : Lead → Std.Option Cut → ℕ → Std.Result Dots Reason
+ended_with Leads.Nothing cut stop = Ok (dots_by Leads.Nothing cut)
+ended_with (Leads.One first) cut stop = Ok (dots_by (Leads.One first) cut)
+ended_with (Leads.Two first) cut stop = found_by cut first.0 stop false
 
 abbrev pub ended_by : Dots → ℕ → Std.Result Dots Reason
-ended_by d stop = if eqb d.dots 2 then found_by d stop false else Ok d
+ended_by d stop = ended_with d.lead d.cut stop
 
 -- ---- the definition's state before item n, items by their records
 
@@ -53,9 +58,14 @@ abbrev pub cut_of : List ℕ → Tree → ℕ → Option (ℕ × ℕ) → Bool �
 cut_of image t r none inclusive = None
 cut_of image t r (some f) inclusive = Some (cut_by (place_of image t r f.0) (place_of image t r f.1) inclusive)
 
+-- so many dots, from a record on
+abbrev pub lead_of : ℕ → ℕ → Lead
+lead_of zero first = Leads.Nothing
+lead_of (suc zero) first = Leads.One (record { 0 = first })
+lead_of (suc (suc n)) first = Leads.Two (record { 0 = first })
+
 abbrev pub dots_of : List ℕ → Tree → ℕ → ℕ → Scan → Dots
-dots_of image t r n st =
-    dots_by st.dots (if eqb st.dots 0 then 0 else place_of image t r (n - st.dots)) (cut_of image t r st.found st.inclusive)
+dots_of image t r n st = dots_by (lead_of st.dots (place_of image t r (n - st.dots))) (cut_of image t r st.found st.inclusive)
 
 -- what `dots_in` gives: the definition's scan of the items
 abbrev pub dots_in : List ℕ → Tree → ℕ → List Item → Result (Std.Option Cut)

@@ -1,4 +1,5 @@
-// Numbers written into a lent area, little-endian.
+// Numbers written into a lent area, little-endian. Two functions for two widths: a shared one would take bytes, and each of its callers
+// would write `to_le_bytes`.
 ghost use Rattle.std.specs.Prelude.{◌≡◌, ◌+◌, ◌≤◌, length};
 ghost use Rattle.std.proofs.lemmas.List.Edits.{sets};
 ghost use Rattle.definition.specs.Tree.{u32};

@@ -21,13 +21,8 @@ fn near(k: usize, n: usize) -> bool
 fn whole(area: usize, k: usize, s: usize, from: usize, n: usize) -> bool
     ensures { result ≡ true → (k % 8 ≡ 0) × (from % 8 ≡ 0) × (n % 8 ≡ 0) × (k / 8 + n / 8 ≤ area) × (from / 8 + n / 8 ≤ s) }
 {
-    if k % 8 + from % 8 + n % 8 != 0 {
-        return false;
-    }
-    if area < k / 8 + n / 8 {
-        return false;
-    }
-    from / 8 + n / 8 <= s
+    let even = k % 8 + from % 8 + n % 8 == 0;
+    even && k / 8 + n / 8 <= area && from / 8 + n / 8 <= s
 }
 
 fn copy_bytes(area: &mut [u8], at: usize, s: &[u8], from: usize, n: usize)

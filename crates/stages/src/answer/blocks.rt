@@ -1,4 +1,5 @@
-// The 72 bytes of a component.
+// The 72 bytes of a component. `kind` and `present` are the answer's own numbers (document 01), and `at` counts the area's bytes as the
+// format does: a part of the area for each number would only move the sum into a range.
 ghost use Rattle.std.specs.Prelude.{◌≡◌, ◌+◌, ◌≤◌, ◌++◌, length};
 ghost use Rattle.std.proofs.lemmas.List.Edits.{sets};
 ghost use Rattle.stages.specs.answer.Blocks.{word_bytes, text_block, usb_block, range_block, head_block, literal_block, plain_block, open_block, fixed_block};

@@ -1,4 +1,4 @@
-// The head, and the blocks of the concatenations.
+// The head, and the blocks of the concatenations: flags, aligns, and 0 for no width are the answer's own numbers (document 01).
 ghost use Rattle.std.specs.Prelude.{◌≡◌, ℕ, ◌+◌, ◌*◌, ◌≤◌, List, length};
 ghost use Rattle.std.proofs.lemmas.List.Edits.{sets};
 ghost use Rattle.definition.specs.Basics.{sum};
@@ -19,7 +19,7 @@ use crate::concatenation::alignment::align_number;
 use crate::concatenation::{Concatenation, Overall};
 use crate::token_tree::no_text;
 
-// A flag's number, where it is set.
+// A flag's number, where it is set. `n * u32::from(b)` would be no plainer.
 fn flag(b: bool, n: u32) -> u32
     ensures { (result ≡ flag_of b n) × (result ≤ n) }
 {
@@ -75,7 +75,7 @@ fn flags_of(o: Overall, given: bool) -> u32
     flag(o.deterministic, 1) + flag(o.nonzero, 2) + flag(given, 4)
 }
 
-// The head's 32 bytes.
+// The head's 32 bytes. (The text by a match: tried `map_or`, and the proof did not close.)
 pub(crate) fn put_head(area: &mut [u8], c: u32, m: u32, o: Overall, s: Option<Start>)
     requires { 32 ≤ length area.old }
     ensures { area.new ≡ sets area.old 0 (head_of c m (width_number o.width)

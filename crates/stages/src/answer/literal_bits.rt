@@ -1,5 +1,6 @@
 // Bits moved between slices of bytes, a byte at a time, and bytes set to 0. Bit i of a slice is bit i % 8 of its byte i / 8.
 // Nothing is asked of a caller: a byte that is missing counts as 0, and a bit that has no place is not written.
+// Places are counted in bits, beside their slices: no slice begins within a byte.
 ghost use Rattle.std.specs.Prelude.{◌≡◌, ◌+◌, ◌*◌, ◌/◌, ◌%◌, ◌^◌, ◌<◌, ◌≤◌, min, length, replicate};
 ghost use Rattle.std.proofs.lemmas.List.Edits.{sets};
 ghost use Rattle.stages.specs.answer.literal_bits.Put.{with_bits, put_bits};
@@ -17,6 +18,7 @@ fn bits_at(s: &[u8], from: usize) -> u16
     pair(byte_at(s, q), byte_at(s, q + 1)) >> ((from % 8) as u16)
 }
 
+// A name for the power, for the bounds that the quotients of `blend` need.
 fn two_to(k: usize) -> usize
     requires { k ≤ 8 }
     ensures { (result ≡ 2 ^ k) × (0 < result) }
@@ -88,7 +90,8 @@ fn put_some(dst: &mut [u8], at: usize, src: &[u8], from: usize, n: usize) -> usi
     8 * m
 }
 
-// Bits from .. from + n of src become bits at .. at + n of dst.
+// Bits from .. from + n of src become bits at .. at + n of dst. Nothing where a place would pass 64 bits: that is asked, not the sum, so
+// no `checked_add`. A step is as long as `put_some` says, so the loop is no `for`.
 pub(crate) fn put_bits(dst: &mut [u8], at: usize, src: &[u8], from: usize, n: usize)
     ensures { dst.new ≡ put_bits dst.old at src.now from n }
 {

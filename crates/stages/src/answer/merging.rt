@@ -38,8 +38,8 @@ impl Writing {
     {
         Writing {
             at: self.at.wrapping_add(limits::COMPONENT_SIZE),
-            literals: self.literals,
             offset: self.offset.wrapping_add(bytes_for(bits)),
+            ..self
         }
     }
 }
@@ -54,12 +54,12 @@ fn lengthen(area: &mut [u8], image: &[u8], b: Bits, s: Merging) -> Merging
     let at = s.w.literals.wrapping_add(s.w.offset);
     append_bits(area, at, had, &image[b.at as usize..], b.from as usize, n);
     Merging {
-        w: s.w,
         run: Some(had.wrapping_add(n)),
+        ..s
     }
 }
 
-// The open run becomes one literal.
+// The open run becomes one literal. Here and in put_other, `as` wants a number that fits: `%` says so of any state.
 fn close(area: &mut [u8], s: Merging) -> Writing
     requires { (ms : List (Placed Def.Component)) × Closable area.old s ms }
     ensures { CloseIs s result area.old area.new }
@@ -104,13 +104,10 @@ fn put_other(area: &mut [u8], image: &[u8], c: Component, w: Writing) -> Writing
 fn static_bits(c: Component) -> Option<Bits>
     ensures { StaticBits c result }
 {
-    let ComponentType::Literal(b) = c.c_type else {
-        return None;
-    };
-    if !c.is_static_literal() {
-        return None;
+    match c.c_type {
+        ComponentType::Literal(b) if c.is_static_literal() => Some(b),
+        _ => None,
     }
-    Some(b)
 }
 
 // One component.

@@ -1,4 +1,4 @@
-// Stage 5: the whole answer.
+// Stage 5: the whole answer. `heads` and `kept` are two slices as in stage 4.
 ghost use Rattle.std.specs.Prelude.{ℕ, List, length};
 ghost use Rattle.definition.specs.Concatenation as Def;
 ghost use Rattle.stages.specs.answer.Stage5.{PutAllIs, PutFits, Answers, Stage5Is};

@@ -108,7 +108,7 @@ pub(crate) fn parse_component(
         → Laid image.now tree base run.stop.0 run.«end».0 run.r.0 s is
         → ComponentReads image.now tree base result (parse_items is (bits_at image.now literal.at literal.to)) }
 {
-    let last = last_item(image, tree, run.r, run.stop, run.end);
+    let last = last_item(image, tree, run);
     if record(image, tree, last).kind != 3 {
         return unbracketed(image, tree, run, literal);
     }

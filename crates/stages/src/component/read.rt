@@ -36,11 +36,7 @@ pub(crate) fn without_start(run: Run, start: Option<Start>) -> Run
     ensures { result ≡ without_by run start }
 {
     match start {
-        Some(s) if run.r < s.after && s.after < run.stop => Run {
-            r: s.after,
-            stop: run.stop,
-            end: run.end,
-        },
+        Some(s) if run.r < s.after && s.after < run.stop => Run { r: s.after, ..run },
         _ => run,
     }
 }

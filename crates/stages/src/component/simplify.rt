@@ -14,16 +14,16 @@ use crate::token_tree::Tree;
 use errors::Reason;
 use numbers::I128;
 
-// Both bounds are numbers: the bits between them, with the range from 0.
+// Both bounds are numbers, their high halves 0: the bits between them, with the range from 0.
 fn cut_both(literal: Bits, x: I128, y: I128, width: Option<I128>) -> Component
     requires { CutFits x y }
     ensures { result ≡ cut_both_by literal.at x y width }
 {
     Component {
         c_type: ComponentType::Literal(Bits {
-            at: literal.at,
             from: x.low as u32,
             to: y.low as u32,
+            ..literal
         }),
         range: Usbr {
             start: Usb::zero(),
@@ -52,9 +52,9 @@ fn cut(literal: Bits, m: Simplified) -> Component
     let to = if number { end.x.low as u32 } else { literal.to };
     Component {
         c_type: ComponentType::Literal(Bits {
-            at: literal.at,
             from: 0,
             to,
+            ..literal
         }),
         range: m.range,
         width: m.width,

@@ -8,7 +8,7 @@ ghost use Rattle.stages.specs.token_tree.Grown.{Grown};
 ghost use Rattle.stages.specs.component.Start.{records_before, RecordsFit, before_by, colon_place, colon_by, ColonAt, PrefixReads, StartReads};
 
 use crate::token_tree::{
-    Items, PBind, PText, PVal, Part, Run, Tables, Tree, components_of, last_item, part_of, record,
+    Items, PBind, PVal, Part, Run, Tables, Tree, components_of, last_item, part_of, record,
     records_of, run_of, start_of,
 };
 use errors::{Reason, Refusal};
@@ -42,14 +42,14 @@ fn opened(seen: Option<PBind>, at: PBind) -> Option<PBind>
     }
 }
 
-// The record of the single colon among the items from r up to stop.
-fn colon_in(image: &[u8], tree: Tree, r: PBind, stop: PBind, end: PText) -> Option<PBind>
-    requires { (s : ℕ) × Runs image.now tree stop.0 «end».0 r.0 s }
-    ensures { (base s : ℕ) (is : List Item) → Laid image.now tree base stop.0 «end».0 r.0 s is
-        → result ≡ colon_place image.now tree r.0 (split_colon is) }
+// The record of the single colon among a run's items.
+fn colon_in(image: &[u8], tree: Tree, run: Run) -> Option<PBind>
+    requires { (s : ℕ) × Runs image.now tree run.stop.0 run.«end».0 run.r.0 s }
+    ensures { (base s : ℕ) (is : List Item) → Laid image.now tree base run.stop.0 run.«end».0 run.r.0 s is
+        → result ≡ colon_place image.now tree run.r.0 (split_colon is) }
 {
     let mut seen = None;
-    for item in Items::new(image, tree, r, stop, end) {
+    for item in Items::new(image, tree, run) {
         let colon = item.byte == b':';
         if colon {
             seen = opened(seen, item.at);
@@ -60,28 +60,27 @@ fn colon_in(image: &[u8], tree: Tree, r: PBind, stop: PBind, end: PText) -> Opti
     seen
 }
 
-// The text from record r up to a colon, before the record `to`, of component k: 10.
+// The text of a run up to a colon, of component k: 10.
 fn value_before(
     image: &[u8],
     tree: Tree,
     k: PVal,
-    r: PBind,
+    run: Run,
     colon: Option<PBind>,
-    to: PBind,
 ) -> Result<Option<Start>, Refusal>
-    requires { ColonAt image.now tree r.0 colon to.0 }
-    ensures { (base s tail : ℕ) (mid : List Item) → Laid image.now tree base to.0 tail r.0 s mid
-        → colon ≡ colon_place image.now tree r.0 (split_colon mid)
-        → PrefixReads image.now tree base k.0 r.0 (split_colon mid) result }
+    requires { ColonAt image.now tree run.r.0 colon run.stop.0 }
+    ensures { (base s tail : ℕ) (mid : List Item) → Laid image.now tree base run.stop.0 tail run.r.0 s mid
+        → colon ≡ colon_place image.now tree run.r.0 (split_colon mid)
+        → PrefixReads image.now tree base k.0 run.r.0 (split_colon mid) result }
 {
     let Some(colon) = colon else {
         return Ok(None);
     };
     let after = PBind(colon.0 + 1);
-    if after == to {
+    if after == run.stop {
         return Err(Reason::EmptyAfterColon.at(0, k.0));
     }
-    let s = part_of(start_of(image, tree, r), start_of(image, tree, colon));
+    let s = part_of(start_of(image, tree, run.r), start_of(image, tree, colon));
     Ok(Some(Start { after, s }))
 }
 
@@ -93,9 +92,9 @@ fn before_range(image: &[u8], tree: Tree, run: Run, last: PBind) -> Run
     let e = record(image, tree, last);
     if e.kind == 3 {
         return Run {
-            r: run.r,
             stop: last,
             end: e.start,
+            ..run
         };
     }
     run
@@ -107,10 +106,10 @@ fn start_in(image: &[u8], tree: Tree, k: PVal, run: Run) -> Result<Option<Start>
     ensures { (base s : ℕ) (is : List Item) → Laid image.now tree base run.stop.0 run.«end».0 run.r.0 s is
         → PrefixReads image.now tree base k.0 run.r.0 (split_colon (split_range is).mid) result }
 {
-    let last = last_item(image, tree, run.r, run.stop, run.end);
+    let last = last_item(image, tree, run);
     let before = before_range(image, tree, run, last);
-    let colon = colon_in(image, tree, run.r, before.stop, before.end);
-    value_before(image, tree, k, run.r, colon, before.stop)
+    let colon = colon_in(image, tree, before);
+    value_before(image, tree, k, before, colon)
 }
 
 // None where the line has no prefix.

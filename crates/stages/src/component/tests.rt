@@ -10,7 +10,7 @@ ghost use Rattle.stages.specs.component.Tests.{EndsAt};
 use super::types::{Component, ComponentType};
 use crate::ranges::Usb;
 
-// No end, or one at w.
+// No end, or one at w: by halves, as document 01 has numbers of 128 bits.
 fn ends_at(end: Option<Usb>, w: u32) -> bool
     ensures { EndsAt «end» w result }
 {
@@ -24,10 +24,7 @@ impl Component {
     pub(crate) fn is_static_literal(self) -> bool
         ensures { (image : List ℕ) (t : TreeIn) (base : ℕ) → result ≡ is_static_literal (component_of image t base self) }
     {
-        match self.c_type {
-            ComponentType::Literal(_) => self.range.static_range().is_some(),
-            ComponentType::Variable(_) | ComponentType::Filler => false,
-        }
+        matches!(self.c_type, ComponentType::Literal(_)) && self.range.static_range().is_some()
     }
 
     pub(crate) fn is_filler(self) -> bool

@@ -3,7 +3,7 @@ ghost use Rattle.std.specs.Prelude.{◌≡◌, Bool, ◌+◌, ◌<◌, ◌^◌, 
 ghost use Rattle.definition.specs.Overall.{place_from};
 ghost use Rattle.stages.specs.concatenation.Overall.{place_of};
 
-// Its place, counted from n.
+// Its place, counted from n. One loop for three tests: std's `position` counts from 0 in a usize, and each caller would add and cast.
 pub(crate) fn position<T: Copy, F: Fn(T) -> bool>(items: &[T], n: u32, test: F) -> Option<u32>
     requires few { n + length items.now < 2 ^ 32 }
     requires callable { (x : T) → F.pre test x }

@@ -12,6 +12,7 @@ use crate::token_tree::{PVal, components_of};
 use errors::Refusal;
 
 // A concatenation as stage 3 leaves it: where its components stand among those kept, how many are left after merging, and its check.
+// A place and a length, no slice: `kept` is lent to `comps` where it is looked at, and no entry holds it.
 #[derive(Clone, Copy)]
 pub struct Concatenation {
     pub first: PVal,

@@ -1,4 +1,5 @@
 // Stage 4: what the concatenations say together; a filler's place is searched for only where it is told.
+// A mode is the call's number (C interface). `heads` and `kept` stay two slices: a struct of both would be taken apart at every use.
 ghost use Rattle.std.specs.Prelude.{◌≡◌, ℕ, ◌+◌, ◌<◌, ◌≤◌, List, ◌∷◌, length, drop};
 ghost use Rattle.definition.specs.Concatenation as Def;
 ghost use Rattle.definition.specs.Overall.{check_source, overall_from, overall_start, middle_from, opposite_from, stage4 as stage4_of};
@@ -42,7 +43,7 @@ fn overall_of(bare: bool, heads: &[Concatenation], kept: &[Component]) -> Result
     Ok(o)
 }
 
-// 44, of concatenation i.
+// 44, of concatenation i. Like check_source but for test, refusal and definition; what they share is `position`.
 fn middle_at(i: u32, x: Concatenation, kept: &[Component]) -> Result<(), Refusal>
     requires { (image : List ℕ) × (d : Def.Concatenation) × HeadIs image kept.now x d }
     ensures { (image : List ℕ) (d : Def.Concatenation) → HeadIs image kept.now x d → result_of result ≡ middle_at i d }

@@ -5,7 +5,8 @@ ghost use Rattle.stages.specs.concatenation.width.Fitting.{fitting};
 
 use numbers::I128;
 
-// The number without its sign, where it fits 64 bits. (After stage 2 no known width is negative.)
+// The number without its sign, where it fits 64 bits: by halves, as document 01 has numbers of 128 bits. (After stage 2 no known width is
+// negative.)
 fn magnitude(x: I128) -> Option<usize>
     ensures { option_usize result ≡ fitting (unsigned_abs (value_of x)) }
 {

@@ -15,20 +15,14 @@ use numbers::I128;
 fn above(n: Option<I128>, w: u32) -> bool
     ensures { result ≡ not (passes (λ x. int_le x (pos w)) (option_of n)) }
 {
-    match n {
-        Some(x) => I128::from(w as u64) < x,
-        None => false,
-    }
+    n.is_some_and(|x| I128::from(w as u64) < x)
 }
 
 // An end that is 0.
 fn end_zero(end: Option<Usb>) -> bool
     ensures { (image : List ℕ) (t : TreeIn) (base : ℕ) → result ≡ ends_in_zero (end_of image t base «end») }
 {
-    match end {
-        Some(u) => u.is_guaranteed_zero(),
-        None => false,
-    }
+    end.is_some_and(Usb::is_guaranteed_zero)
 }
 
 // 25 to 27, of a range that has an end.

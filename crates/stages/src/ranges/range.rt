@@ -25,7 +25,8 @@ fn parse_start(image: &[u8], tree: Tree, r: PBind, stop: PBind) -> Result<Usb, R
     if r == stop {
         return Ok(Usb::zero());
     }
-    parse_usb(image, tree, r, stop, start_of(image, tree, stop))
+    let end = start_of(image, tree, stop);
+    parse_usb(image, tree, Run { r, stop, end })
 }
 
 // An empty end is none. The run begins behind the dots at record `hi`. "`..=` adds 1 to x of the end if there is one"
@@ -43,7 +44,7 @@ fn parse_end(
     if hi == run.stop {
         return Ok(None);
     }
-    let end = parse_usb(image, tree, hi, run.stop, run.end)?;
+    let end = parse_usb(image, tree, Run { r: hi, ..run })?;
     Ok(Some(if inclusive { end.raised()? } else { end }))
 }
 
@@ -66,7 +67,7 @@ pub(crate) fn parse_range(image: &[u8], tree: Tree, run: Run) -> Result<Option<U
     if run.r == run.stop {
         return Err(Reason::EmptyRange);
     }
-    match dots_in(image, tree, run.r, run.stop, run.end)? {
+    match dots_in(image, tree, run)? {
         Some(d) => ranged(image, tree, run, d),
         None => Ok(None),
     }

@@ -25,6 +25,7 @@ fn side(image: &[u8], tree: Tree, s: PText, t: PText) -> Option<I128>
     number_in(image, tree.text + (s.0 as usize), (t.0 - s.0) as usize)
 }
 
+// `negative` is what the sign's byte says, here and below: each way is one line, so no step is handed in.
 fn joined(negative: bool, l: I128, r: I128) -> Option<I128>
     ensures { option_of result ≡ narrow (summed negative (value_of l) (value_of r)) }
 {

@@ -6,7 +6,7 @@ ghost use Rattle.definition.specs.Ranges.{cut_bound};
 ghost use Rattle.stages.specs.token_tree.Laid.{Laid, Runs};
 ghost use Rattle.stages.specs.ranges.Signs.{Early, paired_by, signed_by, cut_place, signs_in};
 
-use crate::token_tree::{Items, PBind, PText, Tree};
+use crate::token_tree::{Items, PBind, Run, Tree};
 
 // The records of signs: the last plus, the first of the leftmost pair of minuses, the last minus.
 #[derive(Clone, Copy)]
@@ -36,36 +36,36 @@ fn signed(g: Signs, r: PBind, b: u8) -> Signs
     match b {
         b'+' => Signs { plus: Some(r), ..g },
         b'-' => Signs {
-            plus: g.plus,
             pair: paired(g.pair, g.minus, r),
             minus: Some(r),
+            ..g
         },
         _ => g,
     }
 }
 
-fn signs_in(image: &[u8], tree: Tree, r: PBind, stop: PBind, end: PText) -> Signs
-    requires { (s : ℕ) × Runs image.now tree stop.0 «end».0 r.0 s }
-    ensures { (base s : ℕ) (is : List Item) → Laid image.now tree base stop.0 «end».0 r.0 s is
-        → result ≡ signs_in image.now tree r.0 is }
+fn signs_in(image: &[u8], tree: Tree, run: Run) -> Signs
+    requires { (s : ℕ) × Runs image.now tree run.stop.0 run.«end».0 run.r.0 s }
+    ensures { (base s : ℕ) (is : List Item) → Laid image.now tree base run.stop.0 run.«end».0 run.r.0 s is
+        → result ≡ signs_in image.now tree run.r.0 is }
 {
     let mut g = Signs {
         plus: None,
         pair: None,
         minus: None,
     };
-    for item in Items::new(image, tree, r, stop, end) {
+    for item in Items::new(image, tree, run) {
         g = signed(g, item.at, item.byte);
     }
     g
 }
 
 // The record of the sign that a bound is cut at.
-pub(crate) fn cut_in(image: &[u8], tree: Tree, r: PBind, stop: PBind, end: PText) -> Option<PBind>
-    requires { (s : ℕ) × Runs image.now tree stop.0 «end».0 r.0 s }
-    ensures { (base s : ℕ) (is : List Item) → Laid image.now tree base stop.0 «end».0 r.0 s is
-        → result ≡ cut_place image.now tree r.0 (cut_bound is) }
+pub(crate) fn cut_in(image: &[u8], tree: Tree, run: Run) -> Option<PBind>
+    requires { (s : ℕ) × Runs image.now tree run.stop.0 run.«end».0 run.r.0 s }
+    ensures { (base s : ℕ) (is : List Item) → Laid image.now tree base run.stop.0 run.«end».0 run.r.0 s is
+        → result ≡ cut_place image.now tree run.r.0 (cut_bound is) }
 {
-    let g = signs_in(image, tree, r, stop, end);
+    let g = signs_in(image, tree, run);
     g.plus.or(g.pair).or(g.minus)
 }

@@ -62,7 +62,7 @@ impl Usb {
             → UsbReads image t base result (raised_one (usb_of image t base self)) }
     {
         let x = self.x.checked_add(I128::ONE).ok_or(Reason::BoundOverflow)?;
-        Ok(Usb { s: self.s, x })
+        Ok(Usb { x, ..self })
     }
 
     // The number of a bound without a text.

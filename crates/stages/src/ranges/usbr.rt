@@ -17,10 +17,7 @@ use numbers::I128;
 fn below_zero(n: Option<I128>) -> bool
     ensures { result ≡ not (passes non_neg (option_of n)) }
 {
-    match n {
-        Some(x) => x.is_negative(),
-        None => false,
-    }
+    n.is_some_and(I128::is_negative)
 }
 
 // 22, 23.
@@ -46,6 +43,7 @@ pub(crate) fn end_val(end: Option<Usb>) -> Option<I128>
     end?.static_val()
 }
 
+// A match: `map` and `transpose` would need a closure over image and tree, and be no plainer.
 fn simplified_end(image: &[u8], tree: Tree, end: Option<Usb>) -> Result<Option<Usb>, Reason>
     requires { (base : ℕ) × EndFits image.now tree base «end» }
     ensures { (base : ℕ) → EndFits image.now tree base «end»

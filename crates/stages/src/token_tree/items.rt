@@ -7,9 +7,8 @@ ghost use Rattle.stages.specs.token_tree.Laid.{Laid, Runs, place_of};
 ghost use Rattle.stages.specs.token_tree.Items.{Walks, Steps};
 
 use super::text::single;
-use super::types::{Entry, Tree};
+use super::types::{Entry, PBind, PText, Run, Tree};
 use super::walker::read_at;
-use crate::token_tree::types::{PBind, PText};
 
 // Record r.
 pub(crate) fn record(image: &[u8], tree: Tree, r: PBind) -> Entry
@@ -24,8 +23,7 @@ pub(crate) fn start_of(image: &[u8], tree: Tree, r: PBind) -> PText
     requires { RecordFits image.now tree r.0 }
     ensures { result.0 ≡ start_in image.now tree r.0 }
 {
-    let e = record(image, tree, r);
-    e.start
+    record(image, tree, r).start
 }
 
 // The item behind the item at r: a word's skip is 1.
@@ -33,8 +31,7 @@ pub(crate) fn behind(image: &[u8], tree: Tree, r: PBind) -> PBind
     requires { RecordFits image.now tree r.0 × (r.0 + skip_in image.now tree r.0 < 2 ^ 32) }
     ensures { result.0 ≡ r.0 + skip_in image.now tree r.0 }
 {
-    let e = record(image, tree, r);
-    PBind(r.0 + e.skip)
+    PBind(r.0 + record(image, tree, r).skip)
 }
 
 // The text start at r, or where the run's text ends.
@@ -48,15 +45,15 @@ pub(crate) fn start_or(image: &[u8], tree: Tree, r: PBind, stop: PBind, end: PTe
     start_of(image, tree, r)
 }
 
-// The last item of a run that has one.
-pub(crate) fn last_item(image: &[u8], tree: Tree, r: PBind, stop: PBind, end: PText) -> PBind
-    requires { (r.0 < stop.0) × ((s : ℕ) × Runs image.now tree stop.0 «end».0 r.0 s) }
-    ensures { (base s : ℕ) (i : Item) (is : List Item) → Laid image.now tree base stop.0 «end».0 r.0 s (i ∷ is)
-        → result.0 ≡ place_of image.now tree r.0 (length is) }
+// The last item of a run that has one. Not by Items, which reads each item's text too: here only skips are.
+pub(crate) fn last_item(image: &[u8], tree: Tree, run: Run) -> PBind
+    requires { (run.r.0 < run.stop.0) × ((s : ℕ) × Runs image.now tree run.stop.0 run.«end».0 run.r.0 s) }
+    ensures { (base s : ℕ) (i : Item) (is : List Item) → Laid image.now tree base run.stop.0 run.«end».0 run.r.0 s (i ∷ is)
+        → result.0 ≡ place_of image.now tree run.r.0 (length is) }
 {
-    let mut at = r;
-    let mut next = behind(image, tree, r);
-    while next < stop {
+    let mut at = run.r;
+    let mut next = behind(image, tree, at);
+    while next < run.stop {
         at = next;
         next = behind(image, tree, at);
     }
@@ -83,21 +80,21 @@ pub struct Seen {
 }
 
 impl<'a> Items<'a> {
-    // The items from record r up to stop.
-    pub(crate) fn new(image: &'a [u8], tree: Tree, r: PBind, stop: PBind, end: PText) -> Items<'a>
-        requires { (s : ℕ) × Runs image.now tree stop.0 «end».0 r.0 s }
+    // The items of a run.
+    pub(crate) fn new(image: &'a [u8], tree: Tree, run: Run) -> Items<'a>
+        requires { (s : ℕ) × Runs image.now tree run.stop.0 run.«end».0 run.r.0 s }
         ensures walks { Walks result }
-        ensures is { result ≡ record { image = image.entry; tree = tree; at = r; s = result.s; stop = stop; «end» = «end» } }
-        ensures text { result.s.0 ≡ start_or image.now tree r.0 stop.0 «end».0 }
+        ensures is { result ≡ record { image = image.entry; tree = tree; at = run.r; s = result.s; stop = run.stop; «end» = run.«end» } }
+        ensures text { result.s.0 ≡ start_or image.now tree run.r.0 run.stop.0 run.«end».0 }
     {
-        let s = start_or(image, tree, r, stop, end);
+        let s = start_or(image, tree, run.r, run.stop, run.end);
         Items {
             image,
             tree,
-            at: r,
+            at: run.r,
             s,
-            stop,
-            end,
+            stop: run.stop,
+            end: run.end,
         }
     }
 }

@@ -1,4 +1,4 @@
-// The header's counts and tables, by direct loads.
+// The header's counts and tables, by direct loads at the places that document 01 gives.
 ghost use Rattle.std.specs.Prelude.{◌≡◌, ◌+◌, ◌*◌, ◌^◌, ◌<◌, ◌≤◌, length};
 ghost use Rattle.definition.specs.Image.{u32_at, component_count};
 ghost use Rattle.stages.specs.token_tree.Table.{tables_in, RunFits, run_in};
@@ -7,6 +7,8 @@ use super::items::start_or;
 use super::types::{Run, Tables, Tree};
 use crate::token_tree::types::{PBind, PText, PVal};
 
+// Four bytes that are all there, by name: a part of a slice made an array is a conversion that might fail. The image check's own
+// (`four_at`) is of its crate alone.
 pub(crate) fn number_at(s: &[u8], at: usize) -> u32
     requires { at + 4 ≤ length s.now }
     ensures { result ≡ u32_at s.now at }
@@ -43,7 +45,7 @@ pub(crate) fn components_of(image: &[u8], i: u32) -> u32
     number_at(image, 40 + 4 * (i as usize))
 }
 
-// How many records component k has, and the width of its literal.
+// How many records component k has, and the width of its literal: two numbers of one row, each one load.
 pub(crate) fn records_of(image: &[u8], t: Tables, k: PVal) -> u32
     requires { t.components + 8 * k.0 + 8 ≤ length image.now }
     ensures { result ≡ u32_at image.now (t.components + 8 * k.0) }
@@ -63,10 +65,7 @@ pub(crate) fn run_of(image: &[u8], t: Tables, r: PBind, records: u32) -> Run
     requires { RunFits image.now t r.0 records }
     ensures { result ≡ run_in image.now t r.0 records }
 {
-    let tree = t.tree;
-    let last = t.last;
-    let tail = t.t;
     let stop = PBind(r.0 + records);
-    let end = start_or(image, tree, stop, last, tail);
+    let end = start_or(image, t.tree, stop, t.last, t.t);
     Run { r, stop, end }
 }

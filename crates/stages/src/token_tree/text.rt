@@ -16,7 +16,8 @@ pub(crate) fn byte_at(image: &[u8], tree: Tree, p: PText) -> u8
     image[tree.text + (p.0 as usize)]
 }
 
-// The byte of an item of one byte, which is a token; 0 of any other.
+// The byte of an item of one byte, which is a token; 0 of any other: no token that is asked for is 0, and an Option would put Some around
+// each byte that it is compared with.
 pub(crate) fn single(image: &[u8], tree: Tree, s: PText, t: PText) -> u8
     requires { (s.0 ≤ t.0) × (tree.text + t.0 ≤ length image.now) }
     ensures { result ≡ single_of image.now (tree.text + s.0) (t.0 - s.0) }
@@ -36,7 +37,7 @@ pub(crate) fn no_text() -> Part
     }
 }
 
-// The text from s to t.
+// The text from s to t. What is only looked at stays two places, as the records give them; a Part is what is kept.
 pub(crate) fn part_of(s: PText, t: PText) -> Part
     requires { s.0 ≤ t.0 }
     ensures { result ≡ part_by s.0 t.0 }
@@ -50,25 +51,11 @@ pub(crate) fn part_of(s: PText, t: PText) -> Part
     }
 }
 
-// Whether the n bytes from p are the n bytes from q.
-fn same_bytes(image: &[u8], p: usize, q: usize, n: usize) -> bool
-    requires { (p + n ≤ length image.now) × (q + n ≤ length image.now) }
-    ensures { result ≡ same_bytes (bytes_at image.now p n) (bytes_at image.now q n) }
-{
-    image[p..p + n] == image[q..q + n]
-}
-
 pub(crate) fn same_text(image: &[u8], tree: Tree, a: Part, b: Part) -> bool
     requires { Room image.now tree a × Room image.now tree b }
     ensures { result ≡ same_bytes (bytes_in image.now tree a) (bytes_in image.now tree b) }
 {
-    if a.len != b.len {
-        return false;
-    }
-    same_bytes(
-        image,
-        tree.text + (a.at.0 as usize),
-        tree.text + (b.at.0 as usize),
-        a.len as usize,
-    )
+    let p = tree.text + (a.at.0 as usize);
+    let q = tree.text + (b.at.0 as usize);
+    image[p..p + a.len as usize] == image[q..q + b.len as usize]
 }

@@ -1,6 +1,6 @@
-// Places of texts and records.
+// Places of texts and records: numbers, since all stays in the lent image and nothing is copied out.
 
-// A text place, a record number and a component number, kept apart as the crate keeps its pointers.
+// A text place, a record number and a component number, kept apart as the crate keeps its pointers (document 01: three tuple structs).
 #[derive(Clone, Copy, PartialEq, Eq, PartialOrd, Ord)]
 pub struct PText(pub u32);
 
@@ -17,7 +17,7 @@ pub struct Part {
     pub len: u32,
 }
 
-// A record's numbers.
+// A record's numbers, its kind too, as the image has them (document 01).
 #[derive(Clone, Copy)]
 pub struct Entry {
     pub kind: u32,
@@ -25,7 +25,8 @@ pub struct Entry {
     pub skip: u32,
 }
 
-// The bytes where the record table and the text table begin.
+// The bytes where the record table and the text table begin. The image is a parameter beside it: document 01 has the walker hold it, and
+// plain parameters above.
 #[derive(Clone, Copy)]
 pub struct Tree {
     pub records: usize,

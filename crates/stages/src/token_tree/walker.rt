@@ -12,7 +12,7 @@ pub struct Walker<'a> {
     pub at: usize,
 }
 
-// The covered core: a slice and a number.
+// The covered core: a slice and a number (document 01's form, as `read_at` is).
 fn entry_at(image: &[u8], at: usize) -> Entry
     requires { at + 12 ≤ length image.now }
     ensures { Reads image.now at result }

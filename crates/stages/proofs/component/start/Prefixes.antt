@@ -163,8 +163,12 @@ module _ (image : List ℕ) (t : Tree) (run : Run) (last : ℕ) (before : Run) (
   plain : eqb (kind_in image t last) 3 ≡ false → before ≡ run
   plain e = b ∙ rw e refl
 
+  -- it begins where the run does
+  pub begins : before.r.0 ≡ run.r.0
+  begins = by_test (eqb (kind_in image t last) 3) (λ e. rw (bracket e) refl) (λ e. rw (plain e) refl)
+
   pub mid_laid : (base s : ℕ) (is : List Item) → LastAt image t run.stop.0 run.«end».0 run.r.0 last base s is
-      → Laid image t base run.stop.0 run.«end».0 run.r.0 s is → Laid image t base before.stop.0 before.«end».0 run.r.0 s (split_range is).mid
+      → Laid image t base run.stop.0 run.«end».0 run.r.0 s is → Laid image t base before.stop.0 before.«end».0 before.r.0 s (split_range is).mid
   mid_laid base s is a h =
       by_test (eqb (kind_in image t last) 3)
       (λ e.
@@ -179,7 +183,7 @@ module _ (image : List ℕ) (t : Tree) (run : Run) (last : ℕ) (before : Run) (
 
   -- which lies within the image, too
   pub mid_runs : (s : ℕ) (w : Runs image t run.stop.0 run.«end».0 run.r.0 s) → LastAt image t run.stop.0 run.«end».0 run.r.0 last w.base s w.items
-      → Runs image t before.stop.0 before.«end».0 run.r.0 s
+      → Runs image t before.stop.0 before.«end».0 before.r.0 s
   mid_runs s w a =
       let (x, y) = within in
       runs_within w.base (split_range w.items).mid w x y (mid_laid w.base s w.items a w.laid)

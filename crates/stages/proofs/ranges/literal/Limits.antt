@@ -1,6 +1,7 @@
 -- Tests of a number that may be unknown: an end that is 0, a number above a literal's width.
 use Rattle.std.specs.Prelude as Std
-use Rattle.std.specs.Prelude.{Some}
+use Rattle.std.specs.Option.{MatchOption}
+use Rattle.std.specs.Prelude.{Some, None}
 use Rattle.std.proofs.Common.{◌≡◌, Bool, true, false, not, sym, ap, ◌∙◌}
 use Rattle.definition.specs.Prelude.{ℕ, Option, List, ℤ, pos, le_z}
 use Rattle.definition.specs.Component.{is_zero}
@@ -12,9 +13,11 @@ use Rattle.stages.specs.declared.ranges.types.Usb.{Usb}
 
 -- ---- an end that is 0
 
-module _ (image : List ℕ) (t : Tree) (base : ℕ) (e : Std.Option Usb) where
-  pub zero_some : (u : Usb) {b : Bool} → e ≡ Some u → b ≡ is_zero (usb_of image t base u) → b ≡ ends_in_zero (end_of image t base e)
-  zero_some u p h = h ∙ sym (ap (λ (e : Std.Option Usb). ends_in_zero (end_of image t base e)) p)
+pub zero_by : (image : List ℕ) (t : Tree) (base : ℕ) (e : Std.Option Usb) (b : Bool)
+    → MatchOption e (b ≡ false) (λ u. (image : List ℕ) (t : Tree) (base : ℕ) → b ≡ is_zero (usb_of image t base u))
+    → b ≡ ends_in_zero (end_of image t base e)
+zero_by image t base None b h = h
+zero_by image t base (Some u) b h = h image t base
 
 -- ---- above a width
 

@@ -1,21 +1,22 @@
 -- The scan for dots: one step, its end, and what the loop keeps.
 use Rattle.std.specs.Prelude as Std
 use Rattle.std.specs.Prelude.{None, Ok, Err, ◌+◌, ◌-◌, ◌∷◌, ◌++◌, if◌then◌else◌}
-use Rattle.std.proofs.Common.{◌≡◌, ◌<◌, ◌≤◌, sym, refl, ap, ◌∙◌, append_assoc, add-one, arith, length-append, ne_eqb, eqb-true}
+use Rattle.std.proofs.Common.{◌≡◌, ◌<◌, ◌≤◌, sym, refl, ap, ◌∙◌, append_assoc, add-one, arith, length-append}
 use borrow.Author.Tests.{eqb-false}
-use Rattle.definition.specs.Prelude.{ℕ, suc, Bool, true, false, Option, none, some, List, [], length, eqb}
+use Rattle.definition.specs.Prelude.{ℕ, zero, suc, Bool, true, false, Option, none, some, List, [], length, eqb}
 use Rattle.definition.specs.Basics.{Result, ok, refused, refusal_of, ◌>>=◌}
 use Rattle.definition.specs.Text.{Item, is_token}
 use Rattle.definition.specs.Ranges.{Scan, find, scan_step, scan_from, scan_dots}
 use Rattle.laws.specs.Tests.{by_test}
 use Rattle.stages.specs.token_tree.Laid.{Laid, place_of}
 use Rattle.stages.specs.token_tree.Table.{skip_in, single_of, start_or}
-use Rattle.stages.specs.ranges.Dots.{dots_by, found_by, dotted_by, undotted_by, scanned_by, ended_by, cut_of, dots_of, dots_in}
+use Rattle.stages.specs.ranges.Dots.{dots_by, found_by, dotted_by, undotted_by, scanned_by, ended_by, cut_of, lead_of, dots_of, dots_in}
 use Rattle.stages.specs.declared.token_tree.types.Tree.{Tree}
 use Rattle.errors.specs.declared.reasons.Reason.{Reason}
 use Rattle.errors.specs.Refused.{reasoned}
 use Rattle.stages.specs.declared.ranges.scan.Cut.{Cut}
 use Rattle.stages.specs.declared.ranges.scan.Dots.{Dots}
+use Rattle.stages.specs.declared.ranges.scan.Lead.TheVariants as Leads
 use Rattle.stages.proofs.Cases.{never}
 use Rattle.stages.proofs.token_tree.Places.{place_first, place_suc, laid_none, laid_next, laid_from}
 
@@ -36,58 +37,50 @@ module _ (image : List ℕ) (t : Tree) (e : ℕ) where
 
   -- dots found: a second is refused
   found_is : (n k : ℕ) (o : Option (ℕ × ℕ)) (i b : Bool) (hi m : ℕ) → hi ≡ place_of image t e m
-      → reasoned (found_by (dots_of image t e n (state_of 2 o i)) hi b) ≡ moved k (find (state_of 2 o i) (n - 2) m b)
+      → reasoned (found_by (cut_of image t e o i) (place_of image t e (n - 2)) hi b) ≡ moved k (find (state_of 2 o i) (n - 2) m b)
   found_is n k none i b hi m q = rw q refl
   found_is n k (some f) i b hi m q = refl
 
-  first_is : (n d : ℕ) → (if eqb d 0 then place_of image t e n else (if eqb d 0 then 0 else place_of image t e (n - d))) ≡ place_of image t e (n - d)
-  first_is n d =
-      by_test (eqb d 0) (λ q. rw q (ap (place_of image t e) (let z = eqb-true d 0 q in let g : n ≡ n - d = omega (arith, z) in g))) (λ q. rw q refl)
-
-  dotted_is : (n d : ℕ) (o : Option (ℕ × ℕ)) (i : Bool)
-      → reasoned (dotted_by (dots_of image t e n (state_of d o i)) (place_of image t e n))
+  dotted_is : (n d : ℕ) (o : Option (ℕ × ℕ)) (i : Bool) → d ≤ 2
+      → reasoned (dotted_by (lead_of d (place_of image t e (n - d))) (cut_of image t e o i) (place_of image t e n))
       ≡ moved (suc n) (if eqb d 2 then refused (refusal_of 14 0 0) else ok (state_of (suc d) o i))
-  dotted_is n d o i =
-      let s : suc n - suc d ≡ n - d = omega arith in
-      by_test (eqb d 2) (λ q. rw q refl)
-      (λ q. rw (q, first_is n d, add-one d, s, ne_eqb (suc d) 0 (λ z. let y : ◌≡◌ {A = ℕ} (suc d) 0 = z in omega (arith, y))) refl)
+  dotted_is n zero o i few = let s : suc n - 1 ≡ n = omega arith in rw s refl
+  dotted_is n (suc zero) o i few = let s : suc n - 2 ≡ n - 1 = omega arith in rw s refl
+  dotted_is n (suc (suc zero)) o i few = refl
+  dotted_is n (suc (suc (suc d))) o i few = absurd (omega (arith, few))
 
   -- at an item that is no dot: behind two dots it is `=` or not
-  abbrev found_at : ℕ → Scan → Bool → Std.Result Dots Reason
-  found_at n st b =
-      if b then found_by (dots_of image t e n st) (place_of image t e (suc n)) true else found_by (dots_of image t e n st) (place_of image t e n) false
-
   abbrev find_at : ℕ → Scan → Bool → Result Scan
   find_at n st b = if b then find st (n - 2) (n + 1) true else find st (n - 2) n false
 
-  two_dots : (n d : ℕ) (o : Option (ℕ × ℕ)) (i b : Bool) → d ≡ 2 → reasoned (found_at n (state_of d o i) b) ≡ moved (suc n) (find_at n (state_of d o i) b)
-  two_dots n d o i true q = rw q (found_is n (suc n) o i true (place_of image t e (suc n)) (n + 1) (ap (place_of image t e) (sym (add-one n))))
-  two_dots n d o i false q = rw q (found_is n (suc n) o i false (place_of image t e n) n refl)
-
-  undotted_is : (n d : ℕ) (o : Option (ℕ × ℕ)) (i b : Bool)
-      → reasoned (if eqb d 2 then found_at n (state_of d o i) b else Ok (undotted_by (dots_of image t e n (state_of d o i))))
+  undotted_is : (n d : ℕ) (o : Option (ℕ × ℕ)) (i b : Bool) → d ≤ 2
+      → reasoned (undotted_by (lead_of d (place_of image t e (n - d))) (cut_of image t e o i) (place_of image t e n) (place_of image t e (suc n)) b)
       ≡ moved (suc n) (if eqb d 2 then find_at n (state_of d o i) b else ok (state_of 0 o i))
-  undotted_is n d o i b = by_test (eqb d 2) (λ q. rw q (two_dots n d o i b (eqb-true d 2 q))) (λ q. rw q refl)
+  undotted_is n zero o i b few = refl
+  undotted_is n (suc zero) o i b few = refl
+  undotted_is n (suc (suc zero)) o i true few = found_is n (suc n) o i true (place_of image t e (suc n)) (n + 1) (ap (place_of image t e) (sym (add-one n)))
+  undotted_is n (suc (suc zero)) o i false few = found_is n (suc n) o i false (place_of image t e n) n refl
+  undotted_is n (suc (suc (suc d))) o i b few = absurd (omega (arith, few))
 
   -- one step is the definition's
-  step_of : (n d : ℕ) (o : Option (ℕ × ℕ)) (i : Bool) (item : Item) (b : ℕ) → is_token 46 item ≡ eqb b 46 → is_token 61 item ≡ eqb b 61
-      → reasoned (scanned_by (dots_of image t e n (state_of d o i)) (place_of image t e n) (place_of image t e (suc n)) b)
-      ≡ moved (suc n) (scan_step n item (state_of d o i))
-  step_of n d o i item b f g = rw (f, g) (by_test (eqb b 46) (λ q. rw q (dotted_is n d o i)) (λ q. rw q (undotted_is n d o i (eqb b 61))))
-
-  step_is : (n : ℕ) (st : Scan) (item : Item) (b : ℕ) → is_token 46 item ≡ eqb b 46 → is_token 61 item ≡ eqb b 61
+  step_is : (n : ℕ) (st : Scan) (item : Item) (b : ℕ) → st.dots ≤ 2 → is_token 46 item ≡ eqb b 46 → is_token 61 item ≡ eqb b 61
       → reasoned (scanned_by (dots_of image t e n st) (place_of image t e n) (place_of image t e (suc n)) b) ≡ moved (suc n) (scan_step n item st)
-  step_is n st item b f g = step_of n st.dots st.found st.inclusive item b f g
+  step_is n st item b few f g =
+      rw (f, g) (by_test (eqb b 46) (λ q. rw q (dotted_is n st.dots st.found st.inclusive few))
+      (λ q. rw q (undotted_is n st.dots st.found st.inclusive (eqb b 61) few)))
 
   -- and so is the end
-  end_is : (n : ℕ) (st : Scan) (stop : ℕ) → stop ≡ place_of image t e n → reasoned (ended_by (dots_of image t e n st) stop) ≡ moved n (scan_from n [] st)
+  end_of : (n d : ℕ) (o : Option (ℕ × ℕ)) (i : Bool) (stop : ℕ) → d ≤ 2 → stop ≡ place_of image t e n
+      → reasoned (ended_by (dots_of image t e n (state_of d o i)) stop) ≡ moved n (scan_from n [] (state_of d o i))
   unfolding scan_from
-  end_is n st stop q =
-      by_test (eqb st.dots 2) (λ h. rw h (go st.dots st.found st.inclusive (eqb-true st.dots 2 h))) (λ h. rw h refl)
-    where
-      go : (d : ℕ) (o : Option (ℕ × ℕ)) (i : Bool) → d ≡ 2
-          → reasoned (found_by (dots_of image t e n (state_of d o i)) stop false) ≡ moved n (find (state_of d o i) (n - 2) n false)
-      go d o i z = rw z (found_is n n o i false stop n q)
+  end_of n zero o i stop few q = refl
+  end_of n (suc zero) o i stop few q = refl
+  end_of n (suc (suc zero)) o i stop few q = found_is n n o i false stop n q
+  end_of n (suc (suc (suc d))) o i stop few q = absurd (omega (arith, few))
+
+  end_is : (n : ℕ) (st : Scan) (stop : ℕ) → st.dots ≤ 2 → stop ≡ place_of image t e n
+      → reasoned (ended_by (dots_of image t e n st) stop) ≡ moved n (scan_from n [] st)
+  end_is n st stop few q = end_of n st.dots st.found st.inclusive stop few q
 
 -- the dots before an item are two at most
 abbrev Few : Result Scan → Type 0
@@ -123,7 +116,7 @@ module _ (image : List ℕ) (t : Tree) (base stop tail e : ℕ) where
     pub few : st.dots ≤ 2
     pub result : scan_dots is ≡ scan_from (length passed) rest st
 
-  pub scanning_start : (s u : ℕ) (is : List Item) (d : Dots) → d ≡ dots_by 0 0 None → u ≡ start_or image t e stop tail → Laid image t base stop tail e s is
+  pub scanning_start : (s u : ℕ) (is : List Item) (d : Dots) → d ≡ dots_by Leads.Nothing None → u ≡ start_or image t e stop tail → Laid image t base stop tail e s is
       → Scanning is d e u
   scanning_start s u is d p q h =
       record {
@@ -145,7 +138,7 @@ module _ (image : List ℕ) (t : Tree) (base stop tail e : ℕ) where
       let (z, k) = laid_none image t base stop tail at s h.rest l h.laid in
       let n : ℕ = length h.passed in
       ap (λ x. cut_in image t e (reasoned x)) (eq ∙ ap (λ x. ended_by x stop) h.state)
-      ∙ ap (cut_in image t e) (end_is image t e n h.st stop (sym k ∙ h.here)
+      ∙ ap (cut_in image t e) (end_is image t e n h.st stop h.few (sym k ∙ h.here)
       ∙ ap (moved image t e n) (ap (λ r. scan_from n r h.st) (sym z) ∙ sym h.result))
       ∙ cut_is image t e n (scan_dots is)
 
@@ -192,5 +185,5 @@ module _ (image : List ℕ) (t : Tree) (base stop tail e : ℕ) where
       (h.result ∙ ap (λ r. scan_from n r h.st) f.parts ∙ scan_cons n i f.rest h.st)
       (ap reasoned (eq ∙ ap (λ x. scanned_by x at next b) h.state ∙ ap (λ x. scanned_by (dots_of image t e n h.st) x next b) pl
       ∙ ap (λ x. scanned_by (dots_of image t e n h.st) (place_of image t e n) x b) pn)
-      ∙ step_is image t e n h.st i b (f.token 46 b (omega arith) eb) (f.token 61 b (omega arith) eb))
+      ∙ step_is image t e n h.st i b h.few (f.token 46 b (omega arith) eb) (f.token 61 b (omega arith) eb))
       (step_few n i h.st h.few)

@@ -14,7 +14,7 @@ pub enum FillerAlign {
     Multiple,
 }
 
-// 0 to 5, as in the answer.
+// 0 to 5, as in the answer: a name for the cast, which says that it is the definition's number.
 pub(crate) fn align_number(a: FillerAlign) -> u32
     ensures { result ≡ align_number (align_of a) }
 {
@@ -41,13 +41,8 @@ pub(crate) fn join_align(overall: FillerAlign, this: FillerAlign) -> FillerAlign
         (FillerAlign::None, _) | (_, FillerAlign::None) => FillerAlign::None,
         (FillerAlign::Single, _) => this,
         (_, FillerAlign::Single) => overall,
-        _ => {
-            if overall == this {
-                overall
-            } else {
-                FillerAlign::Multiple
-            }
-        }
+        _ if overall == this => overall,
+        _ => FillerAlign::Multiple,
     }
 }
 

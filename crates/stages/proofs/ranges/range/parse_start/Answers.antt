@@ -16,7 +16,7 @@ parse_usb-requires c =
     let a = c.args in
     let p = c.requires.1 in (
       runs_some a.image.now a.tree a.stop.0 _ a.r.0 p.0 (eqb-false a.r.0 a.stop.0 (sym c.if-eq.ensures)) p.1,
-      (p.0, runs_to a.image.now a.tree a.stop.0 _ c.start_of.result.0 a.r.0 p.0 c.start_of.ensures p.1),
+      (p.0, runs_to a.image.now a.tree a.stop.0 _ c.start_of-end.result.0 a.r.0 p.0 c.start_of-end.ensures p.1),
     )
 
 pub returns : goal.returns
@@ -26,4 +26,4 @@ returns c base s is h =
     start_some a.image.now a.tree base a.stop.0 _ a.r.0 s is c.parse_usb.result
     (runs_some a.image.now a.tree a.stop.0 _ a.r.0 p.0 (eqb-false a.r.0 a.stop.0 (sym c.if-eq.ensures)) p.1) h
     (c.parse_usb.ensures base s is
-    (subst (λ x. Laid a.image.now a.tree base a.stop.0 x a.r.0 s is) (sym c.start_of.ensures) h))
+    (subst (λ x. Laid a.image.now a.tree base a.stop.0 x a.r.0 s is) (sym c.start_of-end.ensures) h))

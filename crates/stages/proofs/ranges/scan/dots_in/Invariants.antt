@@ -8,6 +8,6 @@ use Rattle.stages.proofs.ranges.scan.dots_in.Given as goal
 
 abbrev pub invariant-loop-item : goal.invariant-loop-item
 invariant-loop-item l =
-    Over l.image l.fn.tree l.fn.stop.0 l.fn.end.0 l.item-iterator
-    × ((base s' : ℕ) (is : List Item) → Laid l.image l.fn.tree base l.fn.stop.0 l.fn.end.0 l.fn.r.0 s' is
-    → Scanning l.image l.fn.tree base l.fn.stop.0 l.fn.end.0 l.fn.r.0 is l.d l.item-iterator.at.0 l.item-iterator.s.0)
+    Over l.image l.fn.tree l.fn.run.stop.0 l.fn.run.end.0 l.item-iterator
+    × ((base s' : ℕ) (is : List Item) → Laid l.image l.fn.tree base l.fn.run.stop.0 l.fn.run.end.0 l.fn.run.r.0 s' is
+    → Scanning l.image l.fn.tree base l.fn.run.stop.0 l.fn.run.end.0 l.fn.run.r.0 is l.d l.item-iterator.at.0 l.item-iterator.s.0)
