@@ -15,7 +15,7 @@ use crate::list::TokenList;
 use errors::{Refusal, TokenReason};
 use image::token_tree::Counts;
 
-// How long an image with these counts and no literal bytes is.
+// How long an image with these counts and no literal bytes is: bytes, by the sizes of document 01's rows.
 fn size_of(h: Counts) -> u64
     ensures { result ≡ 40 + 4 * h.c + 8 * h.n + 12 * h.r + h.t }
 {
