@@ -1,4 +1,4 @@
-// The run for C and Rust (include/layout.h, bindings/).
+// The run for C and Rust (include/layout.h, bindings/). The C interface gives modes, outcomes, refusals and places as numbers, and 0 for none.
 #![tactic(auto)]
 
 mod outcome;
