@@ -1,7 +1,7 @@
 // How often each outcome occurred, and its print.
 use std::io;
 
-// What an entry came to that is as told.
+// What an entry came to that is as told: no Result, as a refusal that is told is as good as an answer.
 #[derive(Clone, Copy)]
 pub(crate) enum Came {
     Accepted,
@@ -25,6 +25,7 @@ pub(crate) struct Counts {
 }
 
 impl Counts {
+    // not Default, which no array of more than 32 has
     pub(crate) const NONE: Counts = Counts {
         accepted: 0,
         refused: [0; NUMBERS],
