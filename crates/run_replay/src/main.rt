@@ -68,7 +68,7 @@ where
 }
 
 fn main(rt: HostRuntime) -> io::Result<()> {
-    let mut counts = Counts::NONE;
+    let mut counts = Counts::default();
     replay_file(&rt, "runs", entries::run, &mut counts)?;
     replay_file(&rt, "cuts", entries::cut, &mut counts)?;
     replay_file(&rt, "defaults", entries::default, &mut counts)?;
