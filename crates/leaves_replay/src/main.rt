@@ -68,6 +68,7 @@ fn same_image(image: &[u8], told: u8) -> bool
     errors::number_of(image::check::check_image(image)) == told as u32
 }
 
+// `from` and `buf` stand side by side: a method of both would lend both, and what was read lies in buf while the rest is read.
 // The next entry of `numbers`, the text's length in 2 bytes, the text and the answer: whether our own is equal.
 fn number_entry<F: Read>(from: &mut F, buf: &mut [u8]) -> Result<bool, NoEntry> {
     let length = u16::from_le_bytes(read_head(from)?);

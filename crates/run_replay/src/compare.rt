@@ -10,7 +10,7 @@ use streams::same_front;
 // Some bytes more than any image asks for: they are never lent. (No heap: each buffer is an array of the greatest length.)
 const AREA: usize = 27100;
 
-// The pattern's byte at a place.
+// The pattern's byte at a place. The remainder first: an `as` may lose nothing.
 fn pattern(i: usize) -> u8 {
     (i % 256) as u8
 }
