@@ -38,7 +38,7 @@ enum Failure {
     Output(io::Error),
 }
 
-// No more than these bytes of an input are looked at. (No heap: each buffer is an array of the greatest length.)
+// No more than these bytes of an input are looked at. No heap: each buffer is an array, and a function so that a clause says its length.
 fn input_buffer() -> [u8; limits::MAX_INPUT]
     ensures { max_input ≡ length result }
 {

@@ -89,7 +89,8 @@ fn image_entry<F: Read>(from: &mut F, buf: &mut [u8]) -> Result<bool, NoEntry> {
 }
 
 // All entries of a file, each read and compared by `entry`. Nothing says that a file ends, so the turns are counted up to a number that no
-// run uses up. run_replay's is alike; its entries come to more than equal or different, and a shared one would be told how to count them.
+// run uses up. This and replay_file are like run_replay's, whose entries come to more than equal or different: shared ones would be told how
+// to count, and what to do where a file is missing.
 fn replay<F: Read, E>(from: &mut F, entry: E, buf: &mut [u8]) -> io::Result<Tally>
 where
     E: Fn(&mut F, &mut [u8]) -> Result<bool, NoEntry>,

@@ -11,7 +11,7 @@ const AREA: usize = 43200;
 // What stands in the area before.
 const BEFORE: u8 = 0xa5;
 
-// Whether the bytes from place n on are as they were.
+// Whether the bytes from place n on are as they were. Not one with run_replay's, whose bytes differ by their place.
 fn untouched(area: &[u8], n: usize) -> bool {
     area.iter().skip(n).all(|b| *b == BEFORE)
 }

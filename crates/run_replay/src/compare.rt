@@ -7,7 +7,7 @@ use crate::counts::Came;
 use errors::Refusal;
 use streams::same_front;
 
-// Some bytes more than any image asks for: they are never lent. (No heap: each buffer is an array of the greatest length.)
+// Some bytes more than any image asks for: they are never lent. No heap: each buffer is an array of the greatest length.
 const AREA: usize = 27100;
 
 // The pattern's byte at a place. The remainder first: an `as` may lose nothing.
@@ -23,7 +23,7 @@ fn untouched(area: &[u8], from: usize) -> bool {
         .all(|(i, byte)| *byte == pattern(i))
 }
 
-// No listing has more bytes than these.
+// No listing has more bytes than these. layout has the same line: streams, which the programs share, would then stand on listing_length.
 fn listing_buffer() -> [u8; limits::MAX_LISTING]
     ensures { longest_listing ≡ length result }
 {
