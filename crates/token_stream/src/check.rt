@@ -26,12 +26,7 @@ impl TokenList<'_> {
     fn each_right(&self) -> bool
         ensures { result ≡ all (token_right self.now.list.now self.now.text.now) (tab (λ k. k) 0 (count self.now.list.now)) }
     {
-        for k in 0..self.count() {
-            if !self.token_right(k) {
-                return false;
-            }
-        }
-        true
+        (0..self.count()).all(|k| self.token_right(k))
     }
 
     fn well_nested(&self) -> bool
