@@ -38,7 +38,7 @@ enum Failure {
     Output(io::Error),
 }
 
-// No more than these bytes of an input are looked at.
+// No more than these bytes of an input are looked at. No heap: each buffer is an array, and a function so that a clause says its length.
 fn input_buffer() -> [u8; limits::MAX_INPUT]
     ensures { max_input ≡ length result }
 {
@@ -103,7 +103,7 @@ fn answer_file(files: &impl Files, out: &mut impl Write, name: &[u8]) -> Result<
     answer_open(&mut file, out)
 }
 
-// Why an argument was not copied.
+// Why an argument was not copied. No From: both types are std's.
 fn argument_error(error: FillError) -> io::Error {
     match error {
         FillError::NotPresent => io::Error::from_raw_os_error(EINVAL),

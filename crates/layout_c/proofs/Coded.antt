@@ -1,17 +1,15 @@
 -- The run's outcome as one number, which is small enough for it, and that of tokens. Assumes nothing.
 use Rattle.std.specs.Prelude as Std
-use Rattle.std.specs.Prelude.{Some, None, unwrap_or, ◌%◌, ◌^◌, if◌then◌else◌}
-use Rattle.std.proofs.Common.{◌≡◌, ◌<◌, refl, ap, ◌∙◌, arith}
-use Rattle.definition.specs.Prelude.{ℕ, Bool, true, false, List, length, leb}
+use Rattle.std.specs.Prelude.{◌%◌, ◌^◌}
+use Rattle.std.proofs.Common.{◌≡◌, ◌<◌, ap, ◌∙◌, arith}
+use Rattle.definition.specs.Prelude.{ℕ, List, length}
 use Rattle.definition.specs.Basics.{Result}
-use Rattle.definition.specs.Listing.{output}
 use Rattle.errors.specs.Refused.{result_of}
 use Rattle.errors.specs.declared.Refusal.{Refusal}
-use Rattle.listing.specs.Outcomes.{filled, written_as}
 use Rattle.definition.specs.Run.{Choices, run, ran_on}
 use Rattle.definition.specs.Tokens.{tokens_on}
 use Rattle.layout_c.specs.outcome.Code.{code_of}
-use Rattle.layout_c.specs.Code.{coded_on, coded_with, tokens_coded, listed_in}
+use Rattle.layout_c.specs.Code.{coded_on, coded_with, tokens_coded}
 use Rattle.stages.specs.in_force.InForce.{place_in}
 use Rattle.stages.specs.declared.in_force.InForce.{InForce}
 use Rattle.layout_c.specs.start.Told.{number_at}
@@ -42,15 +40,3 @@ pub run_told : (image area after start : List ℕ) (how : Choices) (o : Std.Resu
 run_told image area after start how o e n is f at t told =
     let coded = run_coded image area after start how o e n is in
     λ i. ((coded i).0, (coded i).1, (told ∙ ap number_at at) i)
-
--- what `answer` says of its buffer, as one number
-unwrapped : (t : Bool) (a : ℕ) → unwrap_or {T = ℕ} (if t then Some a else None) 0 ≡ (if t then a else 0)
-unwrapped true a = refl
-unwrapped false a = refl
-
-pub listed : (input out out' : List ℕ) (w : Std.Option ℕ) → out' ≡ filled out (output input) → w ≡ written_as (length (output input)) (length out)
-    → (n : ℕ) → n ≡ unwrap_or w 0 → ◌≡◌ {A = ℕ × List ℕ} (n, out') (listed_in input out)
-listed input out out' w shows says n is =
-    let a : n ≡ (if leb (length (output input)) (length out) then length (output input) else 0) =
-    is ∙ ap (λ (o : Std.Option ℕ). unwrap_or o 0) says ∙ unwrapped (leb (length (output input)) (length out)) (length (output input)) in
-    ap (λ (m : ℕ). (m, out')) a ∙ ap (λ (l : List ℕ). ((listed_in input out).0, l)) shows

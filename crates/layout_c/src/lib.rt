@@ -1,4 +1,5 @@
-// The run for C and Rust (include/layout.h, bindings/).
+// The run for C and Rust (include/layout.h, bindings/). The C interface gives modes, outcomes, refusals and places as numbers,
+// 0 for none, and has the parameters side by side.
 #![tactic(auto)]
 
 mod outcome;

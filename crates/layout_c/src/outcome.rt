@@ -1,4 +1,4 @@
-// The outcome of a run as one number, for callers in C.
+// The outcome of a run as one number, for callers in C. No From: neither Result nor Refusal is this crate's.
 ghost use Rattle.std.specs.Prelude.{◌≡◌, ◌%◌, ◌^◌};
 ghost use Rattle.errors.specs.Refused.{refused_as, result_of};
 ghost use Rattle.layout_c.specs.outcome.Code.{code_of};

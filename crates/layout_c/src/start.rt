@@ -1,4 +1,4 @@
-// Where the starting value in force stands as one number, for callers in C.
+// Where the starting value in force stands as one number, for callers in C. No From: neither InForce nor u64 is this crate's.
 ghost use Rattle.std.specs.Prelude.{◌≡◌};
 ghost use Rattle.stages.specs.in_force.InForce.{Lies};
 ghost use Rattle.layout_c.specs.start.Told.{number_at};

@@ -2,6 +2,7 @@
 // differential/ (its README.md, "The files of `leaves`"): texts with the number that the unchanged i128_try_parse reads in them, images
 // with the number that document 01's check gives them, and lists of tokens with the image that the unchanged token_stream_to_ast makes
 // of them. Each entry is read, asked of our own code and compared; an entry that is cut off or too long counts as different.
+// The files give lengths, numbers of refusals and `found`, 1 or 0, as bytes, which agree, same_image and the entries read and compare as such.
 #![tactic(auto)]
 
 mod tokens;
@@ -18,7 +19,7 @@ use std::io::Read;
 use std::rt::Files;
 use streams::{NoEntry, Reason, read_head, read_part};
 
-#[derive(Clone, Copy)]
+#[derive(Clone, Copy, Default)]
 struct Tally {
     equal: u64,
     different: u64,
@@ -67,6 +68,7 @@ fn same_image(image: &[u8], told: u8) -> bool
     errors::number_of(image::check::check_image(image)) == told as u32
 }
 
+// `from` and `buf` stand side by side: a method of both would lend both, and what was read lies in buf while the rest is read.
 // The next entry of `numbers`, the text's length in 2 bytes, the text and the answer: whether our own is equal.
 fn number_entry<F: Read>(from: &mut F, buf: &mut [u8]) -> Result<bool, NoEntry> {
     let length = u16::from_le_bytes(read_head(from)?);
@@ -76,6 +78,7 @@ fn number_entry<F: Read>(from: &mut F, buf: &mut [u8]) -> Result<bool, NoEntry> 
     Ok(same_number(text, &answer))
 }
 
+// Not one with number_entry: length, answer and comparison all differ, and what is left is two calls.
 // The next entry of `images`, the image's length in 4 bytes, the image and the number that the check gives it.
 fn image_entry<F: Read>(from: &mut F, buf: &mut [u8]) -> Result<bool, NoEntry> {
     let length = u32::from_le_bytes(read_head(from)?);
@@ -86,16 +89,14 @@ fn image_entry<F: Read>(from: &mut F, buf: &mut [u8]) -> Result<bool, NoEntry> {
 }
 
 // All entries of a file, each read and compared by `entry`. Nothing says that a file ends, so the turns are counted up to a number that no
-// run uses up.
+// run uses up. This and replay_file are like run_replay's, whose entries come to more than equal or different: shared ones would be told how
+// to count, and what to do where a file is missing.
 fn replay<F: Read, E>(from: &mut F, entry: E, buf: &mut [u8]) -> io::Result<Tally>
 where
     E: Fn(&mut F, &mut [u8]) -> Result<bool, NoEntry>,
     requires { E.IsAlwaysCallable entry }
 {
-    let mut tally = Tally {
-        equal: 0,
-        different: 0,
-    };
+    let mut tally = Tally::default();
     for _turn in 0..1_000_000u64 {
         match entry(from, buf) {
             Ok(true) => tally.equal += 1,

@@ -1,5 +1,5 @@
 // The entries of `tokens`: five numbers of 4 bytes, the lengths of a list of tokens, of its text and of the lent area, 0 or the number of a
-// refusal, and the length of the written image; list, text and image follow.
+// refusal, and the length of the written image; list, text and image follow. same_outcome and judge are told 0 or the number as it stands there.
 use errors::Refusal;
 use image::token_tree::u32_at;
 use std::io::Read;
@@ -11,7 +11,7 @@ const AREA: usize = 43200;
 // What stands in the area before.
 const BEFORE: u8 = 0xa5;
 
-// Whether the bytes from place n on are as they were.
+// Whether the bytes from place n on are as they were. Not one with run_replay's, whose bytes differ by their place.
 fn untouched(area: &[u8], n: usize) -> bool {
     area.iter().skip(n).all(|b| *b == BEFORE)
 }
@@ -28,14 +28,14 @@ fn same_outcome(area: &[u8], outcome: Result<usize, Refusal>, number: u32, image
 // A list and its text, over an area of so many bytes.
 fn judge(list: &[u8], text: &[u8], lent: usize, number: u32, image: &[u8]) -> bool {
     let mut area = [BEFORE; AREA];
-    if area.len() < lent {
+    let Some(room) = area.get_mut(..lent) else {
         return false;
-    }
-    let outcome = token_stream::token_stream_to_image(list, text, &mut area[..lent]);
+    };
+    let outcome = token_stream::token_stream_to_image(list, text, room);
     same_outcome(&area, outcome, number, image)
 }
 
-// The next entry: whether our own answer is equal.
+// The next entry: whether our own answer is equal. The head's numbers are read at their places: it is bytes of a file, as in run_replay.
 pub(crate) fn entry<F: Read>(from: &mut F, buf: &mut [u8]) -> Result<bool, NoEntry> {
     let head: [u8; 20] = read_head(from)?;
     let list = u32_at(&head, 0) as usize;

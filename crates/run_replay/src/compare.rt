@@ -7,18 +7,12 @@ use crate::counts::Came;
 use errors::Refusal;
 use streams::same_front;
 
-// Some bytes more than any image asks for: they are never lent.
+// Some bytes more than any image asks for: they are never lent. No heap: each buffer is an array of the greatest length.
 const AREA: usize = 27100;
 
-// The pattern's byte at a place.
+// The pattern's byte at a place. The remainder first: an `as` may lose nothing.
 fn pattern(i: usize) -> u8 {
     (i % 256) as u8
-}
-
-fn fill(area: &mut [u8]) {
-    for (i, byte) in area.iter_mut().enumerate() {
-        *byte = pattern(i);
-    }
 }
 
 // Whether the pattern still stands from a place on.
@@ -29,7 +23,7 @@ fn untouched(area: &[u8], from: usize) -> bool {
         .all(|(i, byte)| *byte == pattern(i))
 }
 
-// No listing has more bytes than these.
+// No listing has more bytes than these. layout has the same line: streams, which the programs share, would then stand on listing_length.
 fn listing_buffer() -> [u8; limits::MAX_LISTING]
     ensures { longest_listing ≡ length result }
 {
@@ -41,10 +35,9 @@ fn same_listing(image: &[u8], area: &[u8], outcome: Result<usize, Refusal>, told
     ensures { result ≡ true → listing_of image.now area.now outcome ≡ told.now }
 {
     let mut out = listing_buffer();
-    match listing::write_listing(image, area, outcome, &mut out) {
-        Some(n) => same_front(&out, n, told),
-        None => false,
-    }
+    listing::write_listing(image, area, outcome, &mut out).is_some_and(|n| same_front(
+        &out, n, told,
+    ))
 }
 
 // What an outcome came to, where the area holds the pattern beyond the answer, and everywhere after a refusal.
@@ -65,8 +58,7 @@ pub(crate) fn judged<'a>(
     told: &[u8],
 ) -> Option<(Came, &'a [u8])> {
     let (mode, image) = input.split_first()?;
-    let mut area = [0; AREA];
-    fill(&mut area);
+    let mut area: [u8; AREA] = std::array::from_fn(pattern);
     let ran = stages::run::run(image, *mode as u32, default, area.get_mut(..lent)?);
     if !same_listing(image, &area, ran.outcome, told) {
         return None;

@@ -1,7 +1,7 @@
 // How often each outcome occurred, and its print.
 use std::io;
 
-// What an entry came to that is as told.
+// What an entry came to that is as told: no Result, as a refusal that is told is as good as an answer.
 #[derive(Clone, Copy)]
 pub(crate) enum Came {
     Accepted,
@@ -14,7 +14,7 @@ pub(crate) enum Came {
 // A run refuses with the numbers from 1 on, below this one.
 const NUMBERS: usize = 46;
 
-#[derive(Clone, Copy)]
+#[derive(Clone, Copy, Default)]
 pub(crate) struct Counts {
     accepted: u64,
     // by number
@@ -25,14 +25,6 @@ pub(crate) struct Counts {
 }
 
 impl Counts {
-    pub(crate) const NONE: Counts = Counts {
-        accepted: 0,
-        refused: [0; NUMBERS],
-        cut_pairs: 0,
-        under_default: 0,
-        different: 0,
-    };
-
     // Counts an entry: None is one that is not as told.
     pub(crate) fn count(&mut self, came: Option<Came>) {
         match came {

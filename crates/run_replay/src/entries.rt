@@ -1,5 +1,5 @@
 // The entries of the files of data/: numbers of 4 bytes, and then the parts whose lengths they are. What an entry came to is None where it
-// is not as told.
+// is not as told. The heads' numbers are read at their places, as they are bytes of a file; how many there are, and so each call, differs.
 use crate::compare::judged;
 use crate::counts::Came;
 use image::token_tree::u32_at;

@@ -29,7 +29,7 @@ fn entry_buffer() -> [u8; ENTRY]
 }
 
 // All entries of a file, each read and compared by `entry`. Nothing says that a file ends, so the turns are counted up to a number that no
-// run uses up.
+// run uses up. leaves_replay says why its own is another.
 fn replay<F: Read, E>(from: &mut F, entry: E, counts: &mut Counts) -> io::Result<()>
 where
     E: Fn(&mut F, &mut [u8]) -> Result<Option<Came>, NoEntry>,
@@ -68,7 +68,7 @@ where
 }
 
 fn main(rt: HostRuntime) -> io::Result<()> {
-    let mut counts = Counts::NONE;
+    let mut counts = Counts::default();
     replay_file(&rt, "runs", entries::run, &mut counts)?;
     replay_file(&rt, "cuts", entries::cut, &mut counts)?;
     replay_file(&rt, "defaults", entries::default, &mut counts)?;

@@ -3,41 +3,30 @@ ghost use Rattle.std.specs.Prelude.{◌≡◌, true, false, List, ℕ, ◌<◌};
 ghost use Rattle.definition.specs.Basics.{all, tab};
 ghost use Rattle.definition.specs.Tokens.{count, tokens, token_right, tokens_right, nested};
 ghost use Rattle.token_facts.specs.Flat.{none_empty_in};
-ghost use Rattle.token_stream.specs.check.Rules.{rule_of};
 
-use crate::list::TokenList;
-
-// 50 of one token: its numbers, and the length of the lent text.
-fn rule(kind: u32, start: u32, n: u32, size: usize) -> bool
-    ensures { result ≡ rule_of kind start n size }
-{
-    let inside = (start as u64) + (n as u64) <= (size as u64);
-    let text = (1 <= n) & inside & ((kind != 1) | (n == 1));
-    (kind <= 7) & ((2 < kind) | text)
-}
+use crate::list::{Kind, TokenList};
 
 impl TokenList<'_> {
+    // 50 of one token; document 01 has four kinds of groups. Start and length of a group's tokens are not looked at.
     fn token_right(&self, k: usize) -> bool
         requires { k < count self.now.list.now }
         ensures { result ≡ token_right self.now.list.now self.now.text.now k }
     {
-        rule(
-            self.number_at(k),
-            self.start_at(k),
-            self.length_at(k),
-            self.text.len(),
-        )
+        let n = self.length_at(k);
+        let stop = (self.start_at(k) as u64) + (n as u64);
+        let inside = (1 <= n) & (stop <= (self.text.len() as u64));
+        match self.kind_at(k) {
+            Kind::Identifier | Kind::Literal => inside,
+            Kind::Punctuation => inside & (n == 1),
+            Kind::Opener(group) => group <= 4,
+            Kind::Closer => true,
+        }
     }
 
     fn each_right(&self) -> bool
         ensures { result ≡ all (token_right self.now.list.now self.now.text.now) (tab (λ k. k) 0 (count self.now.list.now)) }
     {
-        for k in 0..self.count() {
-            if !self.token_right(k) {
-                return false;
-            }
-        }
-        true
+        (0..self.count()).all(|k| self.token_right(k))
     }
 
     fn well_nested(&self) -> bool
@@ -53,7 +42,7 @@ impl TokenList<'_> {
         d == 0
     }
 
-    // 50.
+    // 50. What asks for it later says so: a type for a list that passed would repeat the methods that 50 itself uses.
     pub(crate) fn tokens_right(&self) -> bool
         ensures { result ≡ tokens_right self.now.list.now self.now.text.now }
     {

@@ -15,7 +15,8 @@ use crate::list::TokenList;
 use errors::{Refusal, TokenReason};
 use image::token_tree::Counts;
 
-// How long an image with these counts and no literal bytes is.
+// How long an image with these counts and no literal bytes is, by the sizes of document 01's rows. image's tables_for has the same sum; it is
+// no public function, and a sum is plainer than a promise more.
 fn size_of(h: Counts) -> u64
     ensures { result ≡ 40 + 4 * h.c + 8 * h.n + 12 * h.r + h.t }
 {

@@ -1,4 +1,5 @@
-// The tokens of a list, 12 bytes each: kind, text start and length.
+// The tokens of a list, 12 bytes each: kind, text start and length. The C interface lends them as bytes, so their numbers are read at their
+// places; and k < count is what an index into them needs.
 ghost use Rattle.std.specs.Prelude.{◌≡◌, ◌+◌, ◌<◌, ◌≤◌, ◌^◌, eqb};
 ghost use Rattle.definition.specs.Tokens.{kind_at, text_start, text_length, count};
 ghost use Rattle.token_stream.specs.list.Kinds.{after_kind, before_kind, KindIs, divides_by, joined_by};
@@ -43,21 +44,14 @@ impl TokenList<'_> {
         self.list.len() / 12
     }
 
-    // The number of a token's kind.
-    pub(crate) fn number_at(&self, k: usize) -> u32
-        requires { k < count self.now.list.now }
-        ensures { result ≡ kind_at self.now.list.now k }
-    {
-        u32_at(self.list, 12 * k)
-    }
-
     pub(crate) fn kind_at(&self, k: usize) -> Kind
         requires { k < count self.now.list.now }
         ensures { KindIs result (kind_at self.now.list.now k) }
     {
-        Kind::from(self.number_at(k))
+        Kind::from(u32_at(self.list, 12 * k))
     }
 
+    // start_at and length_at: one function of the field would be no plainer, its contract would say both.
     pub(crate) fn start_at(&self, k: usize) -> u32
         requires { k < count self.now.list.now }
         ensures { result ≡ text_start self.now.list.now k }
@@ -92,7 +86,7 @@ impl TokenList<'_> {
         }
     }
 
-    // How many are open before token k, d being open after it.
+    // How many are open before token k, d being open after it. Not one with `after`: each arm differs but the last.
     pub(crate) fn before(&self, k: usize, d: usize) -> usize
         requires { (k < count self.now.list.now) × (d < 2 ^ 63) }
         ensures open { result ≡ before_kind d (kind_at self.now.list.now k) }

@@ -1,5 +1,5 @@
 // The image of a list that was admitted: concatenations in order, the components of each from its last to its first. Every table is
-// filled from its start on, and nothing is written twice.
+// filled from its start on, and nothing is written twice. Both loops: how far a step goes is found in its turn, so no `for` counts it.
 mod component;
 mod parts;
 

@@ -2,38 +2,37 @@
 use Rattle.std.specs.Prelude.{◌+◌, ◌-◌, ◌&&◌, ◌∷◌, if◌then◌else◌}
 use mathlib.Core.Path.{◌≡◌, refl, sym, ap, ◌∙◌}
 use Prim.Native.Nat.{◌≤◌, ◌<◌}
-use native.Mathlib.Numerals.{add-one}
 use native.Mathlib.Omega.{arith}
 use borrow.Author.Tests.{eqb-true, ltb-true, ltb-false}
-use Rattle.definition.specs.Prelude.{ℕ, zero, suc, Bool, true, false, List, [], drop, ltb, eqb}
+use Rattle.std.specs.Bool.{MatchBool}
+use Rattle.std.specs.List.{range_with_len, AllWithin, HoldsAt}
+use Rattle.std.proofs.lemmas.List.FromFn.{length-range_with_len, get_or-range_with_len}
+use Rattle.definition.specs.Prelude.{length, ℕ, zero, suc, Bool, true, false, List, [], drop, ltb, eqb}
 use Rattle.definition.specs.Basics.{all, tab}
 use Rattle.definition.specs.Tokens.{Token, single, opener, closer, kind_at, text_at, token_of, token_at, count, tokens, tokens_right, nested}
 use Rattle.laws.specs.Tests.{by_test, and_iff, eqb_apart}
 use Rattle.token_facts.specs.Flat.{after, none_empty_in}
+use Rattle.token_facts.specs.Lists.{all_tab_by, all_tab_at}
 use Rattle.token_stream.specs.list.Kinds.{after_kind}
 use Rattle.token_stream.specs.list.Tokens.{tokens_from, after_token, leaf_of, opener_of, closer_of_lem}
 use Rattle.token_stream.proofs.list.Dividers.{divider, dividing, divider_token, tokens_end}
 
 -- ---- 50, token by token
 
-module _ (p : ℕ → Bool) (k n : ℕ) where
-  each_from : k < n → all p (tab (λ i. i) k (n - k)) ≡ (p k && all p (tab (λ i. i) (k + 1) (n - (k + 1))))
-  unfolding all tab
-  each_from h =
-      let e : n - k ≡ suc (n - (k + 1)) = omega arith in
-      rw (e, add-one k)
-
-  pub each_turn : k < n → p k ≡ true → all p (tab (λ i. i) (k + 1) (n - (k + 1))) ≡ all p (tab (λ i. i) k (n - k))
-  each_turn h t = sym (each_from h ∙ rw t)
-
-  pub each_stop : k < n → p k ≡ false → false ≡ all p (tab (λ i. i) k (n - k))
-  each_stop h t = sym (each_from h ∙ rw t)
-
-  pub each_end : n ≤ k → true ≡ all p (tab (λ i. i) k (n - k))
-  unfolding all tab
-  each_end h =
-      let e : n - k ≡ 0 = omega arith in
-      rw e
+-- what `all` over 0..n tells
+pub each_told : (p : ℕ → Bool) (n : ℕ) (r : Bool)
+    → MatchBool r (AllWithin (λ k. p k ≡ true) (range_with_len 0 n) 0 (length (range_with_len 0 n)))
+    ((k : ℕ) × (k < length (range_with_len 0 n)) × HoldsAt (λ k. p k ≡ false) (range_with_len 0 n) k) → r ≡ all p (tab (λ k. k) 0 n)
+each_told p n true whole =
+    sym (all_tab_by p (λ k. k) 0 n λ k l. rw (get_or-range_with_len 0 n k 0 l) at (whole k 0 (omega arith) (omega (arith, length-range_with_len 0 n))))
+each_told p n false (k, low, stops) =
+    let l : k < n = omega (arith, length-range_with_len 0 n) in
+    by_test (all p (tab (λ k. k) 0 n))
+    (λ t.
+    let right = all_tab_at p (λ k. k) 0 n t k l in
+    let wrong = rw (get_or-range_with_len 0 n k 0 l) at (stops 0) in
+    cc)
+    λ f. sym f
 
 -- ---- 50, nesting
 

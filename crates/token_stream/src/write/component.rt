@@ -1,4 +1,5 @@
-// One component: its records and text, token by token, and its row.
+// One component: its records and text, token by token, and its row. Places, sizes of rows and kinds are numbers: document 01 gives an image
+// as bytes, and these are written there.
 ghost use Rattle.std.specs.Prelude.{◌≡◌, List, [], ◌∷◌, ℕ, ◌+◌, ◌≤◌, ◌<◌, ◌^◌};
 ghost use Rattle.std.proofs.Math.Seq.{slice};
 ghost use Rattle.definition.specs.TokenStream.{Stream};

@@ -1,4 +1,4 @@
-// Where concatenations end and components begin: the dividers at the top level.
+// Where concatenations end and components begin: the dividers at the top level. Not one function: one walk goes forwards, the other backwards.
 ghost use Rattle.std.specs.Prelude.{◌≡◌, true, reverse, ◌+◌, ◌-◌, ◌≤◌, drop};
 ghost use Rattle.std.proofs.Math.Seq.{slice};
 ghost use Rattle.definition.specs.Tokens.{count, tokens, tokens_right};

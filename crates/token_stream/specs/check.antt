@@ -1,2 +1,0 @@
--- 50 of one token, by its numbers.
-pub mod Rules
