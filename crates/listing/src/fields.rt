@@ -61,7 +61,7 @@ impl Writer<'_> {
                 let from = literals + (a.u32_at(place + 16) as usize);
                 let bits = a.u32_at(place + 12) as usize;
                 self.put_byte(b' ');
-                self.put_number(a.bytes, from, (bits + 7) / 8);
+                self.put_number(a.bytes, from, bits.div_ceil(8));
             }
             2 => {
                 self.put_byte(b' ');

@@ -19,7 +19,7 @@ fn hex_digit(d: u8) -> u8
 fn is_plain(b: u8) -> bool
     ensures { result ≡ (within 33 126 b && not (eqb b 92)) }
 {
-    33 <= b && b <= 126 && b != b'\\'
+    (33..=126).contains(&b) && b != b'\\'
 }
 
 impl Writer<'_> {
