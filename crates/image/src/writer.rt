@@ -27,12 +27,8 @@ fn put(area: &mut [u8], at: usize, s: &[u8])
     if area.len() < at {
         return;
     }
-    let room = area.len() - at;
-    if s.len() <= room {
-        area[at..at + s.len()].copy_from_slice(s);
-    } else {
-        area[at..].copy_from_slice(&s[..room]);
-    }
+    let n = s.len().min(area.len() - at);
+    area[at..at + n].copy_from_slice(&s[..n]);
 }
 
 // Little-endian: the row of a concatenation is its number of components.
