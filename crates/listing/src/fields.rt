@@ -7,6 +7,7 @@ ghost use Rattle.listing.specs.words.Spaced.{spaced};
 ghost use Rattle.listing.specs.Parts.{kind_word, content_at, end_at};
 
 use crate::answer::Answer;
+use crate::decimal::Halves;
 use crate::writer::Writer;
 
 impl Writer<'_> {
@@ -16,7 +17,10 @@ impl Writer<'_> {
         ensures { Writes self.old (bound_word (bound_at a.now.image.now a.now.bytes.now place)) self.new }
     {
         self.put_text_at(a, place);
-        self.put_signed(a.width_at(place + 16), a.width_at(place + 8));
+        self.put_signed(Halves {
+            high: a.width_at(place + 16),
+            low: a.width_at(place + 8),
+        });
     }
 
     // The end of the component at a place, or a dash.

@@ -20,7 +20,7 @@ impl Writer<'_> {
         ensures { Writes self.old (32 ∷ decimal n) self.new }
     {
         self.put_byte(b' ');
-        self.put_decimal(0, n);
+        self.put_decimal(n.into());
     }
 
     fn put_width(&mut self, width: u64)
