@@ -66,7 +66,7 @@ pub fn text_place(image: &[u8]) -> usize
 }
 
 // The header's counts.
-fn counts_at(image: &[u8]) -> Counts
+pub(crate) fn counts_at(image: &[u8]) -> Counts
     ensures { counts_of result ≡ counts image.now }
 {
     Counts {
