@@ -1,5 +1,5 @@
 // Document 01's image check: 2 to 7 in the document's order, for every byte string. After 2 to 4 every table lies in the image, and
-// numbers are read directly.
+// numbers are read directly, at document 01's places: an image is bytes, and has no structs.
 mod entries;
 mod records;
 

@@ -1,5 +1,6 @@
 // The prepared image and its tables (src/token_tree.rs, whose arena the image replaces). Nothing is asked of a caller: a byte that
-// is missing counts as 0.
+// is missing counts as 0. So a place is a number beside the bytes here and in `words` and `writer`, and no part of them: it may lie past
+// the end.
 ghost use Rattle.std.specs.Prelude.{◌≡◌, ◌+◌, ◌^◌, ◌<◌, get_or};
 ghost use Rattle.definition.specs.Image.{u32_at, counts, tables, tables_for};
 ghost use Rattle.image.specs.token_tree.Tables.{counts_of, tables_of};

@@ -48,7 +48,7 @@ fn put_numbers(area: &mut [u8], at: usize, numbers: &[u32])
     }
 }
 
-// The row of a record, made whole first: one test then says whether it fits.
+// The row of a record, made whole first: one test then says whether it fits. Any number is promised to be written as a kind.
 pub fn put_record(area: &mut [u8], at: usize, kind: u32, start: u32, skip: u32)
     ensures { area.new ≡ sets area.old at (record_row kind start skip) }
 {

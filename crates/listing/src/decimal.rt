@@ -7,7 +7,7 @@ ghost use Rattle.listing.specs.decimal.Halves.{whole};
 
 use crate::writer::Writer;
 
-// 128 bits, in two halves of 64.
+// 128 bits, in two halves of 64 (document 01's form). Not an I128: this crate does not stand on `numbers`, nor compares.
 #[derive(Clone, Copy)]
 pub(crate) struct Halves {
     pub(crate) high: u64,

@@ -1,4 +1,4 @@
-// A component's line, read from the answer's bytes.
+// A component's line, read from the answer's bytes. Kinds, and 0 for no end, are numbers there by document 01: any number has a line.
 ghost use Rattle.std.specs.Prelude.{[], ◌∷◌, ◌+◌, ◌^◌, ◌<◌};
 ghost use Rattle.definition.specs.Answer.{bound_at, field_at};
 ghost use Rattle.definition.specs.Listing.{bound_word, end_word, field_line};
