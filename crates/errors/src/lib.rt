@@ -17,7 +17,7 @@ pub struct Refusal {
     pub component: u32,
 }
 
-// A refusal with the places 0 and 0.
+// A refusal with the places 0 and 0. By its number, which a caller may have read from a file.
 pub fn refuse(number: u32) -> Refusal
     ensures { refused_as {A = Unit} result ≡ refused (refusal_of number 0 0) }
 {
@@ -28,7 +28,7 @@ pub fn refuse(number: u32) -> Refusal
     }
 }
 
-// A check's answer as one number: 0, or the refusal's.
+// A check's answer as one number, as the C interface gives it: 0, or the refusal's.
 pub fn number_of(checked: Result<(), Refusal>) -> u32
     ensures { result ≡ number_in (result_of checked) }
 {

@@ -1,4 +1,5 @@
-// The reasons for a refusal, in the documents' order, each with its number.
+// The reasons for a refusal, in the documents' order, each with its number. Two enums, each with its `number` and `From`: a trait over
+// both would be longer.
 ghost use Rattle.std.specs.Prelude.{◌≡◌};
 ghost use Rattle.errors.specs.Reasons.{number, token_number, refusal};
 

@@ -1,33 +1,19 @@
 // Document 01's image check: 2 to 7 in the document's order, for every byte string. After 2 to 4 every table lies in the image, and
-// numbers are read directly.
+// numbers are read directly, at document 01's places: an image is bytes, and has no structs.
 mod entries;
 mod records;
 
 ghost use Rattle.std.specs.Prelude.{◌≡◌, ◌+◌, ◌≤◌, eqb, length};
-ghost use Rattle.definition.specs.Image.{u32_at, counts};
+ghost use Rattle.definition.specs.Image.{u32_at};
 ghost use Rattle.definition.specs.Check.{check_image};
 ghost use Rattle.errors.specs.Refused.{result_of, reasoned};
 ghost use Rattle.image.specs.token_tree.Tables.{counts_of, tables_of};
 ghost use Rattle.image.specs.check.Parts.{counts_in, offsets_in};
 
 use crate::record_rules::between;
-use crate::token_tree::{Counts, Tables};
+use crate::token_tree::{Counts, Tables, counts_at};
 use crate::words::four_at;
 use errors::{Reason, Refusal};
-
-// The header's counts. Called from one place, so that it is inlined and they stay in registers.
-fn header(image: &[u8]) -> Counts
-    requires { 40 ≤ length image.now }
-    ensures { counts_of result ≡ counts image.now }
-{
-    Counts {
-        c: four_at(image, 0),
-        n: four_at(image, 4),
-        r: four_at(image, 8),
-        t: four_at(image, 12),
-        b: four_at(image, 16),
-    }
-}
 
 fn counts_right(h: Counts) -> bool
     ensures { result ≡ counts_in (counts_of h) }
@@ -64,7 +50,7 @@ fn checked(image: &[u8]) -> Result<(), Reason>
     if image.len() < 40 {
         return Err(Reason::ShortImage);
     }
-    let h = header(image);
+    let h = counts_at(image);
     if !counts_right(h) {
         return Err(Reason::BadCount);
     }

@@ -1,8 +1,9 @@
 // The prepared image and its tables (src/token_tree.rs, whose arena the image replaces). Nothing is asked of a caller: a byte that
-// is missing counts as 0.
+// is missing counts as 0. So a place is a number beside the bytes here and in `words` and `writer`, and no part of them: it may lie past
+// the end.
 ghost use Rattle.std.specs.Prelude.{◌≡◌, ◌+◌, ◌^◌, ◌<◌, get_or};
-ghost use Rattle.definition.specs.Image.{u32_at, tables, tables_for};
-ghost use Rattle.image.specs.token_tree.Tables.{tables_of};
+ghost use Rattle.definition.specs.Image.{u32_at, counts, tables, tables_for};
+ghost use Rattle.image.specs.token_tree.Tables.{counts_of, tables_of};
 
 pub use crate::record_rules::{Delimiter, delimiter_of};
 use crate::words::four_at;
@@ -48,14 +49,11 @@ fn short_at(s: &[u8], at: usize) -> u32
     )
 }
 
-// Two tests, for speed, as at + 4 could be too large; past them one load.
+// Two tests, as at + 4 could be too large; past them one load.
 pub fn u32_at(s: &[u8], at: usize) -> u32
     ensures { result ≡ u32_at s.now at }
 {
-    if s.len() < 4 {
-        return short_at(s, at);
-    }
-    if s.len() - 4 < at {
+    if s.len() < 4 || s.len() - 4 < at {
         return short_at(s, at);
     }
     four_at(s, at)
@@ -65,9 +63,20 @@ pub fn u32_at(s: &[u8], at: usize) -> u32
 pub fn text_place(image: &[u8]) -> usize
     ensures { (result ≡ (tables image.now).text) × (result < 2 ^ 40) }
 {
-    40 + 4 * (u32_at(image, 0) as usize)
-        + 8 * (u32_at(image, 4) as usize)
-        + 12 * (u32_at(image, 8) as usize)
+    tables_for(counts_at(image)).text
+}
+
+// The header's counts.
+pub(crate) fn counts_at(image: &[u8]) -> Counts
+    ensures { counts_of result ≡ counts image.now }
+{
+    Counts {
+        c: u32_at(image, 0),
+        n: u32_at(image, 4),
+        r: u32_at(image, 8),
+        t: u32_at(image, 12),
+        b: u32_at(image, 16),
+    }
 }
 
 pub(crate) fn tables_for(h: Counts) -> Tables

@@ -27,12 +27,8 @@ fn put(area: &mut [u8], at: usize, s: &[u8])
     if area.len() < at {
         return;
     }
-    let room = area.len() - at;
-    if s.len() <= room {
-        area[at..at + s.len()].copy_from_slice(s);
-    } else {
-        area[at..].copy_from_slice(&s[..room]);
-    }
+    let n = s.len().min(area.len() - at);
+    area[at..at + n].copy_from_slice(&s[..n]);
 }
 
 // Little-endian: the row of a concatenation is its number of components.
@@ -52,7 +48,7 @@ fn put_numbers(area: &mut [u8], at: usize, numbers: &[u32])
     }
 }
 
-// The row of a record, made whole first: one test then says whether it fits.
+// The row of a record, made whole first: one test then says whether it fits. Any number is promised to be written as a kind.
 pub fn put_record(area: &mut [u8], at: usize, kind: u32, start: u32, skip: u32)
     ensures { area.new ≡ sets area.old at (record_row kind start skip) }
 {

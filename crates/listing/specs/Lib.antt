@@ -2,6 +2,7 @@
 pub mod Outcomes
 pub mod Parts
 pub mod Shown
+pub mod decimal
 pub mod group
 pub mod words
 pub mod writer

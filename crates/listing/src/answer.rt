@@ -1,4 +1,5 @@
-// An answer's bytes, beside the image that its texts are in. A byte that is missing counts as 0.
+// An answer's bytes, beside the image that its texts are in. A byte that is missing counts as 0: so a place is a number beside the
+// answer and no part of it. It is a component's, a bound's or a text's, each with a limit of its own: a struct of both has no one fact.
 ghost use Rattle.std.specs.Prelude.{◌≡◌, ◌+◌, ◌^◌, ◌<◌};
 ghost use Rattle.definition.specs.Image.{u32_at};
 ghost use Rattle.definition.specs.Answer.{width_at, text_at};
@@ -21,7 +22,7 @@ impl Answer<'_> {
         u32_at(self.bytes, at)
     }
 
-    // A number of two halves of 32 bits.
+    // A number of two halves of 32 bits, of which bytes may be missing: `from_le_bytes` asks for all.
     pub(crate) fn width_at(&self, at: usize) -> u64
         requires { at < 2 ^ 60 }
         ensures { result ≡ width_at self.now.bytes.now at }

@@ -1,4 +1,4 @@
-// A component's line, read from the answer's bytes.
+// A component's line, read from the answer's bytes. Kinds, and 0 for no end, are numbers there by document 01: any number has a line.
 ghost use Rattle.std.specs.Prelude.{[], ◌∷◌, ◌+◌, ◌^◌, ◌<◌};
 ghost use Rattle.definition.specs.Answer.{bound_at, field_at};
 ghost use Rattle.definition.specs.Listing.{bound_word, end_word, field_line};
@@ -7,6 +7,7 @@ ghost use Rattle.listing.specs.words.Spaced.{spaced};
 ghost use Rattle.listing.specs.Parts.{kind_word, content_at, end_at};
 
 use crate::answer::Answer;
+use crate::decimal::Halves;
 use crate::writer::Writer;
 
 impl Writer<'_> {
@@ -16,7 +17,10 @@ impl Writer<'_> {
         ensures { Writes self.old (bound_word (bound_at a.now.image.now a.now.bytes.now place)) self.new }
     {
         self.put_text_at(a, place);
-        self.put_signed(a.width_at(place + 16), a.width_at(place + 8));
+        self.put_signed(Halves {
+            high: a.width_at(place + 16),
+            low: a.width_at(place + 8),
+        });
     }
 
     // The end of the component at a place, or a dash.
@@ -61,7 +65,7 @@ impl Writer<'_> {
                 let from = literals + (a.u32_at(place + 16) as usize);
                 let bits = a.u32_at(place + 12) as usize;
                 self.put_byte(b' ');
-                self.put_number(a.bytes, from, (bits + 7) / 8);
+                self.put_number(a.bytes, from, bits.div_ceil(8));
             }
             2 => {
                 self.put_byte(b' ');

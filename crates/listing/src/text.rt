@@ -1,4 +1,4 @@
-// Hex and text. A byte that is missing counts as 0.
+// Hex and text. A byte that is missing counts as 0: so a text is a place and a count beside the bytes, and no part of them.
 ghost use Rattle.std.specs.Prelude.{◌≡◌, ◌&&◌, not, map, reverse, ◌<◌, eqb};
 ghost use Rattle.definition.specs.Basics.{within, joined};
 ghost use Rattle.definition.specs.Image.{bytes_at};
@@ -8,6 +8,7 @@ ghost use Rattle.listing.specs.writer.Writes.{Writes};
 use crate::writer::Writer;
 use image::token_tree::byte_on;
 
+// `char::from_digit` gives an Option of a char, which would be taken apart again.
 fn hex_digit(d: u8) -> u8
     requires { d < 16 }
     ensures { result ≡ hex_digit d }
@@ -19,7 +20,7 @@ fn hex_digit(d: u8) -> u8
 fn is_plain(b: u8) -> bool
     ensures { result ≡ (within 33 126 b && not (eqb b 92)) }
 {
-    33 <= b && b <= 126 && b != b'\\'
+    (33..=126).contains(&b) && b != b'\\'
 }
 
 impl Writer<'_> {

@@ -1,4 +1,4 @@
-// The words of a line, each with the space before it.
+// The words of a line, each with the space before it. Alignments, flags, and 0 for no width, are numbers in an answer by document 01.
 ghost use Rattle.std.specs.Prelude.{◌≡◌, [], ◌∷◌, ◌<◌};
 ghost use Rattle.definition.specs.Answer.{is_set};
 ghost use Rattle.definition.specs.Listing.{decimal, width_word, align_word, flag_word, summary_words};
@@ -7,7 +7,7 @@ ghost use Rattle.listing.specs.words.Spaced.{spaced};
 
 use crate::writer::Writer;
 
-// Whether a flag is set, by its worth among the flags.
+// Whether a flag is set, by its worth among the flags, as the definition has it: `&` would be right for powers of two alone.
 pub(crate) fn is_set(flags: u32, worth: u32) -> bool
     requires { 0 < worth }
     ensures { result ≡ is_set flags worth }
@@ -20,7 +20,7 @@ impl Writer<'_> {
         ensures { Writes self.old (32 ∷ decimal n) self.new }
     {
         self.put_byte(b' ');
-        self.put_decimal(0, n);
+        self.put_decimal(n.into());
     }
 
     fn put_width(&mut self, width: u64)

@@ -4,7 +4,7 @@ ghost use Rattle.definition.specs.Numbers.{digit_in};
 ghost use Rattle.numbers.specs.Value.{option_usize};
 ghost use Rattle.numbers.specs.digit.Worth.{Worths};
 
-// For each byte its worth as a digit, 0 to 15, and 255 where it is none.
+// For each byte its worth as a digit, 0 to 15, and 255 where it is none: the table is document 01's form.
 pub(crate) const WORTH: [u8; 256] = [
     255, 255, 255, 255, 255, 255, 255, 255, 255, 255, 255, 255, 255, 255, 255, 255, 255, 255, 255,
     255, 255, 255, 255, 255, 255, 255, 255, 255, 255, 255, 255, 255, 255, 255, 255, 255, 255, 255,

@@ -15,7 +15,7 @@ ghost use Rattle.numbers.specs.Value.{two, value_of};
 
 use std::cmp::Ordering;
 
-// Two halves, in two's complement.
+// Two halves, in two's complement, as document 01 asks: `is_negative`, `is_zero` and `compare` look at the halves.
 #[derive(Clone, Copy, Debug)]
 pub struct I128 {
     pub high: u64,

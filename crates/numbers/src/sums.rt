@@ -1,4 +1,6 @@
-// Sums, differences and negations of numbers of 128 bits (i128::checked_add, checked_sub, checked_neg).
+// Sums, differences and negations of numbers of 128 bits (i128::checked_add, checked_sub, checked_neg). Halves, `wrapping_add` and the
+// comparison are document 01's form. A sum's functions and a difference's have one shape but other contracts: one function over both
+// would need a proof for each all the same.
 ghost use Rattle.std.specs.Prelude.{◌≡◌, ◌+◌, ◌*◌, ◌^◌, ◌≤◌, ◌+ℤ◌, ◌-ℤ◌, neg_ℤ};
 ghost use Rattle.definition.specs.Numbers.{narrow};
 ghost use Rattle.numbers.specs.Steps.{Wraps, negative, overflow};

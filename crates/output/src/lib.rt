@@ -8,7 +8,8 @@ ghost use Rattle.listing.specs.Shown.{Shown};
 
 use errors::Reason;
 
-// The listing of one run, which has no default, in an area that is long enough for any image.
+// The listing of one run, which has no default, in an area that is long enough for any image: an array, as there is no heap. The mode
+// is a number, since the run is promised for every one.
 fn listed(image: &[u8], mode: u32, out: &mut [u8]) -> Option<usize>
     ensures { Shown out.old (listing image.now (run image.now (under mode) program_area)) out.new result }
 {

@@ -19,6 +19,7 @@ pub fn read_full<R: Read>(from: &mut R, buf: &mut [u8]) -> io::Result<usize>
     ensures end { IfOk result (λ n. (n ≡ length buf.new) ⊎ IsAtEnd (R.remaining from.new)) }
 {
     let mut done = 0;
+    // no `for`: a read says itself how far it came
     while done < buf.len() {
         let more = from.read(&mut buf[done..])?;
         if more == 0 {
@@ -40,7 +41,7 @@ pub fn same_front(bytes: &[u8], n: usize, told: &[u8]) -> bool
 #[derive(Clone, Copy)]
 pub struct Reason(pub io::Error);
 
-// More bytes than any error prints.
+// More bytes than any error prints: a fixed buffer, as there is no heap.
 const TEXT: usize = 512;
 
 impl fmt::Display for Reason {

@@ -1,5 +1,4 @@
-// 6 and 7: records one by one, a group by what stands inside it. The four numbers of Places are plain parameters below, `all` the
-// count, for speed: so they stay in registers.
+// 6 and 7: records one by one, a group by what stands inside it.
 ghost use Rattle.std.specs.Prelude.{◌≡◌, ℕ, ◌+◌, ◌*◌, ◌^◌, ◌≤◌, ◌<◌, length, get_or};
 ghost use Rattle.definition.specs.Basics.{sum, tab};
 ghost use Rattle.definition.specs.Image.{tables, record_count};
@@ -23,58 +22,49 @@ pub struct Places {
 }
 
 // Where the text of record k stops: the next start, the last at t.
-fn stop_at(image: &[u8], records: usize, all: u32, t: u32, k: u32) -> u32
-    requires { (records + 12 * all ≤ length image.now) × (k < all) }
-    ensures { result ≡ stop_in image.now (records + 12 * (k + 1) + 4) all t k }
+fn stop_at(image: &[u8], p: Places, k: u32) -> u32
+    requires { (p.records + 12 * p.count ≤ length image.now) × (k < p.count) }
+    ensures { result ≡ stop_in image.now (p.records + 12 * (k + 1) + 4) p.count p.t k }
 {
-    if (k as usize) + 1 == (all as usize) {
-        return t;
+    if (k as usize) + 1 == (p.count as usize) {
+        return p.t;
     }
-    four_at(image, records + 12 * (k as usize) + 16)
+    four_at(image, p.records + 12 * (k as usize) + 16)
 }
 
-fn numbers_at(image: &[u8], records: usize, all: u32, t: u32, k: u32) -> Numbers
-    requires { (records + 12 * all ≤ length image.now) × (k < all) }
-    ensures { (text : ℕ) → entry_from image.now text result ≡ entry_in image.now records text all t k }
+fn numbers_at(image: &[u8], p: Places, k: u32) -> Numbers
+    requires { (p.records + 12 * p.count ≤ length image.now) × (k < p.count) }
+    ensures { (text : ℕ) → entry_from image.now text result ≡ entry_in image.now p.records text p.count p.t k }
 {
-    let at = records + 12 * (k as usize);
+    let at = p.records + 12 * (k as usize);
     Numbers {
         kind: four_at(image, at),
         start: four_at(image, at + 4),
-        stop: stop_at(image, records, all, t, k),
+        stop: stop_at(image, p, k),
         skip: four_at(image, at + 8),
     }
 }
 
 // The first byte of a text.
-fn byte_of(image: &[u8], text: usize, e: Numbers) -> u8
-    requires { text ≤ 2 ^ 40 }
-    ensures { result ≡ get_or image.now (text + e.start) 0 }
+fn byte_of(image: &[u8], p: Places, e: Numbers) -> u8
+    requires { p.text ≤ 2 ^ 40 }
+    ensures { result ≡ get_or image.now (p.text + e.start) 0 }
 {
-    crate::token_tree::byte_at(image, text + (e.start as usize))
+    crate::token_tree::byte_at(image, p.text + (e.start as usize))
 }
 
 // `count` records from record `from` on, one component's or what stands in a group, `depth` groups deep. Siblings go by the loop,
-// a `while`: a step passes a word or a whole group.
-fn check_in(
-    image: &[u8],
-    records: usize,
-    text: usize,
-    all: u32,
-    t: u32,
-    from: u32,
-    count: u32,
-    depth: u32,
-) -> Result<(), Reason>
-    requires { Fits image.now records text all × (from + count ≤ all) × (depth ≤ 32) }
-    ensures { Says t (entry_in image.now records text all t) depth from count (reasoned result) }
+// a `while`, as a step passes a word or a whole group.
+fn check_in(image: &[u8], p: Places, from: u32, count: u32, depth: u32) -> Result<(), Reason>
+    requires { Fits image.now p.records p.text p.count × (from + count ≤ p.count) × (depth ≤ 32) }
+    ensures { Says p.t (entry_in image.now p.records p.text p.count p.t) depth from count (reasoned result) }
 {
     let mut k = from;
     let mut left = count;
     while 0 < left {
-        let e = numbers_at(image, records, all, t, k);
+        let e = numbers_at(image, p, k);
         if e.kind == 0 {
-            if !e.word_right(t) {
+            if !e.word_right(p.t) {
                 return Err(Reason::BadRecord);
             }
             k += 1;
@@ -83,8 +73,8 @@ fn check_in(
             if !e.skip_right(left) {
                 return Err(Reason::BadRecord);
             }
-            let closer = numbers_at(image, records, all, t, k + (e.skip - 1));
-            if !e.opener_right(t, byte_of(image, text, e), closer) {
+            let closer = numbers_at(image, p, k + (e.skip - 1));
+            if !e.opener_right(p.t, byte_of(image, p, e), closer) {
                 return Err(Reason::BadRecord);
             }
             // named, so that a must-fail edit of the test leaves the goals' names
@@ -92,8 +82,8 @@ fn check_in(
             if deep {
                 return Err(Reason::TooDeep);
             }
-            check_in(image, records, text, all, t, k + 1, e.skip - 2, depth + 1)?;
-            if !e.close_right(t, closer, byte_of(image, text, closer)) {
+            check_in(image, p, k + 1, e.skip - 2, depth + 1)?;
+            if !e.close_right(p.t, closer, byte_of(image, p, closer)) {
                 return Err(Reason::BadRecord);
             }
             k += e.skip;
@@ -111,7 +101,7 @@ fn components_check(image: &[u8], p: Places, at: usize, n: u32) -> Result<(), Re
     let mut from = 0;
     for k in 0..n as usize {
         let count = four_at(image, at + 8 * k);
-        check_in(image, p.records, p.text, p.count, p.t, from, count, 0)?;
+        check_in(image, p, from, count, 0)?;
         from += count;
     }
     Ok(())

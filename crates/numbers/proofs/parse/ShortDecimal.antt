@@ -1,6 +1,8 @@
 -- A number of at most 18 decimal digits without a sign: its value fits 64 bits, and is what the definition reads.
 use Rattle.std.proofs.Common.{◌≡◌, ℕ, ◌+◌, ◌-◌, ◌*◌, ◌^◌, ◌<◌, ◌≤◌, List, [], ◌∷◌, length, get_or, drop, pos, sym, refl, ap, ◌∙◌, lt_of_lt_of_le, pow-suc, add-one, arith, lit<, lt-ltb, drop_of_length-le, le-leb}
+use Rattle.std.specs.Char.{IsDigitOf}
 use mathlib.Core.Option.{none, some}
+use mathlib.Core.Logic.{inl, inr}
 use native.Mathlib.Nat.{pow-le-pow_right}
 use Rattle.definition.specs.Numbers.{digit_worth, digit_in, digits_from, digits, half128, narrow, signed_as, try_parse}
 use Rattle.numbers.proofs.parse.Digits.{some_digit, goes_on}
@@ -11,17 +13,21 @@ use Rattle.numbers.proofs.parse.Signs.{positive_capped}
 pub room : (n i k : ℕ) → n < 10 ^ i → i ≤ k → n < 10 ^ k
 room n i k h below = lt_of_lt_of_le h (pow-le-pow_right (lit< tt) {i = i} {j = k} below)
 
-decimal_digit : (b : ℕ) → 48 ≤ b → b ≤ 57 → some (b - 48) ≡ digit_in 10 b
+decimal_digit : (b d : ℕ) → IsDigitOf b d → d < 10 → some d ≡ digit_in 10 b
 unfolding digit_worth
-decimal_digit b h k = rw (le-leb 48 b h, le-leb b 57 k, digit_in) (rw (lt-ltb (b - 48) 10 (omega arith)))
+decimal_digit b d (inl (h, e)) below =
+    let same : b - 48 ≡ d = omega arith in
+    rw (le-leb 48 b h.0, le-leb b 57 h.1, same, digit_in) (rw (lt-ltb d 10 below))
+decimal_digit b d (inr (inl (h, e))) below = absurd (omega arith)
+decimal_digit b d (inr (inr (h, e))) below = absurd (omega arith)
 
 -- at place i, with n read so far
 module _ (n i : ℕ) (s : List ℕ) (so_far : digits_from 10 n (drop i s) ≡ digits_from 10 0 s) where
   -- one more digit
-  pub one_more : i < length s → n < 10 ^ i → 48 ≤ get_or s i 0 → get_or s i 0 ≤ 57
-      → (n * 10 + (get_or s i 0 - 48) < 10 ^ (i + 1)) × (digits_from 10 (n * 10 + (get_or s i 0 - 48)) (drop (i + 1) s) ≡ digits_from 10 0 s)
-  one_more inside small h k =
-      (rw (add-one, pow-suc) (omega arith), goes_on 10 n i s so_far inside (get_or s i 0 - 48) (decimal_digit (get_or s i 0) h k))
+  pub one_more : (d : ℕ) → i < length s → n < 10 ^ i → d < 10 → IsDigitOf (get_or s i 0) d
+      → (n * 10 + d < 10 ^ (i + 1)) × (digits_from 10 (n * 10 + d) (drop (i + 1) s) ≡ digits_from 10 0 s)
+  one_more d inside small below is =
+      (rw (add-one, pow-suc) (omega arith), goes_on 10 n i s so_far inside d (decimal_digit (get_or s i 0) d is below))
 
   -- every byte is read
   pub all_read : length s ≤ i → digits_from 10 0 s ≡ some n

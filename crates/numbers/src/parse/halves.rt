@@ -7,14 +7,14 @@ ghost use Rattle.numbers.specs.parse.Parts.{capped, negated};
 
 use crate::I128;
 
-// A number without a sign, in two halves.
+// A number without a sign, in two halves (document 01's form). Apart from I128: it has neither its value nor its order.
 #[derive(Clone, Copy)]
 pub struct U128 {
     pub high: u64,
     pub low: u64,
 }
 
-// x * m + add, by halves of x.
+// x * m + add, by halves of x: no number here is wider than 64 bits.
 fn mul_small(x: u64, m: u64, add: u64) -> U128
     requires { (m ≤ 16) × (add < 2 ^ 32) }
     ensures { (number result ≡ x * m + add) × (result.high ≤ 16) }

@@ -10,10 +10,7 @@ fn value(s: &[u8]) -> Option<u64>
 {
     let mut n: u64 = 0;
     for &b in s {
-        if !b.is_ascii_digit() {
-            return None;
-        }
-        n = n * 10 + (b - b'0') as u64;
+        n = n * 10 + (b as char).to_digit(10)? as u64;
     }
     Some(n)
 }

@@ -1,16 +1,11 @@
 -- What is past the end is left out.
 use Rattle.std.proofs.Common.{sym, arith}
 use Rattle.laws.specs.Sets.{sets_past}
-use Rattle.image.proofs.writer.Runs.{run_whole, run_cut}
+use Rattle.image.proofs.writer.Runs.{run_cut}
 use Rattle.image.proofs.writer.put.Goals as goal
 
 pub returns-then-area-at : goal.returns-then-area-at
 returns-then-area-at c = let a = c.args in sym (sets_past a.area.now a.at a.s.now (omega arith))
 
-pub returns-then-s-room : goal.returns-then-s-room
-returns-then-s-room c = let a = c.args in rw c.copy_from_slice.ensures.after (run_whole a.area.now a.at _ a.s.now (omega arith) (omega arith))
-
-pub returns-else-s-room : goal.returns-else-s-room
-returns-else-s-room c =
-    let a = c.args in
-    rw c.copy_from_slice-else-s-room.ensures.after (run_cut a.area.now a.at _ a.s.now (omega arith) (omega arith))
+pub returns : goal.returns
+returns c = let a = c.args in rw c.copy_from_slice.ensures.after (run_cut a.area.now a.at c.min-n.result _ a.s.now c.if-area-at.false c.min-n.ensures (omega arith))

@@ -22,7 +22,7 @@ module _ (image : List ℕ) (text t : ℕ) (e c : Numbers) (byte : ℕ) (r : Boo
 pub returns-then-not-word_right : goal.returns-then-not-word_right
 returns-then-not-word_right t c =
     c.loop-left.invariant.2 _
-    (word_refused _ _ _ _ _ c.loop-left-test.true _ (c.numbers_at-e.ensures c.args.text)
+    (word_refused _ _ _ _ _ c.loop-left-test.true _ (c.numbers_at-e.ensures c.args.p.text)
     (omega (arith, c.if-e-eq0.true)) (sym c.word_right.ensures ∙ c.if-not-word_right.true))
 
 pub loop-left-preserved-then-e-eq0 : goal.loop-left-preserved-then-e-eq0
@@ -31,7 +31,7 @@ loop-left-preserved-then-e-eq0 t c =
       omega (arith, v.invariant.0),
       omega (arith, v.invariant.1),
       λ x says. v.invariant.2 x
-          (word_goes _ _ _ _ _ c.loop-left-test.true _ (c.numbers_at-e.ensures c.args.text)
+          (word_goes _ _ _ _ _ c.loop-left-test.true _ (c.numbers_at-e.ensures c.args.p.text)
           (omega (arith, c.if-e-eq0.true)) (sym c.word_right.ensures ∙ c.if-not-word_right.false) x says),
     )
 
@@ -39,56 +39,56 @@ loop-left-preserved-then-e-eq0 t c =
 pub returns-then-not-skip_right : goal.returns-then-not-skip_right
 returns-then-not-skip_right t c =
     c.loop-left.invariant.2 _
-    (skip_refused _ _ _ _ _ c.loop-left-test.true _ (c.numbers_at-e.ensures c.args.text)
+    (skip_refused _ _ _ _ _ c.loop-left-test.true _ (c.numbers_at-e.ensures c.args.p.text)
     (λ z. absurd (omega (arith, z, c.if-e-eq0.false))) (sym c.skip_right.ensures.answer ∙ c.if-not-skip_right.true))
 
 pub returns-then-not-opener_right : goal.returns-then-not-opener_right
 returns-then-not-opener_right t c =
-    let fits = skip_told (entry_from c.args.image.now c.args.text c.numbers_at-e.result) _ (sym c.skip_right.ensures.answer ∙ c.if-not-skip_right.false) in
+    let fits = skip_told (entry_from c.args.image.now c.args.p.text c.numbers_at-e.result) _ (sym c.skip_right.ensures.answer ∙ c.if-not-skip_right.false) in
     let read = opener_read _ _ _ c.numbers_at-e.result c.numbers_at-closer.result _ _ c.byte_of.ensures c.opener_right.ensures in
     c.loop-left.invariant.2 _
-    (opener_refused _ _ _ _ _ c.loop-left-test.true _ (c.numbers_at-e.ensures c.args.text) fits _ (c.numbers_at-closer.ensures c.args.text)
+    (opener_refused _ _ _ _ _ c.loop-left-test.true _ (c.numbers_at-e.ensures c.args.p.text) fits _ (c.numbers_at-closer.ensures c.args.p.text)
     (read ∙ c.if-not-opener_right.true))
 
 pub returns-then-deep : goal.returns-then-deep
 returns-then-deep t c =
-    let fits = skip_told (entry_from c.args.image.now c.args.text c.numbers_at-e.result) _ (sym c.skip_right.ensures.answer ∙ c.if-not-skip_right.false) in
+    let fits = skip_told (entry_from c.args.image.now c.args.p.text c.numbers_at-e.result) _ (sym c.skip_right.ensures.answer ∙ c.if-not-skip_right.false) in
     let read = opener_read _ _ _ c.numbers_at-e.result c.numbers_at-closer.result _ _ c.byte_of.ensures c.opener_right.ensures in
     c.loop-left.invariant.2 _
-    (deep_refused _ _ _ _ _ c.loop-left-test.true _ (c.numbers_at-e.ensures c.args.text) fits _ (c.numbers_at-closer.ensures c.args.text)
+    (deep_refused _ _ _ _ _ c.loop-left-test.true _ (c.numbers_at-e.ensures c.args.p.text) fits _ (c.numbers_at-closer.ensures c.args.p.text)
     (read ∙ c.if-not-opener_right.false) (omega (arith, c.if-deep.true)))
 
 pub returns-in_err-check_in : goal.returns-in_err-check_in
 returns-in_err-check_in t c =
-    let fits = skip_told (entry_from c.args.image.now c.args.text c.numbers_at-e.result) _ (sym c.skip_right.ensures.answer ∙ c.if-not-skip_right.false) in
+    let fits = skip_told (entry_from c.args.image.now c.args.p.text c.numbers_at-e.result) _ (sym c.skip_right.ensures.answer ∙ c.if-not-skip_right.false) in
     let read = opener_read _ _ _ c.numbers_at-e.result c.numbers_at-closer.result _ _ c.byte_of.ensures c.opener_right.ensures in
     let same : c.from_residual.result ≡ Err c.in_err-check_in.field-0.0 = grind arith in
     rw same
     (c.loop-left.invariant.2 _
-    (inside_refused _ _ _ _ _ c.loop-left-test.true _ (c.numbers_at-e.ensures c.args.text) fits _ (c.numbers_at-closer.ensures c.args.text)
+    (inside_refused _ _ _ _ _ c.loop-left-test.true _ (c.numbers_at-e.ensures c.args.p.text) fits _ (c.numbers_at-closer.ensures c.args.p.text)
     (read ∙ c.if-not-opener_right.false) (omega (arith, c.if-deep.false)) (reasoned c.check_in.result) c.check_in.ensures
     _ (ap reasoned c.in_err-check_in.was)))
 
 pub returns-then-not-close_right : goal.returns-then-not-close_right
 returns-then-not-close_right t c =
-    let fits = skip_told (entry_from c.args.image.now c.args.text c.numbers_at-e.result) _ (sym c.skip_right.ensures.answer ∙ c.if-not-skip_right.false) in
+    let fits = skip_told (entry_from c.args.image.now c.args.p.text c.numbers_at-e.result) _ (sym c.skip_right.ensures.answer ∙ c.if-not-skip_right.false) in
     let read = opener_read _ _ _ c.numbers_at-e.result c.numbers_at-closer.result _ _ c.byte_of.ensures c.opener_right.ensures in
     let shut = closer_read _ _ _ c.numbers_at-e.result c.numbers_at-closer.result _ _ c.byte_of-else-e-eq0.ensures c.close_right.ensures in
     c.loop-left.invariant.2 _
-    (close_refused _ _ _ _ _ c.loop-left-test.true _ (c.numbers_at-e.ensures c.args.text) fits _ (c.numbers_at-closer.ensures c.args.text)
+    (close_refused _ _ _ _ _ c.loop-left-test.true _ (c.numbers_at-e.ensures c.args.p.text) fits _ (c.numbers_at-closer.ensures c.args.p.text)
     (read ∙ c.if-not-opener_right.false) (omega (arith, c.if-deep.false)) (reasoned c.check_in.result) c.check_in.ensures
     (ap reasoned c.in_ok-check_in.was) (shut ∙ c.if-not-close_right.true))
 
 pub loop-left-preserved : goal.loop-left-preserved
 loop-left-preserved t c =
-    let fits = skip_told (entry_from c.args.image.now c.args.text c.numbers_at-e.result) _ (sym c.skip_right.ensures.answer ∙ c.if-not-skip_right.false) in
+    let fits = skip_told (entry_from c.args.image.now c.args.p.text c.numbers_at-e.result) _ (sym c.skip_right.ensures.answer ∙ c.if-not-skip_right.false) in
     let read = opener_read _ _ _ c.numbers_at-e.result c.numbers_at-closer.result _ _ c.byte_of.ensures c.opener_right.ensures in
     let shut = closer_read _ _ _ c.numbers_at-e.result c.numbers_at-closer.result _ _ c.byte_of-else-e-eq0.ensures c.close_right.ensures in
     let v = c.loop-left in (
       omega (arith, v.invariant.0),
       omega (arith, v.invariant.1),
       λ x says. v.invariant.2 x
-          (group_goes _ _ _ _ _ c.loop-left-test.true _ (c.numbers_at-e.ensures c.args.text) fits _ (c.numbers_at-closer.ensures c.args.text)
+          (group_goes _ _ _ _ _ c.loop-left-test.true _ (c.numbers_at-e.ensures c.args.p.text) fits _ (c.numbers_at-closer.ensures c.args.p.text)
           (read ∙ c.if-not-opener_right.false) (omega (arith, c.if-deep.false)) (reasoned c.check_in.result) c.check_in.ensures
           (ap reasoned c.in_ok-check_in.was) (shut ∙ c.if-not-close_right.false) x says),
     )

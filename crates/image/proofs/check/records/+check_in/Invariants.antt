@@ -12,7 +12,7 @@ decreases-check_in l = l.count
 abbrev pub invariant-loop-left : goal.invariant-loop-left
 invariant-loop-left l =
     (l.k + l.left ≡ l.from + l.count) × (l.left ≤ l.count)
-    × ((x : Result Unit) → Says l.t (entry_in l.image l.records l.text l.all l.t) l.depth l.k l.left x → Says l.t (entry_in l.image l.records l.text l.all l.t) l.depth l.from l.count x)
+    × ((x : Result Unit) → Says l.p.t (entry_in l.image l.p.records l.p.text l.p.count l.p.t) l.depth l.k l.left x → Says l.p.t (entry_in l.image l.p.records l.p.text l.p.count l.p.t) l.depth l.from l.count x)
 
 abbrev pub decreases-loop-left : goal.decreases-loop-left
 decreases-loop-left l = l.left

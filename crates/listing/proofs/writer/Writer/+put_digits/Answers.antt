@@ -9,7 +9,7 @@ returns-then-steps-eq0 t c = rw c.if-steps-eq0.true (put_none _ _ (omega arith))
 
 pub returns : goal.returns
 returns t c =
-    let (tenth, digit) = c.divide_by_ten-t.ensures in
+    let (tenth, digit) = c.divided_by_ten-t.ensures in
     elim c.if-not-is_digit.branch [
       | then-not-is_digit w ↦ put_more c.args.steps _ _ _ (omega arith) (sym c.is_digit.ensures ∙ w.if-not-is_digit.true) tenth digit w.put_digits.ensures (rw w.self-is at c.put_byte.ensures)
       | else-not-is_digit w ↦ put_last c.args.steps _ _ (omega arith) (sym c.is_digit.ensures ∙ w.if-not-is_digit.false) digit (rw w.self-is at c.put_byte.ensures)

@@ -11,8 +11,8 @@ overflow_add-n c = omega (arith, room _ _ 17 c.loop-b.invariant.0 (omega arith))
 
 pub loop-b-preserved : goal.loop-b-preserved
 loop-b-preserved c =
-    let digit = c.if-not-is_ascii_digit.ensures.cases in
-    one_more _ _ _ c.loop-b.invariant.1 c.loop-b-test.true c.loop-b.invariant.0 digit.0 digit.1
+    let told = c.in_ok-n.ensures in
+    one_more _ _ _ c.loop-b.invariant.1 c.in_ok-n.field-0 c.loop-b-test.true c.loop-b.invariant.0 (omega (arith, told.value.0, told.value.1)) told.cases
 
 pub returns : goal.returns
 returns c = (omega (arith, room _ _ 18 c.loop-b.invariant.0 (omega arith)), all_read _ _ _ c.loop-b.invariant.1 c.loop-b-test.false)

@@ -1,0 +1,2 @@
+-- A number of 128 bits.
+pub mod Halves
