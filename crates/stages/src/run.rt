@@ -30,6 +30,9 @@ pub struct Ran {
     pub start: InForce,
 }
 
+// Below, (area, image, how) stay three parameters: the area is lent for writing and the image for reading, and a struct of them, which each
+// step would lend on to a stage part by part, is no plainer.
+
 // Stages 4 and 5, of concatenations that stage 3 accepted.
 fn judged(
     area: &mut [u8],

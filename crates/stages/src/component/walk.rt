@@ -24,7 +24,7 @@ pub struct Walk {
     pub second: Result<(), Refusal>,
 }
 
-// Component j of concatenation i.
+// Component j of concatenation i. (kept, image, t, start) stay parameters: `kept` alone is written, and a struct would be lent on part by part.
 fn turn(
     kept: &mut [Component],
     image: &[u8],
