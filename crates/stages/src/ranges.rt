@@ -12,3 +12,4 @@ mod usbr;
 
 pub(crate) use range::{parse_range, single_bit};
 pub(crate) use types::{Simplified, Usb, Usbr};
+pub(crate) use usbr::end_val;

@@ -9,7 +9,7 @@ ghost use Rattle.stages.specs.component.Values.{type_of, component_of, TypeParse
 ghost use Rattle.stages.specs.component.Stage2.{Within, CutFits, cut_both_by, by_type};
 
 use super::types::{Bits, Component, ComponentType};
-use crate::ranges::{Simplified, Usb, Usbr};
+use crate::ranges::{Simplified, Usb, Usbr, end_val};
 use crate::token_tree::Tree;
 use errors::Reason;
 use numbers::I128;
@@ -47,9 +47,10 @@ fn cut(literal: Bits, m: Simplified) -> Component
     if let Some((x, y)) = m.range.static_range() {
         return cut_both(literal, x, y, m.width);
     }
-    let end = m.range.end.unwrap_or(Usb::zero());
-    let number = end.s.len == 0;
-    let to = if number { end.x.low as u32 } else { literal.to };
+    let to = match end_val(m.range.end) {
+        Some(y) => y.low as u32,
+        None => literal.to,
+    };
     Component {
         c_type: ComponentType::Literal(Bits {
             from: 0,

@@ -1,7 +1,6 @@
 -- The cut of a literal's bits by a range whose numbers are places among them: one law for each way through the code.
 use Rattle.std.specs.Prelude as Std
 use Rattle.std.specs.Prelude.{Some, None, Ok, ◌-◌, ◌^◌, ◌-ℤ◌, if◌then◌else◌}
-use Rattle.std.specs.Option.{unwrap_or}
 use Rattle.std.proofs.Common.{◌≡◌, ◌<◌, ◌≤◌, min, sym, refl, ap, ◌∙◌, zero-add, arith}
 use Rattle.definition.specs.Prelude.{ℕ, Option, none, some, List, [], length, take, drop, ℤ, pos, nat_abs}
 use Rattle.definition.specs.Basics.{ok, same_bytes, tab}
@@ -18,7 +17,7 @@ use Rattle.stages.specs.answer.literal_bits.Put.{bit_of}
 use Rattle.stages.specs.answer.merging.Literals.{take_tab, drop_tab}
 use Rattle.stages.specs.ranges.Values.{Tree, zero_i, zero_by, val_by, usb_of, end_of, usbr_of, Measured}
 use Rattle.stages.specs.ranges.Checks.{end_val, both_of}
-use Rattle.stages.specs.component.Values.{end_or, bits_of, Whole, StagedReads}
+use Rattle.stages.specs.component.Values.{bits_of, Whole, StagedReads}
 use Rattle.stages.specs.component.Stage2.{Within, CutFits, cut_both_by}
 use Rattle.stages.specs.declared.ranges.types.Usb.{Usb}
 use Rattle.stages.specs.declared.ranges.types.Usbr.{Usbr}
@@ -26,7 +25,7 @@ use Rattle.stages.specs.declared.component.types.Bits.{Bits}
 use Rattle.stages.specs.declared.component.types.ComponentType.TheVariants as T
 use Rattle.stages.specs.declared.component.types.Component.{Component}
 use Rattle.stages.proofs.Cases.{untrue, none_some}
-use Rattle.stages.proofs.ranges.Bounds.{low_is, zero_is, val_is, val_fits, static_yes, static_no}
+use Rattle.stages.proofs.ranges.Bounds.{low_is, zero_is, val_is, val_fits}
 use Rattle.stages.proofs.component.parse.Types.{whole_bits}
 use Rattle.stages.proofs.component.simplify.Ends.{number_is, InOrder, places, last_place, cut_by}
 
@@ -46,11 +45,6 @@ module _ (image : List ℕ) (at w : ℕ) where
       ap (drop m) (first_bits n h) ∙ drop_tab (bit_of (drop at image)) m 0 (n - 0) ∙ rw (zero-add m, e)
 
 -- ---- both numbers, or one
-
--- no end as an end at 0
-pub or_zero : (o : Std.Option Usb) (u : Usb) → u ≡ zero_by → unwrap_or o u ≡ end_or o
-or_zero (Some e) u h = refl
-or_zero None u h = h
 
 both_inv : (a b : Option ℤ) (x y : ℤ) → some (x, y) ≡ both_of a b → (a ≡ some x) × (b ≡ some y)
 both_inv none b x y h = none_some (sym h)
@@ -94,18 +88,19 @@ module _ (image : List ℕ) (t : Tree) (base : ℕ) (w : ℕ) (l : w < 2 ^ 32) (
       → some (value_of x, value_of y) ≡ both_of (static_val (usb_of image t base s)) (end_val (end_of image t base o)) → CutFits x y
   cut_fits o x y h p = let f = both_halves o x y h p in record { order = f.order; small = omega (arith, f.last) }
 
-  -- the end alone
-  end_place : (e : Usb) → Within w (usbr_of image t base (record { start = s; «end» = Some e })) → e.s.len ≡ 0
-      → (value_of e.x ≡ pos e.x.low) × (e.x.low ≤ w)
-  end_place e h q =
-      let f = last_place w (usb_of image t base s) (usb_of image t base e) l h (value_of e.x) (sym (static_yes image t base e q)) in
+  -- the end alone, whose number is y
+  end_place : (o : Std.Option Usb) (y : I128) → Within w (usbr_of image t base (record { start = s; «end» = o }))
+      → some (value_of y) ≡ end_val (end_of image t base o) → (value_of y ≡ pos y.low) × (y.low ≤ w)
+  end_place (Some e) y h q =
+      let f = last_place w (usb_of image t base s) (usb_of image t base e) l h (value_of y) (sym q) in
       let k : f.0 ≤ w = f.2 in
-      let g = (low_is e.x f.0 f.1 (omega arith)).1 in
+      let g = (low_is y f.0 f.1 (omega arith)).1 in
       (f.1 ∙ ap pos (sym g), omega arith)
+  end_place None y h q = untrue h.ends
 
-  pub end_small : (o : Std.Option Usb) → Within w (usbr_of image t base (record { start = s; «end» = o })) → (end_or o).s.len ≡ 0 → (end_or o).x.low < 2 ^ 32
-  end_small (Some e) h q = omega (arith, (end_place e h q).1)
-  end_small None h q = untrue h.ends
+  pub end_small : (o : Std.Option Usb) (y : I128) → Within w (usbr_of image t base (record { start = s; «end» = o }))
+      → some (value_of y) ≡ end_val (end_of image t base o) → y.low < 2 ^ 32
+  end_small o y h q = let f = end_place o y h q in omega (arith, f.1)
 
 -- ---- one law for each way
 
@@ -115,39 +110,37 @@ cut_to b to r x = record { c_type = T.Literal (bits_by b.at 0 to); range = r; wi
 module _ (image : List ℕ) (t : Tree) (base : ℕ) (b : Bits) (whole : Whole image b) (s : Usb) (x : Std.Option I128) where
   -- the end is a text: all bits
   pub cut_none : (o : Std.Option Usb) → let r : Usbr = record { start = s; «end» = o } in Within b.to (usbr_of image t base r) → Measured image t base r x
-      → ((end_or o).s.len ≡ 0 → ⊥) → StagedReads image t base (Ok (cut_to b b.to r x)) (ok (cut_literal (bits_at image b.at b.to) (usbr_of image t base r)))
+      → none ≡ end_val (end_of image t base o) → StagedReads image t base (Ok (cut_to b b.to r x)) (ok (cut_literal (bits_at image b.at b.to) (usbr_of image t base r)))
   cut_none (Some e) h m q =
       record {
         is = ap (λ (c : List ℕ). ok (record { c_type = literal c; range = usbr_of image t base (record { start = s; «end» = Some e }) }))
             (whole_bits image (bits_by b.at 0 b.to) refl)
-            ∙ ap (λ (y : Option ℤ). ok (cut_by (bits_at image b.at b.to) (usb_of image t base s) (usb_of image t base e) (static_val (usb_of image t base s)) y))
-            (static_no image t base e q);
+            ∙ ap (λ (y : Option ℤ). ok (cut_by (bits_at image b.at b.to) (usb_of image t base s) (usb_of image t base e) (static_val (usb_of image t base s)) y)) q;
         held = record { c_type = record { order = omega arith; short = whole.short; inside = whole.inside }; measured = m };
       }
   cut_none None h m q = untrue h.ends
 
-  -- the end is a number and the start a text: the bits below the end
-  pub cut_end : (o : Std.Option Usb) → let r : Usbr = record { start = s; «end» = o } in Within b.to (usbr_of image t base r) → Measured image t base r x
-      → (end_or o).s.len ≡ 0 → none ≡ both_of (static_val (usb_of image t base s)) (end_val (end_of image t base o))
-      → StagedReads image t base (Ok (cut_to b (end_or o).x.low r x)) (ok (cut_literal (bits_at image b.at b.to) (usbr_of image t base r)))
-  cut_end (Some e) h m q p =
+  -- the end is the number y and the start a text: the bits below the end
+  pub cut_end : (o : Std.Option Usb) (y : I128) → let r : Usbr = record { start = s; «end» = o } in Within b.to (usbr_of image t base r) → Measured image t base r x
+      → some (value_of y) ≡ end_val (end_of image t base o) → none ≡ both_of (static_val (usb_of image t base s)) (end_val (end_of image t base o))
+      → StagedReads image t base (Ok (cut_to b y.low r x)) (ok (cut_literal (bits_at image b.at b.to) (usbr_of image t base r)))
+  cut_end (Some e) y h m q p =
       let u = usb_of image t base s in
       let v = usb_of image t base e in
       let bits = bits_at image b.at b.to in
       let few = whole.short in
-      let known = static_yes image t base e q in
-      let f = end_place image t base b.to (omega (arith, few)) s e h q in
-      let alone : static_val u ≡ none = start_none (static_val u) (value_of e.x) (p ∙ ap (both_of (static_val u)) (sym known)) in
+      let f = end_place image t base b.to (omega (arith, few)) s (Some e) y h q in
+      let alone : static_val u ≡ none = start_none (static_val u) (value_of y) (p ∙ ap (both_of (static_val u)) (sym q)) in
       record {
         is = ap (λ (c : List ℕ). ok (record { c_type = literal c; range = usbr_of image t base (record { start = s; «end» = Some e }) }))
-            (sym (first_bits image b.at b.to e.x.low f.1))
+            (sym (first_bits image b.at b.to y.low f.1))
             ∙ ap (λ (n : ℕ). ok (record { c_type = literal (take n bits); range = usbr_of image t base (record { start = s; «end» = Some e }) }))
             (ap nat_abs (sym f.0))
-            ∙ ap (λ (a : Option ℤ). ok (cut_by bits u v a (some (value_of e.x)))) (sym alone)
-            ∙ ap (λ (y : Option ℤ). ok (cut_by bits u v (static_val u) y)) known;
+            ∙ ap (λ (a : Option ℤ). ok (cut_by bits u v a (some (value_of y)))) (sym alone)
+            ∙ ap (λ (z : Option ℤ). ok (cut_by bits u v (static_val u) z)) q;
         held = record { c_type = record { order = omega arith; short = omega (arith, few, f.1); inside = whole.inside }; measured = m };
       }
-  cut_end None h m q p = untrue h.ends
+  cut_end None y h m q p = untrue h.ends
 
   -- both are numbers: the bits between, with a range from 0
   between : (a c : I128) → Halves b.to a c

@@ -1,8 +1,6 @@
-use Rattle.std.specs.Prelude.{◌^◌}
-use Rattle.std.proofs.Common.{◌≡◌, ◌<◌, sym, ◌∙◌, subst, arith}
-use Rattle.stages.specs.declared.ranges.types.Usb.{Usb}
-use Rattle.stages.proofs.component.simplify.Cuts.{or_zero, cut_fits, end_small, cut_none, cut_end, cut_numbers}
-use Rattle.stages.proofs.component.simplify.cut.Goals.{then-number, else-number}
+use Rattle.std.proofs.Common.{arith}
+use Rattle.stages.proofs.component.simplify.Cuts.{cut_fits, end_small, cut_none, cut_end, cut_numbers}
+use Rattle.stages.proofs.component.simplify.cut.Goals.{in-Some-end_val, in-None}
 use Rattle.stages.proofs.component.simplify.cut.Goals as goal
 
 pub cut_both-requires : goal.cut_both-requires
@@ -16,10 +14,10 @@ pub overflow_cast-to : goal.overflow_cast-to
 overflow_cast-to c =
     let a = c.args in
     let (few, (image, t, base, h)) = c.requires in
-    let same = c.unwrap_or-end.ensures ∙ or_zero a.m.range.«end» _ c.zero.ensures in
-    let empty = subst (λ (u : Usb). u.s.len ≡ 0) same c.if-number.true in
-    let small = end_small image t base a.literal.to (omega (arith, few)) a.m.range.start a.m.range.«end» h empty in
-    record { fits = subst (λ (u : Usb). u.x.low < 2 ^ 32) (sym same) small }
+    record {
+      fits = end_small image t base a.literal.to (omega (arith, few)) a.m.range.start a.m.range.«end» c.in-Some-end_val.y h
+          (c.in-Some-end_val.ensures image t base);
+    }
 
 pub returns-in-Some : goal.returns-in-Some
 returns-in-Some c image t base whole h m =
@@ -30,13 +28,11 @@ returns-in-Some c image t base whole h m =
 pub returns : goal.returns
 returns c image t base whole h m =
     let a = c.args in
-    let same = c.unwrap_or-end.ensures ∙ or_zero a.m.range.«end» _ c.zero.ensures in
     let known = c.in_default.ensures image t base in
-    elim c.if-number.branch [
-      | then-number w ↦
-          let empty = subst (λ (u : Usb). u.s.len ≡ 0) same w.if-number.true in
-          rw (w.to-is, same) (cut_end image t base a.literal whole a.m.range.start a.m.width a.m.range.«end» h m empty known)
-      | else-number w ↦
-          rw w.to-is (cut_none image t base a.literal whole a.m.range.start a.m.width a.m.range.«end» h m
-          (subst (λ (u : Usb). u.s.len ≡ 0 → ⊥) same w.if-number.false))
+    elim c.match-end_val.branch [
+      | in-Some-end_val w ↦
+          rw w.to-is
+          (cut_end image t base a.literal whole a.m.range.start a.m.width a.m.range.«end» w.in-Some-end_val.y h m (w.in-Some-end_val.ensures image t base) known)
+      | in-None w ↦
+          rw w.to-is (cut_none image t base a.literal whole a.m.range.start a.m.width a.m.range.«end» h m (w.in-None.ensures image t base))
     ]
