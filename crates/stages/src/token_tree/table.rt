@@ -13,7 +13,7 @@ pub(crate) fn number_at(s: &[u8], at: usize) -> u32
     requires { at + 4 ≤ length s.now }
     ensures { result ≡ u32_at s.now at }
 {
-    u32::from_le_bytes([s[at], s[at + 1], s[at + 2], s[at + 3]])
+    image::token_tree::join4(s[at], s[at + 1], s[at + 2], s[at + 3])
 }
 
 pub(crate) fn tables_of(image: &[u8]) -> Tables
