@@ -72,11 +72,12 @@ dots_row =
       width = None;
     }
 
--- a header that tells 13 bytes of text and one of literals, and these
+-- a text table alone; and an image, whose header tells these 13 bytes of text and one of literals
+abbrev bare : List ℕ
+bare = 0 ∷ 0 ∷ 0 ∷ 0 ∷ 0 ∷ 0 ∷ 0 ∷ 0 ∷ 0 ∷ 97 ∷ 98 ∷ 0 ∷ 110 ∷ []
+
 abbrev image : List ℕ
-image =
-    joined (map u32 (0 ∷ 0 ∷ 0 ∷ 13 ∷ 1 ∷ 0 ∷ 0 ∷ 0 ∷ 0 ∷ 0 ∷ []))
-    ++ (0 ∷ 0 ∷ 0 ∷ 0 ∷ 0 ∷ 0 ∷ 0 ∷ 0 ∷ 0 ∷ 97 ∷ 98 ∷ 0 ∷ 110 ∷ []) ++ (1 ∷ [])
+image = joined (map u32 (0 ∷ 0 ∷ 0 ∷ 13 ∷ 1 ∷ 0 ∷ 0 ∷ 0 ∷ 0 ∷ 0 ∷ [])) ++ bare ++ (1 ∷ [])
 
 abbrev tree : Tree
 tree = record { records = 40; text = 40 }
@@ -110,6 +111,10 @@ flags_are = (refl, refl)
 shape_is : (component_of image tree 7 row ≡ name) × (told row ≡ 2 ∷ 1 ∷ 0 ∷ 0 ∷ 0 ∷ []) × (option_of row.width ≡ static_width name.range)
 unfolding same_bytes half128 joined padded tab value_of
 shape_is = (refl, refl, refl)
+
+bare_is : component_of bare (record { records = 0; text = 0 }) 7 row ≡ name
+unfolding value_of padded
+bare_is = refl
 
 shapes_are : (component_of image tree 0 bits_row ≡ bits) × (component_of image tree 0 dots_row ≡ dots)
     × (option_of bits_row.width ≡ static_width bits.range) × (option_of dots_row.width ≡ static_width dots.range)
