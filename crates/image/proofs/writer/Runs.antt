@@ -1,8 +1,7 @@
 -- Runs of bytes written into a list: over the part from a place on, whole or as far as it fits; at a place that is past the end; and
 -- numbers one next to the other.
-use Rattle.std.specs.Prelude.{◌≡◌, refl, ◌+◌, ◌-◌, ◌*◌, ◌≤◌, ◌<◌, ◌∷◌, ◌++◌, min}
-use Rattle.std.proofs.Common.{sym, ap, ◌∙◌, arith, length-take, append_assoc, take_all, take-append-drop}
-use Rattle.std.proofs.Math.Seq.{length-sets}
+use Rattle.std.specs.Prelude.{◌≡◌, refl, ◌+◌, ◌*◌, ◌≤◌, ◌<◌, ◌∷◌, ◌++◌, min}
+use Rattle.std.proofs.Common.{sym, ap, ◌∙◌, arith, length-take, append_assoc}
 use Rattle.std.proofs.lemmas.List.{take_more, map-append}
 use Rattle.std.proofs.lemmas.List.Edits.{sets, sets-eq}
 use borrow.Author.Tests.{leb-true, leb-false}
@@ -13,7 +12,7 @@ use Rattle.definition.specs.Image.{padded}
 use Rattle.definition.specs.Tree.{u32}
 use Rattle.laws.specs.Lists.{joined_append}
 use Rattle.laws.specs.Rows.{length_rows}
-use Rattle.laws.specs.Sets.{sets_append, sets_past}
+use Rattle.laws.specs.Sets.{sets_past}
 use Rattle.laws.specs.Tests.{by_test}
 use Rattle.laws.specs.Writing.{and_then}
 

@@ -1,9 +1,9 @@
 -- Whole bytes behind others: they are copied as they are.
-use Rattle.std.specs.Prelude.{◌+◌, ◌*◌, ◌/◌, ◌%◌, ◌^◌, ◌++◌}
-use Rattle.std.proofs.Common.{◌≡◌, ◌<◌, ◌≤◌, sym, ap, ◌∙◌, zero-add, arith, length-append, get_or-append-add}
+use Rattle.std.specs.Prelude.{◌+◌, ◌*◌, ◌-◌, ◌/◌, ◌%◌, ◌^◌, ◌∷◌, ◌++◌}
+use Rattle.std.proofs.Common.{◌≡◌, ◌<◌, ◌≤◌, set, sym, refl, ap, ◌∙◌, zero-add, add-one, arith, length-append, length-drop, length-take-le, get_or-drop, take-suc, get_or-append-add}
 use lib.ListN.{get_or-append}
 use lib.Seq.{sets}
-use Rattle.definition.specs.Prelude.{ℕ, List, length, get_or, take, drop}
+use Rattle.definition.specs.Prelude.{ℕ, List, [], length, get_or, take, drop}
 use Rattle.definition.specs.Basics.{tab}
 use Rattle.definition.specs.Image.{bytes_for}
 use Rattle.definition.specs.Tree.{byte_of, packed}
@@ -13,6 +13,7 @@ use Rattle.prepared.specs.Bits.{length_packed, byte_of_bits}
 use Rattle.stages.specs.answer.literal_bits.Put.{bit_of, bits_from}
 use Rattle.stages.specs.answer.literal_bits.Places.{Small, bit_of_at}
 use Rattle.stages.specs.answer.literal_bits.Worth.{worth_ext}
+use Rattle.laws.specs.Writing.{and_then}
 use Rattle.stages.specs.answer.merging.Literals.{AppendIs}
 
 -- one byte more of those that are copied
