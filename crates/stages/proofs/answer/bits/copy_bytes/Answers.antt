@@ -1,4 +1,4 @@
-use Rattle.std.proofs.Common.{◌<◌, refl, arith, length-set}
+use Rattle.std.proofs.Common.{refl, arith, length-set}
 use Rattle.stages.proofs.answer.merging.Whole.{copy_next}
 use Rattle.stages.proofs.answer.bits.copy_bytes.Goals as goal
 
