@@ -4,8 +4,6 @@ use Rattle.std.specs.Prelude.{Ok, Err}
 use Rattle.definition.specs.Prelude.{ℕ}
 use Rattle.definition.specs.Basics.{Result, ok, refused, refusal_of}
 use Rattle.errors.specs.declared.Refusal.{Refusal}
-use Rattle.errors.specs.declared.reasons.Reason.{Reason}
-use Rattle.errors.specs.Reasons.{number}
 
 abbrev pub refused_as : {A : Type 0} → Refusal → Result A
 refused_as r = refused (refusal_of r.number r.concatenation r.component)
@@ -18,8 +16,3 @@ result_of (Err q) = refused_as q
 abbrev pub number_in : {A : Type 0} → Result A → ℕ
 number_in (ok a) = 0
 number_in (refused q) = q.number
-
--- an answer whose refusal is a reason, before it has places
-abbrev pub reasoned : {A : Type 0} → Std.Result A Reason → Result A
-reasoned (Ok a) = ok a
-reasoned (Err r) = refused (refusal_of (number r) 0 0)

@@ -6,7 +6,8 @@ mod records;
 ghost use Rattle.std.specs.Prelude.{◌≡◌, ◌+◌, ◌≤◌, eqb, length};
 ghost use Rattle.definition.specs.Image.{u32_at};
 ghost use Rattle.definition.specs.Check.{check_image};
-ghost use Rattle.errors.specs.Refused.{result_of, reasoned};
+ghost use Rattle.errors.specs.Reasoned.{reasoned};
+ghost use Rattle.errors.specs.Refused.{result_of};
 ghost use Rattle.image.specs.token_tree.Tables.{counts_of, tables_of};
 ghost use Rattle.image.specs.check.Parts.{counts_in, offsets_in};
 

@@ -1,7 +1,7 @@
 // Writing an image into a lent area: its header, and rows of its tables at their places. Nothing is asked of a caller: what falls outside
 // the area is left out. Once each table holds the rows of a tree, the area holds the tree's image (specs/writer/Written.antt,
 // `image_written`).
-ghost use Rattle.std.specs.Prelude.{◌≡◌, [], ◌∷◌, ◌≤◌, length};
+ghost use Rattle.std.specs.Prelude.{◌≡◌, [], ◌∷◌, ◌+◌, ◌≤◌, leb, length};
 ghost use Rattle.std.proofs.lemmas.List.Edits.{sets};
 ghost use Rattle.definition.specs.Prelude.{map};
 ghost use Rattle.definition.specs.Basics.{joined};
@@ -20,15 +20,22 @@ pub fn put_byte(area: &mut [u8], at: usize, b: u8)
     }
 }
 
-// The bytes of s from `at` on, as many as fit.
+// Whether n bytes from `at` on lie within so many.
+fn lies(size: usize, at: usize, n: usize) -> bool
+    ensures { result ≡ leb (at + n) size }
+{
+    at <= size && n <= size - at
+}
+
+// The bytes of s from `at` on, as many as fit. A row has few, and as many at each place that writes one: where they fit, that is no call.
 fn put(area: &mut [u8], at: usize, s: &[u8])
     ensures { area.new ≡ sets area.old at s.now }
 {
-    if area.len() < at {
-        return;
+    if lies(area.len(), at, s.len()) {
+        area[at..at + s.len()].copy_from_slice(s);
+    } else {
+        put_each(area, at, s, 0, s.len());
     }
-    let n = s.len().min(area.len() - at);
-    area[at..at + n].copy_from_slice(&s[..n]);
 }
 
 // Little-endian: the row of a concatenation is its number of components.
@@ -75,17 +82,25 @@ fn put_each(area: &mut [u8], at: usize, s: &[u8], from: usize, n: usize)
     }
 }
 
+// Byte by byte: `copy_from_slice` of any number of bytes is a call of memcpy, and the library for C calls nothing but memset.
+fn copy_bytes(area: &mut [u8], at: usize, s: &[u8], from: usize, n: usize)
+    requires { (at + n ≤ length area.old) × (from + n ≤ length s.now) }
+    ensures { area.new ≡ sets area.old at (bytes_at s.now from n) }
+{
+    for i in 0..n {
+        area[at + i] = s[from + i];
+    }
+}
+
 // n bytes of s: of the text, or of the literals.
 pub fn put_bytes(area: &mut [u8], at: usize, s: &[u8], from: usize, n: usize)
     ensures { area.new ≡ sets area.old at (bytes_at s.now from n) }
 {
-    if let Some(rest) = s.get(from..) {
-        if n <= rest.len() {
-            put(area, at, &rest[..n]);
-            return;
-        }
+    if lies(area.len(), at, n) && lies(s.len(), from, n) {
+        copy_bytes(area, at, s, from, n);
+    } else {
+        put_each(area, at, s, from, n);
     }
-    put_each(area, at, s, from, n);
 }
 
 // What four bytes hold of a number: here an `as` may lose nothing.

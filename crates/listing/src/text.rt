@@ -3,6 +3,7 @@ ghost use Rattle.std.specs.Prelude.{◌≡◌, ◌&&◌, not, map, reverse, ◌<
 ghost use Rattle.definition.specs.Basics.{within, joined};
 ghost use Rattle.definition.specs.Image.{bytes_at};
 ghost use Rattle.definition.specs.Listing.{hex_digit, hex, shown_byte, shown};
+ghost use Rattle.listing.specs.writer.Put.{Put, capped};
 ghost use Rattle.listing.specs.writer.Writes.{Writes};
 
 use crate::writer::Writer;
@@ -46,17 +47,35 @@ impl Writer<'_> {
     pub(crate) fn put_text(&mut self, s: &[u8], from: usize, count: usize)
         ensures { Writes self.old (shown (bytes_at s.now from count)) self.new }
     {
-        for i in 0..count {
-            self.put_shown(byte_on(s, from, i));
-        }
+        self.at = text_into(self.out, self.at, s, from, count);
     }
 
     // `count` bytes from a place in hex, the highest first.
     pub(crate) fn put_number(&mut self, s: &[u8], from: usize, count: usize)
         ensures { Writes self.old (joined (map hex (reverse (bytes_at s.now from count)))) self.new }
     {
-        for i in (0..count).rev() {
-            self.put_hex(byte_on(s, from, i));
-        }
+        self.at = number_into(self.out, self.at, s, from, count);
     }
+}
+
+// The loops of `put_text` and `put_number`, each over a writer of its own, whose place stays in a register: behind a `&mut` it is stored and
+// loaded again at each byte, which made a long literal twice as slow. The place after the bytes.
+fn text_into(out: &mut [u8], at: usize, s: &[u8], from: usize, count: usize) -> usize
+    ensures { Put out.old (capped at) (shown (bytes_at s.now from count)) out.new (capped result) }
+{
+    let mut w = Writer { out, at };
+    for i in 0..count {
+        w.put_shown(byte_on(s, from, i));
+    }
+    w.at
+}
+
+fn number_into(out: &mut [u8], at: usize, s: &[u8], from: usize, count: usize) -> usize
+    ensures { Put out.old (capped at) (joined (map hex (reverse (bytes_at s.now from count)))) out.new (capped result) }
+{
+    let mut w = Writer { out, at };
+    for i in (0..count).rev() {
+        w.put_hex(byte_on(s, from, i));
+    }
+    w.at
 }

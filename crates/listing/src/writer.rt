@@ -15,8 +15,10 @@ impl Writer<'_> {
     {
         if self.at < self.out.len() {
             self.out[self.at] = b;
+            self.at += 1;
+        } else {
+            self.at = self.at.saturating_add(1);
         }
-        self.at = self.at.saturating_add(1);
     }
 
     pub(crate) fn put_bytes(&mut self, s: &[u8])

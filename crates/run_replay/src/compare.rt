@@ -15,12 +15,9 @@ fn pattern(i: usize) -> u8 {
     (i % 256) as u8
 }
 
-// Whether the pattern still stands from a place on.
-fn untouched(area: &[u8], from: usize) -> bool {
-    area.iter()
-        .enumerate()
-        .skip(from)
-        .all(|(i, byte)| *byte == pattern(i))
+// Whether the area is as before from a place on: slices, which are compared some bytes at once.
+fn untouched(area: &[u8], before: &[u8], from: usize) -> bool {
+    area.get(from..) == before.get(from..)
 }
 
 // No listing has more bytes than these. layout has the same line: streams, which the programs share, would then stand on listing_length.
@@ -41,12 +38,12 @@ fn same_listing(image: &[u8], area: &[u8], outcome: Result<usize, Refusal>, told
 }
 
 // What an outcome came to, where the area holds the pattern beyond the answer, and everywhere after a refusal.
-fn kept(area: &[u8], outcome: Result<usize, Refusal>) -> Option<Came> {
+fn kept(area: &[u8], before: &[u8], outcome: Result<usize, Refusal>) -> Option<Came> {
     let (came, written) = match outcome {
         Ok(n) => (Came::Accepted, n),
         Err(refusal) => (Came::Refused(refusal.number), 0),
     };
-    untouched(area, written).then_some(came)
+    untouched(area, before, written).then_some(came)
 }
 
 // Runs an input, one mode byte and an image, over so many bytes of the area: what it came to, and the starting value in force. None where
@@ -58,11 +55,12 @@ pub(crate) fn judged<'a>(
     told: &[u8],
 ) -> Option<(Came, &'a [u8])> {
     let (mode, image) = input.split_first()?;
-    let mut area: [u8; AREA] = std::array::from_fn(pattern);
+    let before: [u8; AREA] = std::array::from_fn(pattern);
+    let mut area = before;
     let ran = stages::run::run(image, *mode as u32, default, area.get_mut(..lent)?);
     if !same_listing(image, &area, ran.outcome, told) {
         return None;
     }
-    let came = kept(&area, ran.outcome)?;
+    let came = kept(&area, &before, ran.outcome)?;
     Some((came, stages::in_force::value(image, default, ran.start)))
 }

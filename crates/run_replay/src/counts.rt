@@ -53,8 +53,11 @@ impl Counts {
     }
 }
 
+// A count stops here: as many as the turns of one file.
+const MOST: u64 = 1_000_000;
+
 fn add_one(n: &mut u64) {
-    *n = n.saturating_add(1);
+    *n = n.saturating_add(1).min(MOST);
 }
 
 fn print_count(rt: &impl Print, words: &str, n: u64) -> io::Result<()> {

@@ -25,12 +25,12 @@ pub(crate) fn run<F: Read>(from: &mut F, buf: &mut [u8]) -> Result<Option<Came>,
 
 // An input and the same with a literal cut in pieces, which both have the listing told. The area is long enough for any image.
 fn cut_pair(whole: &[u8], cut: &[u8], told: &[u8]) -> Option<Came> {
-    let first = outcome(whole, limits::ANY_AREA, told)?;
-    let second = outcome(cut, limits::ANY_AREA, told)?;
-    match (first, second) {
-        (Came::Accepted, Came::Accepted) => Some(Came::CutPair),
-        _ => None,
-    }
+    let both = accepted(whole, told) && accepted(cut, told);
+    both.then_some(Came::CutPair)
+}
+
+fn accepted(input: &[u8], told: &[u8]) -> bool {
+    matches!(outcome(input, limits::ANY_AREA, told), Some(Came::Accepted))
 }
 
 // Of `cuts`: the lengths of an input, of the same with a literal cut and of the listing of both; these three follow.

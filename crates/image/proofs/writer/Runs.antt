@@ -1,8 +1,7 @@
 -- Runs of bytes written into a list: over the part from a place on, whole or as far as it fits; at a place that is past the end; and
 -- numbers one next to the other.
-use Rattle.std.specs.Prelude.{◌≡◌, refl, ◌+◌, ◌-◌, ◌*◌, ◌≤◌, ◌<◌, ◌∷◌, ◌++◌, min}
-use Rattle.std.proofs.Common.{sym, ap, ◌∙◌, arith, length-take, append_assoc, take_all, take-append-drop}
-use Rattle.std.proofs.Math.Seq.{length-sets}
+use Rattle.std.specs.Prelude.{◌≡◌, refl, ◌+◌, ◌*◌, ◌≤◌, ◌<◌, ◌∷◌, ◌++◌, min}
+use Rattle.std.proofs.Common.{sym, ap, ◌∙◌, arith, length-take, append_assoc}
 use Rattle.std.proofs.lemmas.List.{take_more, map-append}
 use Rattle.std.proofs.lemmas.List.Edits.{sets, sets-eq}
 use borrow.Author.Tests.{leb-true, leb-false}
@@ -13,28 +12,14 @@ use Rattle.definition.specs.Image.{padded}
 use Rattle.definition.specs.Tree.{u32}
 use Rattle.laws.specs.Lists.{joined_append}
 use Rattle.laws.specs.Rows.{length_rows}
-use Rattle.laws.specs.Sets.{sets_append, sets_past}
+use Rattle.laws.specs.Sets.{sets_past}
 use Rattle.laws.specs.Tests.{by_test}
 use Rattle.laws.specs.Writing.{and_then}
 
-run_whole : (l : List ℕ) (i k : ℕ) (vs : List ℕ) → i + length vs ≤ length l → k ≡ length vs
+pub run_whole : (l : List ℕ) (i k : ℕ) (vs : List ℕ) → i + length vs ≤ length l → k ≡ length vs
     → take i l ++ (vs ++ drop k (drop i l)) ≡ sets l i vs
 run_whole l i k vs h e =
     rw (e, drop-drop (length vs) i l) (sym (sets-eq vs l i h ∙ append_assoc (take i l) vs (drop (i + length vs) l)))
-
--- as many as there is room for
-pub run_cut : (l : List ℕ) (i n k : ℕ) (vs : List ℕ) → i ≤ length l → n ≡ min (length vs) (length l - i) → k ≡ n
-    → take i l ++ (take n vs ++ drop k (drop i l)) ≡ sets l i vs
-run_cut l i n k vs h e f =
-    let t : length (take n vs) ≡ n = simp length-take (omega arith) in
-    run_whole l i k (take n vs) (omega arith) (f ∙ sym t)
-    ∙ by_test (leb (length vs) n)
-    (λ all. ap (sets l i) (take_all n vs (leb-true (length vs) n all)))
-    (λ cut.
-    let less : n < length vs = leb-false (length vs) n cut in
-    sym (sets_past (sets l i (take n vs)) (i + length (take n vs)) (drop n vs) (simp length-sets (omega arith)))
-    ∙ sets_append l i (take n vs) (drop n vs)
-    ∙ ap (sets l i) (take-append-drop n vs))
 
 -- a sum that stops at `top`, from where on nothing stands
 pub run_far : (l : List ℕ) (i k top : ℕ) (vs : List ℕ) → k ≡ min i top → length l ≤ top → sets l k vs ≡ sets l i vs

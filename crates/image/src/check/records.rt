@@ -3,7 +3,7 @@ ghost use Rattle.std.specs.Prelude.{◌≡◌, ℕ, ◌+◌, ◌*◌, ◌^◌, �
 ghost use Rattle.definition.specs.Basics.{sum, tab};
 ghost use Rattle.definition.specs.Image.{tables, record_count};
 ghost use Rattle.definition.specs.Check.{check_components};
-ghost use Rattle.errors.specs.Refused.{reasoned};
+ghost use Rattle.errors.specs.Reasoned.{reasoned};
 ghost use Rattle.image.specs.token_tree.Tables.{stop_in, entry_in};
 ghost use Rattle.image.specs.check.Parts.{Laid, Fits, entry_from, places_of, Says, records};
 

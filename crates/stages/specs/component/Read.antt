@@ -2,6 +2,7 @@
 use Rattle.std.specs.Prelude as Std
 use Rattle.std.specs.Prelude.{Ok, Err, set, ◌≡◌, ◌≤◌, ◌+◌, if◌then◌else◌}
 use Rattle.definition.specs.Prelude.{ℕ, Bool, List, length, take, leb}
+use Rattle.definition.specs.Basics as Basics
 use Rattle.definition.specs.Basics.{Result, ok, refused, refusal_of, ◌>>=◌, with_places, joined}
 use Rattle.definition.specs.Image.{Unparsed, Placed, bytes_for, tree_of}
 use Rattle.definition.specs.Tree.{Node, recs_of, all_recs, literals_of}
@@ -72,6 +73,8 @@ pub record TurnIs (image : List ℕ) (t : Tables) (i j : ℕ) (scanned : Bool) (
       → result_of r.second ≡ (result_of w.second >>= λ _. with_places i j (verdict (simplify d)))
   pub one : (d : Def.Component) → (stage1_component scanned (node_of n) >>= simplify) ≡ ok d
       → (c : Component) × Is image t.tree c (record { base = s; value = d }) × (kept' ≡ set kept w.k.0 c)
+  -- one that is refused is not kept
+  pub refused_one : (x : Basics.Refusal) → (stage1_component scanned (node_of n) >>= simplify) ≡ refused x → kept' ≡ kept
 
 -- stages 1 and 2 of placed components
 abbrev pub first_stage : Bool → Placed Unparsed → Result (Placed Def.Component)

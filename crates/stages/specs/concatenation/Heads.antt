@@ -1,11 +1,11 @@
 -- The concatenations that stage 3 leaves, and stage 3 of all of them.
 use Rattle.std.specs.Prelude as Std
 use Rattle.std.specs.Prelude.{◌≡◌, ◌≤◌, ◌+◌, ◌*◌, ◌∷◌}
-use Rattle.definition.specs.Prelude.{ℕ, List, [], length, take}
+use Rattle.definition.specs.Prelude.{ℕ, some, List, [], length, take}
 use Rattle.definition.specs.Basics.{ok, joined}
 use Rattle.definition.specs.Image.{Placed}
 use Rattle.definition.specs.Component as Def
-use Rattle.definition.specs.Concatenation.{Concatenation, merge, stage3}
+use Rattle.definition.specs.Concatenation.{Concatenation, is_align, align_none, merge, stage3}
 use Rattle.errors.specs.Refused.{result_of}
 use Rattle.errors.specs.declared.Refusal.{Refusal}
 use Rattle.stages.specs.token_tree.Rows.{Sizes}
@@ -34,6 +34,16 @@ HeadsAre image kept [] [] = Unit
 HeadsAre image kept [] (d ∷ ds) = ⊥
 HeadsAre image kept (x ∷ xs) [] = ⊥
 HeadsAre image kept (x ∷ xs) (d ∷ ds) = HeadIs image kept x d × HeadsAre image kept xs ds
+
+-- what stage 3 leaves: deterministic without an unbounded filler, no width of 0, and few components
+pub record CheckedOne (d : Concatenation) : Type 0 where
+  pub deterministic : d.deterministic ≡ is_align d.align align_none
+  pub width : d.width ≡ some 0 → ⊥
+  pub few : length (merge d.comps) ≤ 256
+
+pub data AllChecked : List Concatenation → Type 0 where
+  none_left : AllChecked []
+  one_more : {d : Concatenation} {ds : List Concatenation} → CheckedOne d → AllChecked ds → AllChecked (d ∷ ds)
 
 -- what stages 4 and 5 ask: concatenations of a tree, 1 to 16
 pub record HeadsFit (kept : List Component) (heads : List Now) : Type 0 where

@@ -25,11 +25,14 @@ fn whole(area: usize, k: usize, s: usize, from: usize, n: usize) -> bool
     even && k / 8 + n / 8 <= area && from / 8 + n / 8 <= s
 }
 
+// Byte by byte, as in `image::writer`: the library for C calls nothing but memset.
 fn copy_bytes(area: &mut [u8], at: usize, s: &[u8], from: usize, n: usize)
     requires { (at + n ≤ length area.old) × (from + n ≤ length s.now) }
     ensures { area.new ≡ sets area.old at (take n (drop from s.now)) }
 {
-    area[at..at + n].copy_from_slice(&s[from..from + n]);
+    for i in 0..n {
+        area[at + i] = s[from + i];
+    }
 }
 
 // n bits of s behind the k bits that stand packed at the area's front: whole bytes are copied, and otherwise the bytes that come new are

@@ -1,7 +1,7 @@
 // The scan for `..` and `..=` at the top level of a range: "each character a token; a `..` counts when the next token is no dot".
 ghost use Rattle.std.specs.Prelude.{◌≡◌, ℕ, List};
 ghost use Rattle.definition.specs.Text.{Item};
-ghost use Rattle.errors.specs.Refused.{reasoned};
+ghost use Rattle.errors.specs.Reasoned.{reasoned};
 ghost use Rattle.stages.specs.token_tree.Laid.{Laid, Runs};
 ghost use Rattle.stages.specs.ranges.Dots.{found_by, dotted_by, scanned_by, ended_by, dots_in};
 

@@ -3,7 +3,7 @@ ghost use Rattle.std.specs.Prelude.{◌≡◌, ℕ, not, List};
 ghost use Rattle.std.specs.Int.Signed.{non_neg};
 ghost use Rattle.definition.specs.Ranges.{static_val, static_width};
 ghost use Rattle.definition.specs.Component.{simplify_end, simplify_range};
-ghost use Rattle.errors.specs.Refused.{reasoned};
+ghost use Rattle.errors.specs.Reasoned.{reasoned};
 ghost use Rattle.numbers.specs.Value.{option_of};
 ghost use Rattle.stages.specs.ranges.Values.{Tree as TreeIn, unbounded_by, usb_of, end_of, usbr_of, EndFits, UsbrFits, EndReads, UsbrReads, SimplifiedReads};
 ghost use Rattle.stages.specs.ranges.Checks.{passes, end_val, both_of, range_of, width_checked, checked_range, both_simple};

@@ -1,9 +1,9 @@
 -- Whole bytes behind others: they are copied as they are.
-use Rattle.std.specs.Prelude.{◌+◌, ◌*◌, ◌/◌, ◌%◌, ◌^◌, ◌++◌}
-use Rattle.std.proofs.Common.{◌≡◌, ◌<◌, ◌≤◌, sym, ap, ◌∙◌, zero-add, arith, length-append, get_or-append-add}
+use Rattle.std.specs.Prelude.{◌+◌, ◌*◌, ◌-◌, ◌/◌, ◌%◌, ◌^◌, ◌∷◌, ◌++◌}
+use Rattle.std.proofs.Common.{◌≡◌, ◌<◌, ◌≤◌, set, sym, refl, ap, ◌∙◌, zero-add, add-one, arith, length-append, length-drop, length-take-le, get_or-drop, take-suc, get_or-append-add}
 use lib.ListN.{get_or-append}
 use lib.Seq.{sets}
-use Rattle.definition.specs.Prelude.{ℕ, List, length, get_or, take, drop}
+use Rattle.definition.specs.Prelude.{ℕ, List, [], length, get_or, take, drop}
 use Rattle.definition.specs.Basics.{tab}
 use Rattle.definition.specs.Image.{bytes_for}
 use Rattle.definition.specs.Tree.{byte_of, packed}
@@ -13,7 +13,17 @@ use Rattle.prepared.specs.Bits.{length_packed, byte_of_bits}
 use Rattle.stages.specs.answer.literal_bits.Put.{bit_of, bits_from}
 use Rattle.stages.specs.answer.literal_bits.Places.{Small, bit_of_at}
 use Rattle.stages.specs.answer.literal_bits.Worth.{worth_ext}
+use Rattle.laws.specs.Writing.{and_then}
 use Rattle.stages.specs.answer.merging.Literals.{AppendIs}
+
+-- one byte more of those that are copied
+pub copy_next : (l : List ℕ) (at : ℕ) (s : List ℕ) (from i : ℕ) (m : List ℕ) → from + i < length s → m ≡ sets l at (take i (drop from s))
+    → set m (at + i) (get_or s (from + i) 0) ≡ sets l at (take (i + 1) (drop from s))
+copy_next l at s from i m h e =
+    let left : length (drop from s) ≡ length s - from = length-drop from s in
+    let one : take (i + 1) (drop from s) ≡ take i (drop from s) ++ (get_or s (from + i) 0 ∷ []) =
+    ap (λ (k : ℕ). take k (drop from s)) (add-one i) ∙ take-suc (drop from s) i 0 (omega arith) ∙ ap (λ (x : ℕ). take i (drop from s) ++ (x ∷ [])) (get_or-drop from s i 0) in
+    and_then l at i (take i (drop from s)) (get_or s (from + i) 0 ∷ []) e (length-take-le i (drop from s) (omega arith)) refl ∙ ap (sets l at) (sym one)
 
 module _ (bits s : List ℕ) (q f m : ℕ) (len : length bits ≡ 8 * q) where
   abbrev all : List ℕ

@@ -15,7 +15,7 @@ use Rattle.stages.specs.declared.component.walk.Walk.{Walk}
 use Rattle.stages.proofs.Lists.{none_in}
 use Rattle.stages.proofs.token_tree.Roots.{rows_cons, rows_moved}
 use Rattle.stages.proofs.component.walk.Standing.{fits_next}
-use Rattle.stages.proofs.component.walk.Rounds.{TurnsFrom, turns_cons, turns_refused, turns_none}
+use Rattle.stages.proofs.component.walk.Rounds.{TurnsFrom, turns_are, turns_cons, turns_refused, turns_none}
 
 module _ (image : List ℕ) (t : Tables) (after i : ℕ) where
   -- the nodes that are left stand at the walk's place
@@ -88,6 +88,9 @@ module _ (image : List ℕ) (t : Tables) (after i : ℕ) where
       pub count : j + length rest ≡ length ns
       pub left : Left w s rest ms
       pub goes : (q : Std.Result Walk Refusal) (kept' : List Component) → TurnsFrom image t i j s rest w q kept kept' → TurnsAre image t i s₀ ns w₀ q kept₀ kept'
+
+    pub going_start : Left w₀ s₀ ns ms → Going 0 w₀ kept₀
+    going_start h = record { s = s₀; rest = ns; count = omega arith; left = h; goes = λ q kept'. turns_are image t i s₀ ns w₀ q kept₀ kept' }
 
     pub going_end : (j : ℕ) (w : Walk) (kept : List Component) → Going j w kept → length ns ≤ j → TurnsAre image t i s₀ ns w₀ (Ok w) kept₀ kept
     going_end j w kept g l =

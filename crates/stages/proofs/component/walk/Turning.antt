@@ -60,6 +60,7 @@ module _ (image : List ℕ) (t : Tables) (i j : ℕ) (scanned : Bool) (s : ℕ) 
         turned = λ r f. err_ok f;
         second = λ r d f g. err_ok f;
         one = λ d f. never (ap (λ y. y >>= simplify) (sym h) ∙ f);
+        refused_one = λ x f. refl;
       }
 
   -- stage 2 does
@@ -76,6 +77,7 @@ module _ (image : List ℕ) (t : Tables) (i j : ℕ) (scanned : Bool) (s : ℕ) 
         second = λ r' d f p. ap (λ (y : Walk). result_of y.second) (sym (same_ok r r' f)) ∙ h
             ∙ ap (λ (y : Result Def.Component). result_of w.second >>= λ _. with_places i j (verdict y)) (sym g ∙ ap simplify (ok_is a d (sym e ∙ p)));
         one = λ d p. never (sym g ∙ ap (λ y. y >>= simplify) (sym e) ∙ p);
+        refused_one = λ x f. refl;
       }
 
   -- neither does
@@ -90,6 +92,7 @@ module _ (image : List ℕ) (t : Tables) (i j : ℕ) (scanned : Bool) (s : ℕ) 
         second = λ r' d f p. ap (λ (y : Walk). result_of y.second) (sym (same_ok r r' f)) ∙ h ∙ still (result_of w.second)
             ∙ ap (λ (y : Result Def.Component). result_of w.second >>= λ _. with_places i j (verdict y)) (sym e ∙ ap (λ y. y >>= simplify) p);
         one = λ d p. (c, record { value = ok_is (component_of image t.tree s c) d (sym e ∙ p); staged = staged; ended = ended }, refl);
+        refused_one = λ x p. never (sym p ∙ e);
       }
     where
       passed : (m : Result Def.Component) → (m >>= simplify) ≡ ok (component_of image t.tree s c) → ok tt ≡ with_places i j (verdict m)

@@ -18,7 +18,7 @@ use Rattle.stages.specs.declared.token_tree.types.Run.{Run}
 use Rattle.stages.specs.declared.ranges.scan.Cut.{Cut}
 use Rattle.stages.specs.declared.ranges.types.Usb.{Usb}
 use Rattle.stages.specs.declared.ranges.types.Usbr.{Usbr}
-use Rattle.errors.specs.Refused.{reasoned}
+use Rattle.errors.specs.Reasoned.{reasoned}
 use Rattle.stages.proofs.token_tree.Places.{laid_split, laid_order, laid_none, laid_some}
 use Rattle.stages.proofs.token_tree.Walks.{runs_within}
 use Rattle.stages.proofs.ranges.range.Dotted.{RangeCut, dots_refused, dots_none, dots_cut}

@@ -7,7 +7,7 @@ use Rattle.definition.specs.Basics.{Result, ok, refused, refusal_of, ◌>>=◌}
 use Rattle.definition.specs.Text.{Item, is_token}
 use Rattle.definition.specs.Ranges.{Usbr, Scan, find, scan_step, scan_from, scan_dots, parse_range}
 use Rattle.errors.specs.Reasons.{number}
-use Rattle.errors.specs.Refused.{reasoned}
+use Rattle.errors.specs.Reasoned.{reasoned}
 use Rattle.errors.specs.declared.reasons.Reason.{Reason}
 use Rattle.laws.specs.Tests.{by_test}
 use Rattle.stages.specs.token_tree.Laid.{place_of}

@@ -13,7 +13,7 @@ use Rattle.stages.specs.token_tree.Table.{skip_in, single_of, start_or}
 use Rattle.stages.specs.ranges.Dots.{dots_by, found_by, dotted_by, undotted_by, scanned_by, ended_by, cut_of, lead_of, dots_of, dots_in}
 use Rattle.stages.specs.declared.token_tree.types.Tree.{Tree}
 use Rattle.errors.specs.declared.reasons.Reason.{Reason}
-use Rattle.errors.specs.Refused.{reasoned}
+use Rattle.errors.specs.Reasoned.{reasoned}
 use Rattle.stages.specs.declared.ranges.scan.Cut.{Cut}
 use Rattle.stages.specs.declared.ranges.scan.Dots.{Dots}
 use Rattle.stages.specs.declared.ranges.scan.Lead.TheVariants as Leads

@@ -8,7 +8,7 @@ use Rattle.definition.specs.Refusals.{need, negative_bound, reversed, zero_width
 use Rattle.definition.specs.Ranges as D
 use Rattle.definition.specs.Ranges.{static_val, static_width}
 use Rattle.definition.specs.Component.{if_static, if_static_end, if_known}
-use Rattle.errors.specs.Refused.{reasoned}
+use Rattle.errors.specs.Reasoned.{reasoned}
 use Rattle.errors.specs.declared.reasons.Reason.{Reason}
 use Rattle.errors.specs.declared.reasons.Reason.TheVariants as Reasons
 use Rattle.laws.specs.Results.{bind_assoc}

@@ -3,7 +3,7 @@ use Rattle.std.proofs.Common.{◌≡◌, Err, ℕ, ◌+◌, Bool, List, get_or, 
 use Rattle.definition.specs.Check.{close_right}
 use Rattle.image.specs.declared.record_rules.Numbers.{Numbers}
 use Rattle.image.specs.check.Parts.{entry_from}
-use Rattle.errors.specs.Refused.{reasoned}
+use Rattle.errors.specs.Reasoned.{reasoned}
 use Rattle.image.specs.record_rules.Rules.{entry_with, opener_right}
 use Rattle.image.proofs.check.Groups.{skip_told, word_refused, word_goes, skip_refused, opener_refused, deep_refused, inside_refused, close_refused, group_goes, says_end}
 use Rattle.image.proofs.check.records.+check_in.Goals as goal

@@ -1,6 +1,6 @@
 -- Turn after turn, by the laws of proofs/check/Whole.
 use Rattle.std.proofs.Common.{◌≡◌, ℕ, ◌+◌, ◌*◌, Err, List, ap, arith}
-use Rattle.errors.specs.Refused.{reasoned}
+use Rattle.errors.specs.Reasoned.{reasoned}
 use Rattle.definition.specs.Image.{u32_at, tables, record_count}
 use Rattle.image.proofs.check.Whole.{own, sum_goes, component_stops, component_goes, components_end}
 use Rattle.image.proofs.check.records.components_check.Goals as goal

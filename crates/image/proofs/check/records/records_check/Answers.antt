@@ -1,4 +1,4 @@
-use Rattle.errors.specs.Refused.{reasoned}
+use Rattle.errors.specs.Reasoned.{reasoned}
 use Rattle.image.proofs.check.Whole.{start_refused, components_said}
 use Rattle.image.proofs.check.records.records_check.Goals as goal
 

@@ -3,8 +3,16 @@ use Rattle.std.proofs.Common.{◌≡◌, ◌+◌, sym, refl, subst, arith}
 use Rattle.definition.specs.Prelude.{eqb}
 use Rattle.definition.specs.Basics.{is_empty}
 use Rattle.stages.specs.component.Start.{after_of}
-use Rattle.stages.proofs.component.walk.Going.{Stands, next_standing, fits_here, stands_next, going_end, going_refused, going_next}
+use Rattle.stages.proofs.component.walk.Going.{Stands, next_standing, fits_here, stands_next, going_start, going_end, going_refused, going_next}
 use Rattle.stages.proofs.component.walk.turns.Goals as goal
+
+pub loop-j-init : goal.loop-j-init
+loop-j-init c =
+    let a = c.args in
+    let (s, ns, ms, e, h, f, g) = c.requires in (
+      record { s = s; rest = ns; ms = ms; count = omega (arith, e); left = record { rows = h; after_in = g }; fits = f },
+      λ s ns ms e h g. going_start a.image.now a.t (after_of a.start) a.i s ns ms a.from a.kept.now (record { rows = h; after_in = g }),
+    )
 
 pub turn-requires : goal.turn-requires
 turn-requires c =

@@ -2,7 +2,7 @@
 use Rattle.definition.specs.Image.{bytes_at}
 use Rattle.definition.specs.Listing.{shown}
 use Rattle.listing.specs.writer.Writes.{Writes}
-use Rattle.listing.proofs.writer.Writer.put_text.Given as goal
+use Rattle.listing.proofs.text.text_into.Given as goal
 
 abbrev pub invariant-loop-i : goal.invariant-loop-i
-invariant-loop-i l = Writes l.initial.self (shown (bytes_at l.s l.from l.i)) l.self
+invariant-loop-i l = Writes l.initial.w (shown (bytes_at l.s l.from l.i)) l.w

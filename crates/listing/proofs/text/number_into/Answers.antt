@@ -1,8 +1,8 @@
--- `Writer::put_number` meets its contract.
-use Rattle.std.proofs.Common.{◌≡◌, arith, ◌∙◌, ap}
+-- `number_into` meets its contract.
+use Rattle.std.proofs.Common.{rules, ◌≡◌, arith, ◌∙◌, ap}
 use Rattle.listing.specs.writer.Writes.{toward, toward_end}
 use Rattle.listing.proofs.text.Texts.{hexes, hexes_next, hexes_none}
-use Rattle.listing.proofs.writer.Writer.put_number.Goals as goal
+use Rattle.listing.proofs.text.number_into.Goals as goal
 
 pub loop-i-preserved : goal.loop-i-preserved
 loop-i-preserved c =
@@ -13,4 +13,5 @@ pub returns : goal.returns
 returns c =
     let a = c.args in
     let e : c.loop-i.i ≡ 0 = omega arith in
-    toward_end (ap (hexes a.s.now a.from) e ∙ hexes_none a.s.now a.from) c.loop-i.invariant
+    let all = (toward_end (ap (hexes a.s.now a.from) e ∙ hexes_none a.s.now a.from) c.loop-i.invariant).put in
+    search rules

@@ -1,0 +1,2 @@
+-- What the program's test says of a number.
+pub mod Agreeing
