@@ -1,5 +1,5 @@
 // Hex and text. A byte that is missing counts as 0: so a text is a place and a count beside the bytes, and no part of them.
-ghost use Rattle.std.specs.Prelude.{◌≡◌, ◌&&◌, not, map, reverse, ◌<◌, eqb};
+ghost use Rattle.std.specs.Prelude.{◌≡◌, ◌&&◌, not, map, reverse, drop, ◌<◌, eqb};
 ghost use Rattle.definition.specs.Basics.{within, joined};
 ghost use Rattle.definition.specs.Image.{bytes_at};
 ghost use Rattle.definition.specs.Listing.{hex_digit, hex, shown_byte, shown};
@@ -7,7 +7,7 @@ ghost use Rattle.listing.specs.writer.Put.{Put, capped};
 ghost use Rattle.listing.specs.writer.Writes.{Writes};
 
 use crate::writer::Writer;
-use image::token_tree::byte_on;
+use image::token_tree::byte_at;
 
 // `char::from_digit` gives an Option of a char, which would be taken apart again.
 fn hex_digit(d: u8) -> u8
@@ -58,14 +58,25 @@ impl Writer<'_> {
     }
 }
 
+// The bytes from a place on: none, where it is past the end.
+fn bytes_from(s: &[u8], from: usize) -> &[u8]
+    ensures { result.now ≡ drop from s.now }
+{
+    match s.get(from..) {
+        Some(bytes) => bytes,
+        None => &[],
+    }
+}
+
 // The loops of `put_text` and `put_number`, each over a writer of its own, whose place stays in a register: behind a `&mut` it is stored and
 // loaded again at each byte, which made a long literal twice as slow. The place after the bytes.
 fn text_into(out: &mut [u8], at: usize, s: &[u8], from: usize, count: usize) -> usize
     ensures { Put out.old (capped at) (shown (bytes_at s.now from count)) out.new (capped result) }
 {
     let mut w = Writer { out, at };
+    let bytes = bytes_from(s, from);
     for i in 0..count {
-        w.put_shown(byte_on(s, from, i));
+        w.put_shown(byte_at(bytes, i));
     }
     w.at
 }
@@ -74,8 +85,9 @@ fn number_into(out: &mut [u8], at: usize, s: &[u8], from: usize, count: usize) -
     ensures { Put out.old (capped at) (joined (map hex (reverse (bytes_at s.now from count)))) out.new (capped result) }
 {
     let mut w = Writer { out, at };
+    let bytes = bytes_from(s, from);
     for i in (0..count).rev() {
-        w.put_hex(byte_on(s, from, i));
+        w.put_hex(byte_at(bytes, i));
     }
     w.at
 }
