@@ -9,12 +9,12 @@ ghost use Rattle.listing.specs.writer.Writes.{Writes};
 use crate::writer::Writer;
 use image::token_tree::{byte_at, byte_on};
 
-// `char::from_digit` gives an Option of a char, which would be taken apart again.
+// By a table: in a long literal no step is taken more often. (`char::from_digit` gives an Option of a char, to be taken apart again.)
 fn hex_digit(d: u8) -> u8
     requires { d < 16 }
     ensures { result ≡ hex_digit d }
 {
-    if d < 10 { b'0' + d } else { b'a' + (d - 10) }
+    b"0123456789abcdef"[d as usize]
 }
 
 // 33 to 126, but for the backslash.
@@ -28,8 +28,7 @@ impl Writer<'_> {
     fn put_hex(&mut self, b: u8)
         ensures { Writes self.old (hex b) self.new }
     {
-        self.put_byte(hex_digit(b / 16));
-        self.put_byte(hex_digit(b % 16));
+        self.put_two(hex_digit(b / 16), hex_digit(b % 16));
     }
 
     // A byte of a text: as it is, or as a backslash and two digits.

@@ -21,6 +21,21 @@ impl Writer<'_> {
         }
     }
 
+    // Two bytes, by one test where both fit.
+    pub(crate) fn put_two(&mut self, a: u8, b: u8)
+        ensures { Writes self.old (a ∷ b ∷ []) self.new }
+    {
+        let n = self.out.len();
+        if n < 2 || n - 2 < self.at {
+            self.put_byte(a);
+            self.put_byte(b);
+            return;
+        }
+        self.out[self.at] = a;
+        self.out[self.at + 1] = b;
+        self.at += 2;
+    }
+
     pub(crate) fn put_bytes(&mut self, s: &[u8])
         ensures { Writes self.old s.now self.new }
     {

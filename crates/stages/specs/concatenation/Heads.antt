@@ -18,7 +18,7 @@ use Rattle.stages.specs.declared.concatenation.stage3.Concatenation.{Concatenati
 -- its components stand in a store
 pub record Lies (x : Now) (room : ℕ) : Type 0 where
   pub inside : x.first.0 + x.len ≤ room
-  pub few : x.len ≤ 256
+  pub few : x.first.0 + x.len ≤ 256
 
 -- a concatenation in code, and the definition's
 pub record HeadIs (image : List ℕ) (kept : List Component) (x : Now) (d : Concatenation) : Type 0 where

@@ -1,6 +1,7 @@
 -- The signs of a bound in code, and the definition's cuts: a cut by the record of its sign.
 use Rattle.std.specs.Prelude as Std
 use Rattle.std.specs.Prelude.{Some, None, ◌<◌, ◌+◌, ◌^◌, if◌then◌else◌}
+use Rattle.std.specs.Option.{option_or}
 use Rattle.definition.specs.Prelude.{ℕ, Option, none, some, List, length, eqb}
 use Rattle.definition.specs.Characters.{char}
 use Rattle.definition.specs.Text.{Item, is_token}
@@ -31,6 +32,10 @@ signed_by g at b =
     if eqb b 43 then record { plus = Some (record_at at); pair = g.pair; minus = g.minus }
     else if eqb b 45 then record { plus = g.plus; pair = paired_by g.pair g.minus at; minus = Some (record_at at) }
     else g
+
+-- the one to cut at
+abbrev pub cut_by : Signs → Std.Option PBind
+cut_by g = option_or (option_or g.plus g.pair) g.minus
 
 abbrev pub cut_place : List ℕ → Tree → ℕ → Option Cut → Std.Option PBind
 cut_place image t r none = None

@@ -27,9 +27,13 @@ pub struct Component {
 }
 
 impl Component {
-    // What stands in a place that keeps none yet.
+    // What stands in a place that keeps none yet: all zeros, so that clearing many is one memset.
     pub const NONE: Component = Component {
-        c_type: ComponentType::Filler,
+        c_type: ComponentType::Literal(Bits {
+            at: 0,
+            from: 0,
+            to: 0,
+        }),
         range: Usbr {
             start: Usb {
                 s: Part {

@@ -4,7 +4,7 @@ ghost use Rattle.std.specs.Prelude.{◌≡◌, ℕ, ◌^◌, ◌<◌, ◌≤◌,
 ghost use Rattle.definition.specs.Text.{Item};
 ghost use Rattle.definition.specs.Ranges.{cut_bound};
 ghost use Rattle.stages.specs.token_tree.Laid.{Laid, Runs};
-ghost use Rattle.stages.specs.ranges.Signs.{Early, paired_by, signed_by, cut_place, signs_in};
+ghost use Rattle.stages.specs.ranges.Signs.{Early, paired_by, signed_by, cut_by, cut_place, signs_in};
 
 use crate::token_tree::{Items, PBind, Run, Tree};
 
@@ -60,12 +60,18 @@ fn signs_in(image: &[u8], tree: Tree, run: Run) -> Signs
     g
 }
 
+// The one to cut at.
+fn cut_at(g: Signs) -> Option<PBind>
+    ensures { result ≡ cut_by g }
+{
+    g.plus.or(g.pair).or(g.minus)
+}
+
 // The record of the sign that a bound is cut at.
 pub(crate) fn cut_in(image: &[u8], tree: Tree, run: Run) -> Option<PBind>
     requires { (s : ℕ) × Runs image.now tree run.stop.0 run.«end».0 run.r.0 s }
     ensures { (base s : ℕ) (is : List Item) → Laid image.now tree base run.stop.0 run.«end».0 run.r.0 s is
         → result ≡ cut_place image.now tree run.r.0 (cut_bound is) }
 {
-    let g = signs_in(image, tree, run);
-    g.plus.or(g.pair).or(g.minus)
+    cut_at(signs_in(image, tree, run))
 }

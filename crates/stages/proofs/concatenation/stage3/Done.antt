@@ -46,7 +46,7 @@ module _ (image : List ℕ) (kept : List Component) where
         summary = record { align_is = refl; width_is = refl; deterministic_is = refl; nonzero_is = refl };
         merged_is = e;
         len_is = n;
-        lies = let a = room.inside in let b = room.few in record { inside = a; few = omega arith };
+        lies = record { inside = room.inside; few = room.few };
         comps = h;
       }
 
