@@ -10,7 +10,8 @@ ghost use Rattle.std.proofs.Common.{rules};
 ghost use Rattle.std.specs.Int.Signed.{non_neg};
 ghost use Rattle.std.specs.Cmp.{partial_order_from_own_ties};
 ghost use Rattle.std.specs.Cmp.Rules.{comparing};
-ghost use Rattle.std.specs.Ordering.{int_cmp, int_eq, on, as_partial_cmp};
+ghost use Rattle.std.specs.Ordering.{bool_cmp, int_cmp, int_eq, on, as_partial_cmp};
+ghost use Rattle.numbers.specs.Steps.{negative};
 ghost use Rattle.numbers.specs.Value.{two, value_of};
 
 use std::cmp::Ordering;
@@ -45,12 +46,18 @@ impl I128 {
     }
 }
 
-// By the signs; of one sign by the bits. By value: of numbers behind a reference no range is known.
+// A number below 0 comes before one that is not. By value, as `compare`: of numbers behind a reference no range is known.
+fn by_sign(a: I128, b: I128) -> Ordering
+    ensures { result ≡ bool_cmp (negative (value_of b)) (negative (value_of a)) }
+{
+    b.is_negative().cmp(&a.is_negative())
+}
+
+// By the signs; of one sign by the bits.
 fn compare(a: I128, b: I128) -> Ordering
     ensures { result ≡ int_cmp (value_of a) (value_of b) }
 {
-    let signs = b.is_negative().cmp(&a.is_negative());
-    signs.then(a.high.cmp(&b.high).then(a.low.cmp(&b.low)))
+    by_sign(a, b).then(a.high.cmp(&b.high).then(a.low.cmp(&b.low)))
 }
 
 // The comparisons are those of the values. No derive: `==` goes with `<`, whose laws hold of halves that fit no u64, too.

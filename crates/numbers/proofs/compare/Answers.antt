@@ -6,5 +6,5 @@ use Rattle.numbers.proofs.compare.Goals as goal
 
 pub returns : goal.returns
 returns c =
-    rw (c.then-2.ensures, c.then.ensures, c.cmp-signs.ensures, c.is_negative.ensures, c.is_negative-2.ensures, c.cmp.ensures, c.cmp-2.ensures)
+    rw (c.then-2.ensures, c.then.ensures, c.by_sign.ensures, c.cmp.ensures, c.cmp-2.ensures)
     (order c.args.a c.args.b (omega arith) (omega arith) (omega arith) (omega arith))

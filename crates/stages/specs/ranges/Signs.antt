@@ -34,8 +34,8 @@ signed_by g at b =
     else g
 
 -- the one to cut at
-abbrev pub cut_by : Signs → Std.Option PBind
-cut_by g = option_or (option_or g.plus g.pair) g.minus
+abbrev pub cut_of : Signs → Std.Option PBind
+cut_of g = option_or (option_or g.plus g.pair) g.minus
 
 abbrev pub cut_place : List ℕ → Tree → ℕ → Option Cut → Std.Option PBind
 cut_place image t r none = None

@@ -50,7 +50,7 @@ fn turn(
     };
     let mut second = w.second;
     match read(image, t.tree, without_start(run, start), literal) {
-        Ok(c) => kept[w.k.0 as usize] = c,
+        Ok(c) => kept[w.k.room()] = c,
         Err(Unread::First(reason)) => return Err(reason.at(i, j)),
         Err(Unread::Second(reason)) => second = second.and(Err(reason.at(i, j))),
     }

@@ -40,7 +40,7 @@ impl Concatenation {
         requires { Lies self (length kept.now) }
         ensures { result.now ≡ take self.len (drop self.first.0 kept.now) }
     {
-        let first = self.first.0 as usize;
+        let first = self.first.room();
         &kept[first..first + self.len as usize]
     }
 }
@@ -58,7 +58,7 @@ pub(crate) fn stage3(
     let mut k = PVal(0);
     for i in 0..c {
         let len = components_of(image, i);
-        let first = k.0 as usize;
+        let first = k.room();
         let comps = &kept[first..first + len as usize];
         let running = check(i, comps)?;
         heads[i as usize] = Concatenation {

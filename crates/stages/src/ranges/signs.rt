@@ -4,7 +4,7 @@ ghost use Rattle.std.specs.Prelude.{◌≡◌, ℕ, ◌^◌, ◌<◌, ◌≤◌,
 ghost use Rattle.definition.specs.Text.{Item};
 ghost use Rattle.definition.specs.Ranges.{cut_bound};
 ghost use Rattle.stages.specs.token_tree.Laid.{Laid, Runs};
-ghost use Rattle.stages.specs.ranges.Signs.{Early, paired_by, signed_by, cut_by, cut_place, signs_in};
+ghost use Rattle.stages.specs.ranges.Signs.{Early, paired_by, signed_by, cut_of, cut_place, signs_in};
 
 use crate::token_tree::{Items, PBind, Run, Tree};
 
@@ -61,8 +61,8 @@ fn signs_in(image: &[u8], tree: Tree, run: Run) -> Signs
 }
 
 // The one to cut at.
-fn cut_at(g: Signs) -> Option<PBind>
-    ensures { result ≡ cut_by g }
+fn cut_of(g: Signs) -> Option<PBind>
+    ensures { result ≡ cut_of g }
 {
     g.plus.or(g.pair).or(g.minus)
 }
@@ -73,5 +73,5 @@ pub(crate) fn cut_in(image: &[u8], tree: Tree, run: Run) -> Option<PBind>
     ensures { (base s : ℕ) (is : List Item) → Laid image.now tree base run.stop.0 run.«end».0 run.r.0 s is
         → result ≡ cut_place image.now tree run.r.0 (cut_bound is) }
 {
-    cut_at(signs_in(image, tree, run))
+    cut_of(signs_in(image, tree, run))
 }

@@ -1,4 +1,5 @@
 // Places of texts and records: numbers, since all stays in the lent image and nothing is copied out.
+ghost use Rattle.std.specs.Prelude.{◌≡◌};
 
 // A text place, a record number and a component number, kept apart as the crate keeps its pointers (document 01: three tuple structs).
 #[derive(Clone, Copy, PartialEq, Eq, PartialOrd, Ord)]
@@ -9,6 +10,15 @@ pub struct PBind(pub u32);
 
 #[derive(Clone, Copy, PartialEq, Eq, PartialOrd, Ord)]
 pub struct PVal(pub u32);
+
+impl PVal {
+    // The room in which its component is kept.
+    pub(crate) fn room(self) -> usize
+        ensures { result ≡ self.0 }
+    {
+        self.0 as usize
+    }
+}
 
 // A part of the text table; an empty one starts at 0.
 #[derive(Clone, Copy)]

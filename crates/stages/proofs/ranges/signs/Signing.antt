@@ -11,7 +11,7 @@ use Rattle.definition.specs.Ranges.{Cut, cut_last, cut_pair, cut_bound, or_else}
 use Rattle.laws.specs.Tests.{by_test, and_iff}
 use Rattle.stages.specs.token_tree.Laid.{Stands, Laid, place_of}
 use Rattle.stages.specs.token_tree.Table.{skip_in, single_of, start_or}
-use Rattle.stages.specs.ranges.Signs.{record_at, paired_by, signed_by, cut_by, cut_place, signs_in}
+use Rattle.stages.specs.ranges.Signs.{record_at, paired_by, signed_by, cut_of, cut_place, signs_in}
 use Rattle.stages.specs.declared.token_tree.types.Tree.{Tree}
 use Rattle.stages.specs.declared.token_tree.types.PBind.{PBind}
 use Rattle.stages.specs.declared.ranges.signs.Signs.{Signs}
@@ -95,7 +95,7 @@ module _ (image : List ℕ) (t : Tree) (e : ℕ) where
   pair_by pair minus at none (some c) p h = rw (p, h.0, eq-eqb (place_of image t e (length c.before) + 1) at h.1) refl
 
   -- the cut in code is the definition's
-  pub cut_is : (is : List Item) → cut_by (signs_in image t e is) ≡ cut_place image t e (cut_bound is)
+  pub cut_is : (is : List Item) → cut_of (signs_in image t e is) ≡ cut_place image t e (cut_bound is)
   cut_is is = go (cut_last (is_token 43) is) (cut_pair is) (cut_last (is_token 45) is)
     where
       go : (a b c : Option Cut) → option_or (option_or (cut_place image t e a) (cut_place image t e b)) (cut_place image t e c)

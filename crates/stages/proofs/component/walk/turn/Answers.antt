@@ -53,7 +53,7 @@ returns c = λ s n ns b h e.
     let l = ap (λ m. a.w.l + m) (c.div_ceil.ensures ∙ rounded c.width_of-width.result ∙ ap bytes_for width) in
     elim c.match-read.branch [
       | in-Ok w ↦
-          rw w.kept-is
+          rw (w.kept-is, w.room.ensures)
           (turn_kept a.image.now a.t a.i a.j b s n a.w a.kept.now w.in-Ok.c _
           (staged_read a.image.now a.t a.w.k.0 a.w.r.0 s a.w.l c.width_of-width.result n ns b (Ok w.in-Ok.c) h c.width_of-width.ensures
           (w.in-Ok.ensures s u.from _ u.laid))

@@ -30,7 +30,7 @@ merged-requires c =
     let v = c.loop-i in
     let n = c.components_of-len in
     let room = room_for _ _ _ _ c.requires v.k.0 v.i n.result v.invariant.left c.loop-i-test.true n.ensures in
-    slice_few c.args.kept.now v.k.0 n.result room
+    rw c.room-first.ensures (slice_few c.args.kept.now v.k.0 n.result room)
 
 pub check-requires : goal.check-requires
 check-requires c =
@@ -44,8 +44,8 @@ check-requires c =
       s.image.now,
       tree_in s.image.now,
       p.here,
-      part_are s.image.now s.kept.now v.k.0 v.i cc p h n.result (n.ensures ∙ p.size),
-      slice_few s.kept.now v.k.0 n.result room,
+      rw c.room-first.ensures (part_are s.image.now s.kept.now v.k.0 v.i cc p h n.result (n.ensures ∙ p.size)),
+      rw c.room-first.ensures (slice_few s.kept.now v.k.0 n.result room),
     )
 
 pub overflow_add-k : goal.overflow_add-k
@@ -68,7 +68,7 @@ returns-in_err-running c cc e z h =
     rw same
     (refused_is s.image.now s.kept.now (take s.c v.heads) (stage3 0 cc) (refusal_of q.number q.concatenation q.component)
     (done_off s.image.now s.kept.now v.heads v.i cc w.1 p.here p.rest _ (c.in_err-running.ensures s.image.now (tree_in s.image.now) p.here
-    (part_are s.image.now s.kept.now v.k.0 v.i cc p w.0 n.result (n.ensures ∙ p.size)))))
+    (rw c.room-first.ensures (part_are s.image.now s.kept.now v.k.0 v.i cc p w.0 n.result (n.ensures ∙ p.size))))))
 
 pub loop-i-preserved : goal.loop-i-preserved
 loop-i-preserved c =
@@ -88,11 +88,11 @@ loop-i-preserved c =
           let y : n.result ≡ length p.here = n.ensures ∙ p.size in
           let a = part_are s.image.now s.kept.now v.k.0 v.i cc p w.0 n.result y in
           let k = part_kept s.image.now s.kept.now v.k.0 v.i cc p w.0 in
-          let m = c.merged.ensures.1 s.image.now (tree_in s.image.now) p.here a in (
+          let m = c.merged.ensures.1 s.image.now (tree_in s.image.now) p.here (rw c.room-first.ensures a) in (
             rw y (rest_kept s.image.now s.kept.now v.k.0 v.i cc p w.0),
             done_more s.image.now s.kept.now v.heads v.i cc w.1 p.here p.rest _ (concatenation_with p.here (running_of r))
                 (head_is s.image.now s.kept.now v.k n.result c.merged.result r p.here m y room k)
-                (c.in_ok-running.ensures s.image.now (tree_in s.image.now) p.here a) (omega (arith, fit, long, l)),
+                (c.in_ok-running.ensures s.image.now (tree_in s.image.now) p.here (rw c.room-first.ensures a)) (omega (arith, fit, long, l)),
           );
     }
 
