@@ -132,8 +132,8 @@ static inline uint8_t *layout_put_token(uint8_t *at, enum layout_token_kind kind
 
 /* The stack that a call takes below its caller's frame, in bytes: measured, not proved, and rounded up. On x86-64 the most that 3,826
  * recorded inputs took is 30,100 for layout_run, 30,148 for layout_run_with (which LAYOUT_RUN_STACK is for too), 57,156 for
- * layout_listing, 5,364 for layout_check; on a Cortex-M3, built with -Os, the most is 26,900 for layout_run,
- * 53,956 for layout_listing and 4,140 for layout_check. layout_tokens, however long the list and however deep its groups, takes 488
+ * layout_listing, 5,364 for layout_check; on a Cortex-M3, built with -Os, the most is 29,124 for layout_run,
+ * 56,156 for layout_listing and 4,396 for layout_check. layout_tokens, however long the list and however deep its groups, takes 488
  * bytes at most on x86-64 (docs/PERFORMANCE.md). */
 #define LAYOUT_RUN_STACK 32768
 #define LAYOUT_LISTING_STACK 65536

@@ -17,8 +17,9 @@ pub(crate) fn four_at(s: &[u8], at: usize) -> u32
     join4(s[at], s[at + 1], s[at + 2], s[at + 3])
 }
 
+// Not by `s.get(at)`: this kit hands an optional reference on as 16 bytes, of which a processor of 32 bits reads others.
 pub fn byte_at(s: &[u8], at: usize) -> u8
     ensures { result ≡ get_or s.now at 0 }
 {
-    s.get(at).copied().unwrap_or(0)
+    if at < s.len() { s[at] } else { 0 }
 }

@@ -27,15 +27,11 @@ fn lies(size: usize, at: usize, n: usize) -> bool
     at <= size && n <= size - at
 }
 
-// The bytes of s from `at` on, as many as fit. A row has few, and as many at each place that writes one: where they fit, that is no call.
+// The bytes of s from `at` on, as many as fit.
 fn put(area: &mut [u8], at: usize, s: &[u8])
     ensures { area.new ≡ sets area.old at s.now }
 {
-    if lies(area.len(), at, s.len()) {
-        area[at..at + s.len()].copy_from_slice(s);
-    } else {
-        put_each(area, at, s, 0, s.len());
-    }
+    put_bytes(area, at, s, 0, s.len());
 }
 
 // Little-endian: the row of a concatenation is its number of components.
@@ -82,7 +78,8 @@ fn put_each(area: &mut [u8], at: usize, s: &[u8], from: usize, n: usize)
     }
 }
 
-// Byte by byte: `copy_from_slice` of any number of bytes is a call of memcpy, and the library for C calls nothing but memset.
+// Byte by byte: `copy_from_slice` may be a call of memcpy, where the library for C calls nothing but memset; and it compares addresses as
+// numbers of 64 bits, so that on a processor of 32 bits other bytes were written.
 fn copy_bytes(area: &mut [u8], at: usize, s: &[u8], from: usize, n: usize)
     requires { (at + n ≤ length area.old) × (from + n ≤ length s.now) }
     ensures { area.new ≡ sets area.old at (bytes_at s.now from n) }

@@ -1,12 +1,10 @@
--- Runs of bytes written into a list: over the part from a place on, whole or as far as it fits; at a place that is past the end; and
--- numbers one next to the other.
+-- Runs of bytes written into a list: at a place that is past the end; and numbers one next to the other.
 use Rattle.std.specs.Prelude.{◌≡◌, refl, ◌+◌, ◌*◌, ◌≤◌, ◌<◌, ◌∷◌, ◌++◌, min}
-use Rattle.std.proofs.Common.{sym, ap, ◌∙◌, arith, length-take, append_assoc}
+use Rattle.std.proofs.Common.{sym, ap, ◌∙◌, arith, length-take}
 use Rattle.std.proofs.lemmas.List.{take_more, map-append}
-use Rattle.std.proofs.lemmas.List.Edits.{sets, sets-eq}
+use Rattle.std.proofs.lemmas.List.Edits.{sets}
 use borrow.Author.Tests.{leb-true, leb-false}
-use lib.Seq.{drop-drop}
-use Rattle.definition.specs.Prelude.{ℕ, zero, suc, List, [], length, get_or, take, drop, map, leb}
+use Rattle.definition.specs.Prelude.{ℕ, zero, suc, List, [], length, get_or, take, map, leb}
 use Rattle.definition.specs.Basics.{joined}
 use Rattle.definition.specs.Image.{padded}
 use Rattle.definition.specs.Tree.{u32}
@@ -15,11 +13,6 @@ use Rattle.laws.specs.Rows.{length_rows}
 use Rattle.laws.specs.Sets.{sets_past}
 use Rattle.laws.specs.Tests.{by_test}
 use Rattle.laws.specs.Writing.{and_then}
-
-pub run_whole : (l : List ℕ) (i k : ℕ) (vs : List ℕ) → i + length vs ≤ length l → k ≡ length vs
-    → take i l ++ (vs ++ drop k (drop i l)) ≡ sets l i vs
-run_whole l i k vs h e =
-    rw (e, drop-drop (length vs) i l) (sym (sets-eq vs l i h ∙ append_assoc (take i l) vs (drop (i + length vs) l)))
 
 -- a sum that stops at `top`, from where on nothing stands
 pub run_far : (l : List ℕ) (i k top : ℕ) (vs : List ℕ) → k ≡ min i top → length l ≤ top → sets l k vs ≡ sets l i vs

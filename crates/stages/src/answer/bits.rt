@@ -1,8 +1,9 @@
 // Bits written behind others that stand packed in the literal block.
-ghost use Rattle.std.specs.Prelude.{◌≡◌, ◌+◌, ◌/◌, ◌%◌, ◌^◌, ◌≤◌, true, ◌&&◌, length, take, drop, nat_lt};
-ghost use Rattle.std.proofs.lemmas.List.Edits.{sets};
+ghost use Rattle.std.specs.Prelude.{◌≡◌, ◌+◌, ◌/◌, ◌%◌, ◌^◌, ◌≤◌, true, ◌&&◌, nat_lt};
 ghost use Rattle.definition.specs.Image.{bytes_for};
 ghost use Rattle.stages.specs.answer.merging.Literals.{AppendIs};
+
+use super::area::copy_bytes;
 
 pub(crate) fn bytes_for(bits: usize) -> usize
     ensures { (result ≡ bytes_for bits) × (result ≤ bits) }
@@ -23,16 +24,6 @@ fn whole(area: usize, k: usize, s: usize, from: usize, n: usize) -> bool
 {
     let even = k % 8 + from % 8 + n % 8 == 0;
     even && k / 8 + n / 8 <= area && from / 8 + n / 8 <= s
-}
-
-// Byte by byte, as in `image::writer`: the library for C calls nothing but memset.
-fn copy_bytes(area: &mut [u8], at: usize, s: &[u8], from: usize, n: usize)
-    requires { (at + n ≤ length area.old) × (from + n ≤ length s.now) }
-    ensures { area.new ≡ sets area.old at (take n (drop from s.now)) }
-{
-    for i in 0..n {
-        area[at + i] = s[from + i];
-    }
 }
 
 // n bits of s behind the k bits that stand packed at the area's front: whole bytes are copied, and otherwise the bytes that come new are

@@ -1,6 +1,6 @@
 -- Stage 3 after i concatenations: those that are done, with their heads, and what is left to come.
 use Rattle.std.specs.Prelude.{◌+◌, ◌∷◌, ◌++◌, set}
-use Rattle.std.proofs.Common.{◌≡◌, ◌<◌, sym, refl, ap, ◌∙◌, subst, append_assoc, append-nil, add-one, arith}
+use Rattle.std.proofs.Common.{◌≡◌, ◌<◌, sym, refl, ap, ◌∙◌, subst, append_assoc, append-nil, add-one}
 use Rattle.std.proofs.lemmas.List.{take_more_set}
 use Rattle.definition.specs.Prelude.{ℕ, suc, List, [], length, take, drop}
 use Rattle.definition.specs.Basics.{Result, ok, Refusal, refused, ◌>>=◌}

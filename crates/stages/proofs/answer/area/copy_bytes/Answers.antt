@@ -1,6 +1,6 @@
 use Rattle.std.proofs.Common.{refl, arith, length-set}
 use Rattle.stages.proofs.answer.merging.Whole.{copy_next}
-use Rattle.stages.proofs.answer.bits.copy_bytes.Goals as goal
+use Rattle.stages.proofs.answer.area.copy_bytes.Goals as goal
 
 pub loop-i-init : goal.loop-i-init
 loop-i-init c = (refl, refl)
